@@ -1,0 +1,6 @@
+pub mod Ends
+pub mod Lists
+pub mod Memory
+pub mod Name
+pub mod Path
+pub mod Transfer

@@ -1,0 +1,12 @@
+use Rattle.std.proofs.Common.{◌≡◌, sym, ap, ◌∙◌, map}
+use Rattle.std.specs.FinMap.{entries}
+use Rattle.sfs_tree.specs.NameRow.{entry_of}
+use Rattle.sfs_tree.proofs.NameRows.{entries-map_of}
+use Rattle.sfs_tree.proofs.Joined.{key_cmp_total}
+use Rattle.sfs_tree.proofs.name_map.NameMap.rows.Goals as goal
+
+pub returns : goal.returns
+returns c =
+    ap (map entry_of) c.deref.ensures.value
+    ∙ sym (entries-map_of c.self.inside.rows.items c.self.invariant)
+    ∙ ap entries c.self.view_is

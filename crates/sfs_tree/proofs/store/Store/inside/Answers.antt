@@ -1,0 +1,15 @@
+use Rattle.std.proofs.Common.{◌≡◌, ℕ, zero, suc, ◌+◌, ◌*◌, ◌<◌, ◌≤◌, List, [], ◌∷◌, ◌++◌, length, set, get_or, replicate, Option, Some, None, option_map, refl, sym, ap, subst, ◌∙◌, arith, slice_index, count_by, vec_len}
+use Rattle.std.specs.FinMap.{len}
+use Rattle.sfs_tree.specs.StoreState.{StoreState}
+use Rattle.sfs_tree.specs.Tree.{names_of}
+use Rattle.sfs_tree.specs.Buckets.{joined}
+use Rattle.sfs_tree.proofs.Names.{len-names_of}
+use Rattle.sfs_tree.proofs.store.Store.inside.Goals as goal
+
+pub returns : goal.returns
+returns c =
+    c.count_at.ensures
+    ∙ ap (λ ns. slice_index ns c.args.number) c.deref.ensures.value
+    ∙ c.self.invariant.counted.standing c.args.number
+    ∙ sym (len-names_of c.args.number (joined c.self.inside.buckets.items))
+    ∙ ap (λ (s : StoreState). len (names_of c.args.number s.rows)) c.self.view_is

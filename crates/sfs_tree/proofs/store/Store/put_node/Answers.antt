@@ -1,0 +1,12 @@
+use Rattle.std.proofs.Common.{◌≡◌, ℕ, zero, suc, ◌+◌, ◌*◌, ◌<◌, ◌≤◌, List, [], ◌∷◌, ◌++◌, length, set, get_or, replicate, Option, Some, None, option_map, refl, sym, ap, subst, ◌∙◌, arith, slice_index, count_by, vec_len}
+use Rattle.std.specs.FinMap.{insert}
+use Rattle.sfs_tree.specs.StoreState.{StoreState}
+use Rattle.sfs_tree.specs.Store.{numbered, node_of}
+use Rattle.sfs_tree.proofs.Numbered.{numbered-set}
+use Rattle.sfs_tree.proofs.store.Store.put_node.Goals as goal
+
+pub returns-clause-nodes : goal.returns-clause-nodes
+returns-clause-nodes c =
+    let places : length c.self.inside.nodes.items ≡ c.args.self.now.places = ap (λ (s : StoreState). s.places) c.self.view_is in
+    numbered-set c.self.inside.nodes.items c.args.number c.args.node (omega (arith, c.requires))
+    ∙ ap (λ (s : StoreState). insert s.nodes c.args.number (node_of c.args.node)) c.self.view_is

@@ -1,0 +1,11 @@
+use Rattle.std.proofs.Common.{◌≡◌, ℕ, zero, suc, ◌+◌, ◌*◌, ◌<◌, ◌≤◌, Bool, true, false, List, [], ◌∷◌, ◌++◌, length, set, get_or, replicate, Option, Some, None, is_some, option_map, refl, sym, ap, subst, ◌∙◌, arith, slice_index, count_by, vec_len}
+use Rattle.std.specs.Prelude.{nat_le}
+use Rattle.std.specs.FinMap.{get, empty, len, len-empty}
+use Rattle.sfs_base.specs.Name.{bucket}
+use Rattle.sfs_tree.specs.Order.{name_cmp}
+use Rattle.sfs_tree.specs.Tree.{TreeState, bucket_rows}
+use Rattle.sfs_tree.proofs.tree.Tree.is_full.Goals as goal
+
+pub returns-in-None : goal.returns-in-None
+returns-in-None c =
+    ap (nat_le 4096) (sym (len-empty name_cmp ℕ) ∙ ap len (sym c.in-None.ensures.none ∙ ap (λ b. bucket_rows c.args.dir.0 b c.self.inside.store.rows) c.bucket_of.ensures ∙ ap (λ (t : TreeState). bucket_rows c.args.dir.0 (bucket c.args.name.now) t.rows) c.self.view_is))

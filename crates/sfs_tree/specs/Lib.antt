@@ -1,0 +1,10 @@
+pub mod Buckets
+pub mod Build
+pub mod Effect
+pub mod History
+pub mod NameRow
+pub mod Order
+pub mod Store
+pub mod StoreState
+pub mod Tree
+pub mod Verdict

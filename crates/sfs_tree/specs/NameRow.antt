@@ -1,0 +1,27 @@
+-- The rows of a directory as a list.
+use Rattle.std.specs.Prelude.{◌≡◌, ◌≢◌, ℕ, ◌<◌, ◌≤◌, List, length, Option, Some, None, option_map}
+use Rattle.std.specs.List.{AllWithin}
+use Rattle.std.specs.declared.cmp.Ordering.{Ordering}
+use Rattle.std.specs.declared.cmp.Ordering.TheVariants.{Less}
+use Rattle.sfs_base.specs.declared.numbers.NodeId.{NodeId}
+use Rattle.sfs_tree.specs.declared.name_map.NameRow.{NameRow}
+use Rattle.sfs_tree.specs.Order.{name_cmp}
+
+-- a row as the pair of its name and its child's number
+abbrev pub entry_of : NameRow → List ℕ × ℕ
+entry_of row = (row.name, row.child.0)
+
+-- the number of a node that may be there
+abbrev pub number_of : Option NodeId → Option ℕ
+number_of = option_map (λ (node : NodeId). node.0)
+
+-- The place of a name among rows: the names before it are less, and those from it on are not.
+pub record IsPlaceOf (rows : List (List ℕ × ℕ)) (name : List ℕ) (place : ℕ) : Type 0 where
+  pub within : place ≤ length rows
+  pub before : AllWithin (λ row. name_cmp row.0 name ≡ Less) rows 0 place
+  pub behind : AllWithin (λ row. name_cmp row.0 name ≢ Less) rows place (length rows)
+
+-- the first answer of two
+abbrev pub either : {X : Type 0} → Option X → Option X → Option X
+either (Some x) later = Some x
+either None later = later

@@ -1,0 +1,17 @@
+//! The tree of one thread: its calls, each with its reply and what it changes, and the history of calls.
+#![tactic(auto)]
+
+mod call;
+mod history;
+mod name_map;
+mod reply;
+mod store;
+mod tree;
+mod turns;
+
+pub use call::Call;
+pub use history::{Cursor, Entry, History};
+pub use name_map::{NameMap, NameRow};
+pub use reply::{Code, Reply};
+pub use tree::Tree;
+pub use turns::{Turn, TurnAct, Turns};

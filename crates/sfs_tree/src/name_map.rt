@@ -1,0 +1,132 @@
+// The rows are kept ascending by the bytes of their names, so a look-up halves the list at each step.
+ghost use Rattle.std.specs.Prelude.{◌≡◌, ◌≤◌, ◌<◌, ℕ, None, Some, length, map, option_map, OnOk, OnErr, IsTrue, IfOk, MatchOption};
+ghost use Rattle.std.specs.FinMap as finmap;
+ghost use Rattle.sfs_tree.specs.Order.{name_cmp};
+
+use sfs_base::{Name, NoMemory, NodeId};
+use std::alloc::Global;
+use std::cmp::Ordering;
+use std::marker::Model;
+
+/// A row of a directory: a name and its child.
+#[derive(Debug, Drop)]
+pub struct NameRow {
+    pub name: Name,
+    pub child: NodeId,
+}
+
+/// Some rows of one directory, from name to child. A look-up takes time in the logarithm of their
+/// number, and an insertion moves the rows behind it.
+#[derive(Debug, Drop)]
+pub struct NameMap {
+    rows: Vec<NameRow>,
+}
+
+impl Model for NameMap {
+    ghost use Rattle.std.specs.Prelude.{ℕ, map, IsTrue};
+    ghost use Rattle.std.specs.Coded.{coded_ℕ, coded_list};
+    ghost use Rattle.std.specs.FinMap as finmap;
+    ghost use Rattle.sfs_tree.specs.Order.{name_cmp};
+
+    ghost Value = { finmap.FinMap name_cmp ℕ };
+
+    ghost coded = { finmap.code (coded_list coded_ℕ) coded_ℕ };
+
+    ghost use Rattle.sfs_tree.specs.NameRow.{entry_of};
+
+    ghost view = { λ m. finmap.from_sorted (map entry_of m.rows.items) };
+
+    ghost invariant = { λ m. IsTrue (finmap.is_sorted name_cmp (map entry_of m.rows.items)) };
+}
+
+impl NameMap {
+    ghost use Rattle.sfs_tree.specs.NameRow.{entry_of, number_of};
+
+    /// No rows.
+    pub fn new(alloc: Global) -> Self
+        ensures { result ≡ finmap.empty }
+    {
+        NameMap {
+            rows: Vec::new(alloc),
+        }
+    }
+
+    /// How many rows there are.
+    pub fn len(&self) -> usize
+        ensures { result ≡ finmap.len self.now }
+    {
+        self.rows.len()
+    }
+
+    /// The rows, names ascending by their bytes.
+    pub fn rows(&self) -> &[NameRow]
+        ensures { map entry_of result.now ≡ finmap.entries self.now }
+    {
+        &self.rows
+    }
+
+    /// The child of the row with this name.
+    pub fn get(&self, name: &Name) -> Option<NodeId>
+        ensures { number_of result ≡ finmap.get self.now name.now }
+    {
+        let place = place_of(&self.rows, name.bytes());
+        child_at(&self.rows, place, name.bytes())
+    }
+
+    /// A further row, whose name no row has. Want of memory leaves the rows as they were.
+    pub fn insert(&mut self, name: Name, child: NodeId) -> Result<(), NoMemory>
+        requires { finmap.get self.old name ≡ None }
+        ensures ok { OnOk result (self.new ≡ finmap.insert self.old name child.0) }
+        ensures err { OnErr result (self.new ≡ self.old) }
+    {
+        let place = place_of(&self.rows, name.bytes());
+        self.rows.insert(place, NameRow { name, child })?;
+        Ok(())
+    }
+}
+
+impl NameMap {
+    ghost use Rattle.std.specs.Prelude.{IsSome};
+    ghost use Rattle.sfs_tree.specs.NameRow.{either};
+
+    // Adds rows whose names no row has.
+    pub(crate) fn add_rows(&mut self, rows: &[NameRow]) -> Result<(), NoMemory>
+        requires sorted { IsTrue (finmap.is_sorted name_cmp (map entry_of rows.now)) }
+        requires apart { (name : _) → IsSome (finmap.find name_cmp name (map entry_of rows.now))
+            → finmap.get self.old name ≡ None }
+        ensures { OnOk result ((name : _) → finmap.get self.new name
+            ≡ either (finmap.find name_cmp name (map entry_of rows.now)) (finmap.get self.old name)) }
+    {
+        for row in rows {
+            self.insert(row.name.copy()?, row.child)?;
+        }
+        Ok(())
+    }
+}
+
+ghost use Rattle.sfs_tree.specs.NameRow.{entry_of, number_of, IsPlaceOf};
+
+// Where a name stands among rows, or would.
+fn place_of(rows: &[NameRow], name: &[u8]) -> usize
+    requires { IsTrue (finmap.is_sorted name_cmp (map entry_of rows.now)) }
+    ensures { IsPlaceOf (map entry_of rows.now) name.now result }
+{
+    rows.partition_point(|row| row.name.bytes().cmp(name) == Ordering::Less)
+}
+
+// The child of the row at a place, if it has this name.
+fn child_at(rows: &[NameRow], place: usize, name: &[u8]) -> Option<NodeId>
+    requires sorted { IsTrue (finmap.is_sorted name_cmp (map entry_of rows.now)) }
+    requires place { IsPlaceOf (map entry_of rows.now) name.now place }
+    ensures { number_of result ≡ finmap.find name_cmp name.now (map entry_of rows.now) }
+{
+    if place >= rows.len() {
+        return None;
+    }
+    let row = &rows[place];
+    if row.name.bytes() == name {
+        Some(row.child)
+    } else {
+        None
+    }
+}
