@@ -1,0 +1,64 @@
+-- The first line of some bytes.
+use Rattle.std.proofs.Common.{◌≡◌, ℕ, zero, suc, ◌+◌, ◌<◌, ◌≤◌, Bool, true, false, cond, List, [], ◌∷◌, ◌++◌, length, take, drop, get_or, Option, Some, None, Result, Ok, Err, refl, sym, ap, subst, ◌∙◌, arith, nat_eq, ltb, position, append_assoc}
+use borrow.Author.Tests.{ltb-false}
+use Rattle.std.specs.List.{position_or_len}
+use Rattle.std.proofs.Common.{◌-◌}
+use Rattle.std.proofs.Math.Seq.{take-length, drop-length}
+use Rattle.std.proofs.lemmas.List.{take_rest}
+use Rattle.std.proofs.lemmas.List.Quantifiers.{position-Some}
+use Rattle.std.proofs.lemmas.List.Sums.{fails_before_first}
+use Rattle.script.specs.declared.command.Command.{Command}
+use Rattle.script.specs.Lines.{lines, first_longer}
+use Rattle.script.specs.Commands.{commands_from, command_of, with_first, with_line}
+
+-- a line that ends at a place
+line_at : (bytes : List ℕ) (i : ℕ) → i < length bytes → nat_eq (get_or bytes i 0) 10 ≡ true → ((k : ℕ) → k < i → nat_eq (get_or bytes k 0) 10 ≡ false) → lines bytes ≡ take i bytes ∷ lines (drop (suc i) bytes)
+line_at [] i lt here before = absurd (omega arith)
+line_at (b ∷ bs) zero lt here before = ap (λ t. cond t ([] ∷ lines bs) (first_longer b (lines bs))) here
+line_at (b ∷ bs) (suc i) lt here before =
+    ap (λ t. cond t ([] ∷ lines bs) (first_longer b (lines bs))) (before zero (omega arith))
+    ∙ ap (first_longer b) (line_at bs i (omega arith) here (λ k below. before (suc k) (omega arith)))
+
+-- a line that does not end
+line_open : (b : ℕ) (bs : List ℕ) → ((k : ℕ) → k < length (b ∷ bs) → nat_eq (get_or (b ∷ bs) k 0) 10 ≡ false) → lines (b ∷ bs) ≡ (b ∷ bs) ∷ []
+line_open b [] none = ap (λ t. cond t ([] ∷ lines []) (first_longer b (lines []))) (none zero (omega arith))
+line_open b (c ∷ cs) none =
+    ap (λ t. cond t ([] ∷ lines (c ∷ cs)) (first_longer b (lines (c ∷ cs)))) (none zero (omega arith))
+    ∙ ap (first_longer b) (line_open c cs (λ k below. none (suc k) (omega arith)))
+
+-- nothing passes where no first one is found
+none_passes : (p : ℕ → Bool) (xs : List ℕ) → position p xs ≡ None → (k : ℕ) → k < length xs → p (get_or xs k 0) ≡ false
+none_passes p xs e k lt =
+    elim (ltb (position_or_len p xs) (length xs)) as (λ t. ltb (position_or_len p xs) (length xs) ≡ t → cond t (Some (position_or_len p xs)) None ≡ None → p (get_or xs k 0) ≡ false) [
+      | true ↦ λ t n. cc
+      | false ↦ λ t n. let past = ltb-false _ _ t in fails_before_first p xs k 0 (omega arith)
+    ] refl e
+
+pub lines-ended : (bytes : List ℕ) (i : ℕ) → position (λ byte. nat_eq byte 10) bytes ≡ Some i → lines bytes ≡ take i bytes ∷ lines (drop (suc i) bytes)
+lines-ended bytes i e = let at = position-Some (λ byte. nat_eq byte 10) bytes i 0 e in line_at bytes i at.0 at.1 at.2
+
+pub lines_open : (bytes : List ℕ) → 0 < length bytes → position (λ byte. nat_eq byte 10) bytes ≡ None → lines bytes ≡ bytes ∷ []
+lines_open [] lt e = absurd (omega arith)
+lines_open (b ∷ bs) lt e = line_open b bs (none_passes (λ byte. nat_eq byte 10) (b ∷ bs) e)
+
+-- commands behind others
+abbrev pub behind : List Command → Result (List Command) ℕ → Result (List Command) ℕ
+behind front (Ok commands) = Ok (front ++ commands)
+behind front (Err line) = Err line
+
+-- one more command is read
+pub behind-more : (front : List Command) (command : Command) (rest : Result (List Command) ℕ) → behind front (with_first command rest) ≡ behind (front ++ command ∷ []) rest
+behind-more front command (Ok commands) = ap Ok (sym (append_assoc front (command ∷ []) commands))
+behind-more front command (Err line) = refl
+
+pub split_line : (bytes back : List ℕ) (i : ℕ) → back ≡ drop i bytes → drop (suc i) bytes ≡ take (length back - 1) (drop 1 back)
+split_line bytes back i e = drop_one bytes i ∙ ap (drop 1) (sym e) ∙ sym (take_rest back 1)
+  where
+    drop_one : (xs : List ℕ) (i : ℕ) → drop (suc i) xs ≡ drop 1 (drop i xs)
+    drop_one [] zero = refl
+    drop_one [] (suc i) = refl
+    drop_one (x ∷ xs) zero = refl
+    drop_one (x ∷ xs) (suc i) = drop_one xs i
+
+pub split_open : (bytes front back : List ℕ) → front ≡ take (length bytes) bytes → back ≡ drop (length bytes) bytes → bytes ∷ [] ≡ front ∷ lines back
+split_open bytes front back f b = ap (λ l. l ∷ []) (sym (f ∙ take-length bytes)) ∙ ap (λ r. front ∷ lines r) (sym (b ∙ drop-length bytes))
