@@ -1,4 +1,4 @@
-ghost use Rattle.std.specs.Prelude.{◌≡◌, ◌⊎◌, ◌-◌, ◌+◌, ◌<◌, ◌≤◌, List, [], ℕ, Option, Some, length, take, max, Contains, IsErr, IfOk, OnOk, OnErr, is_ok};
+ghost use Rattle.std.specs.Prelude.{◌≡◌, ◌⊎◌, ◌-◌, ◌+◌, ◌<◌, ◌≤◌, [], Some, length, take, max, Contains, IsErr, IfOk, OnOk, OnErr, is_ok};
 ghost use Rattle.sfs_base.specs.Ends.{with_added, HasCause};
 ghost use Rattle.sfs_base.specs.Memory.{after_call};
 
@@ -23,7 +23,11 @@ impl Model for BytesSink {
 
     ghost Value = { Writing };
 
-    ghost view = { λ sink. record { written = sink.written.items; spare = sink.spare; plan = sink.plan } };
+    ghost view = { λ sink. record {
+      written = sink.written.items;
+      spare = sink.spare;
+      plan = sink.plan;
+    } };
 
     ghost invariant = { λ sink. vec_len sink.written + sink.spare ≤ vec_capacity sink.written };
 }
@@ -70,12 +74,14 @@ impl Sink for BytesSink {
         requires { 0 < length from.now }
         ensures some { IfOk result (λ count. 0 < count) }
         ensures within { IfOk result (λ count. count ≤ length from.now) }
-        ensures written { IfOk result (λ count. Some self.new.written ≡ with_added (take count from.now) (Some self.old.written)) }
+        ensures written { IfOk result (λ count.
+            Some self.new.written ≡ with_added (take count from.now) (Some self.old.written)) }
         ensures err { OnErr result (Some self.new.written ≡ Some self.old.written) }
         ensures cause { HasCause self.old.plan.faults self.new.plan.faults result }
         ensures whole { IfOk result (λ count. count ≡ length from.now) }
         ensures listed { Contains self.old.plan.fails self.old.plan.calls → IsErr result }
-        ensures unlisted { IsErr result → Contains self.old.plan.fails self.old.plan.calls ⊎ self.old.spare < length from.now }
+        ensures unlisted { IsErr result
+            → Contains self.old.plan.fails self.old.plan.calls ⊎ self.old.spare < length from.now }
         ensures spare { IfOk result (λ count. self.new.spare ≡ self.old.spare - count) }
         ensures spare_kept { OnErr result (self.new.spare ≡ self.old.spare) }
         ensures counted { self.new.plan ≡ after_call self.old.plan (is_ok result) }

@@ -1,4 +1,4 @@
-ghost use Rattle.std.specs.Prelude.{◌≡◌, ◌<◌, ◌≤◌, ◌↔◌, List, [], ℕ, Option, Some, length, take, min, Contains, IsErr, IsOk, IfOk, IfSome, OnErr, is_ok};
+ghost use Rattle.std.specs.Prelude.{◌≡◌, ◌<◌, ◌≤◌, ◌↔◌, List, [], ℕ, Some, length, take, min, Contains, IsErr, IsOk, IfOk, IfSome, OnErr, is_ok};
 ghost use Rattle.sfs_base.specs.Ends.{Takes, HasCause};
 ghost use Rattle.sfs_base.specs.Memory.{after_call};
 
@@ -40,8 +40,10 @@ impl Source for SureSource {
     fn read(&mut self, into: &mut [u8]) -> Result<usize, Failed>
         requires { 0 < length into.old }
         ensures within { IfOk result (λ count. count ≤ length into.new) }
-        ensures taken { IfOk result (λ count. Takes (Some self.old) (take count into.new) (Some self.new)) }
-        ensures end { IfOk result (λ count. IfSome (Some self.old) (λ bytes. (count ≡ 0) ↔ (bytes ≡ []))) }
+        ensures taken { IfOk result (λ count.
+            Takes (Some self.old) (take count into.new) (Some self.new)) }
+        ensures end { IfOk result (λ count. IfSome (Some self.old) (λ bytes.
+            (count ≡ 0) ↔ (bytes ≡ []))) }
         ensures err { OnErr result (Some self.new ≡ Some self.old) }
         ensures cause { HasCause 0 0 result }
         ensures sure { IsOk result }
@@ -96,11 +98,14 @@ impl Source for BytesSource {
     fn read(&mut self, into: &mut [u8]) -> Result<usize, Failed>
         requires { 0 < length into.old }
         ensures within { IfOk result (λ count. count ≤ length into.new) }
-        ensures taken { IfOk result (λ count. Takes (Some self.old.left) (take count into.new) (Some self.new.left)) }
-        ensures end { IfOk result (λ count. IfSome (Some self.old.left) (λ bytes. (count ≡ 0) ↔ (bytes ≡ []))) }
+        ensures taken { IfOk result (λ count.
+            Takes (Some self.old.left) (take count into.new) (Some self.new.left)) }
+        ensures end { IfOk result (λ count. IfSome (Some self.old.left) (λ bytes.
+            (count ≡ 0) ↔ (bytes ≡ []))) }
         ensures err { OnErr result (Some self.new.left ≡ Some self.old.left) }
         ensures cause { HasCause self.old.plan.faults self.new.plan.faults result }
-        ensures moved { IfOk result (λ count. count ≡ min (length into.old) (length self.old.left)) }
+        ensures moved { IfOk result (λ count.
+            count ≡ min (length into.old) (length self.old.left)) }
         ensures listed { IsErr result ↔ Contains self.old.plan.fails self.old.plan.calls }
         ensures counted { self.new.plan ≡ after_call self.old.plan (is_ok result) }
     {

@@ -32,8 +32,10 @@ impl Model for Chunk {
 impl Chunk {
     /// The chunk with these bytes.
     pub fn new(bytes: Vec<u8>) -> Result<Chunk, ChunkFault>
-        ensures ok { IfOk result (λ chunk. (chunk ≡ bytes.items) × (length bytes.items ≤ LONGEST_CHUNK)) }
-        ensures err { IfErr result (λ fault. (fault ≡ ChunkFault.TooLong bytes) × (LONGEST_CHUNK < length bytes.items)) }
+        ensures ok { IfOk result (λ chunk. (chunk ≡ bytes.items)
+            × (length bytes.items ≤ LONGEST_CHUNK)) }
+        ensures err { IfErr result (λ fault. (fault ≡ ChunkFault.TooLong bytes)
+            × (LONGEST_CHUNK < length bytes.items)) }
     {
         if bytes.len() as u64 > LONGEST_CHUNK {
             return Err(ChunkFault::TooLong { bytes });

@@ -30,13 +30,16 @@ impl<T> Model for RoomyList<T> {
 
     ghost coded = { roomy_code T.code };
 
-    ghost view = { λ list. record { items = list.items.items; spare = vec_capacity list.items - vec_len list.items } };
+    ghost view = { λ list. record {
+      items = list.items.items;
+      spare = vec_capacity list.items - vec_len list.items;
+    } };
 }
 
 impl<T> RoomyList<T> {
     /// The empty list. It takes no memory.
     pub fn new(alloc: Global) -> Self
-        ensures { result.items ≡ [] }
+        ensures { result ≡ record { items = []; spare = 0 } }
     {
         RoomyList {
             items: Vec::new(alloc),
@@ -93,7 +96,10 @@ impl<T> RoomyList<T> {
 
     /// The list of these items, with the room that the vector has left. It takes no memory.
     pub fn from_vec(items: Vec<T>) -> Self
-        ensures { result ≡ record { items = items.items; spare = vec_capacity items - vec_len items } }
+        ensures { result ≡ record {
+          items = items.items;
+          spare = vec_capacity items - vec_len items;
+        } }
     {
         RoomyList { items }
     }

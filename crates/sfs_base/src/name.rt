@@ -55,7 +55,8 @@ impl Name {
     /// of `NameFault`.
     pub fn new(alloc: Global, bytes: &[u8]) -> Result<Name, NameFault>
         ensures ok { IfOk result (λ name. (name ≡ bytes.now) × (name_fault bytes.now ≡ None)) }
-        ensures err { IfErr result (λ fault. (fault ≡ NameFault.NoMemory) ⊎ (name_fault bytes.now ≡ Some fault)) }
+        ensures err { IfErr result (λ fault.
+            (fault ≡ NameFault.NoMemory) ⊎ (name_fault bytes.now ≡ Some fault)) }
     {
         if let Some(fault) = fault_of(bytes) {
             return Err(fault);

@@ -36,8 +36,11 @@ impl Path {
     /// The path with these names, from the root on. A length past the last value of `u64` is
     /// answered as that value.
     pub fn new(names: Vec<Name>) -> Result<Path, PathFault>
-        ensures ok { IfOk result (λ path. (path ≡ names.items) × (path_length names.items ≤ LONGEST_PATH)) }
-        ensures err { IfErr result (λ fault. (fault ≡ PathFault.TooLong (min (path_length names.items) (2 ^ 64 - 1)) names) × (LONGEST_PATH < path_length names.items)) }
+        ensures ok { IfOk result (λ path. (path ≡ names.items)
+            × (path_length names.items ≤ LONGEST_PATH)) }
+        ensures err { IfErr result (λ fault.
+            (fault ≡ PathFault.TooLong (min (path_length names.items) (2 ^ 64 - 1)) names)
+            × (LONGEST_PATH < path_length names.items)) }
     {
         let len = length_of(&names);
         if len > LONGEST_PATH {

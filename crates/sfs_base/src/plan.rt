@@ -18,7 +18,11 @@ impl Model for FaultPlan {
 
     ghost Value = { Plan };
 
-    ghost view = { λ plan. record { fails = plan.fails.items; calls = plan.calls; faults = plan.faults } };
+    ghost view = { λ plan. record {
+      fails = plan.fails.items;
+      calls = plan.calls;
+      faults = plan.faults;
+    } };
 }
 
 impl FaultPlan {

@@ -16,13 +16,16 @@ pub trait Source {
     fn read(&mut self, into: &mut [u8]) -> Result<usize, Failed>
         requires { 0 < length into.old }
         ensures within { IfOk result (λ count. count ≤ length into.new) }
-        ensures taken { IfOk result (λ count. Takes (left self.old) (take count into.new) (left self.new)) }
+        ensures taken { IfOk result (λ count.
+            Takes (left self.old) (take count into.new) (left self.new)) }
         // It moves nothing exactly where nothing is left.
-        ensures end { IfOk result (λ count. IfSome (left self.old) (λ bytes. (count ≡ 0) ↔ (bytes ≡ []))) }
+        ensures end { IfOk result (λ count. IfSome (left self.old) (λ bytes.
+            (count ≡ 0) ↔ (bytes ≡ []))) }
         ensures err { OnErr result (left self.new ≡ left self.old) }
         ensures cause { HasCause (faults self.old) (faults self.new) result };
 
-    /// How often the source has failed: a count that never falls, and stays at the last value of `u64`.
+    /// How often the source has failed: a count that never falls, and stays at the last value of
+    /// `u64`.
     fn faults(&self) -> u64
         ensures { result ≡ faults self.now };
 }

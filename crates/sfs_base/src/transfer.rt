@@ -1,5 +1,5 @@
-ghost use Rattle.std.specs.Prelude.{◌≡◌, ◌+◌, ◌<◌, ◌≤◌, List, ℕ, length, take, IfOk, IfErr, IfSome, OnOk, OnErr, IsErrOf};
-ghost use Rattle.sfs_base.specs.Ends.{Takes, IsAtEnd, with_added, Rose};
+ghost use Rattle.std.specs.Prelude.{◌≡◌, ◌<◌, ◌≤◌, List, ℕ, length, take, IfErr, OnOk, OnErr, IsErrOf};
+ghost use Rattle.sfs_base.specs.Ends.{Takes, with_added, Rose};
 ghost use Rattle.sfs_base.specs.Transfer.{ReadsAll};
 ghost use Rattle.sfs_base.specs.declared.transfer.ReadAllFault.TheVariants.{NoMemory as WantsMemory};
 
@@ -57,7 +57,8 @@ pub fn read_all<S: Source>(
     ensures taken { (taken : List ℕ) × Takes (S.left source.old) taken (S.left source.new)
         × ReadsAll taken most (S.left source.new) result }
     ensures never_falls { S.faults source.old ≤ S.faults source.new }
-    ensures cause { IsErrOf result ReadAllFault.ReadFault → Rose (S.faults source.old) (S.faults source.new) }
+    ensures cause { IsErrOf result ReadAllFault.ReadFault
+        → Rose (S.faults source.old) (S.faults source.new) }
 {
     let mut bytes = Vec::new(alloc);
     let mut piece = [0u8; PIECE];

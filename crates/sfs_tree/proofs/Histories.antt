@@ -38,7 +38,7 @@ IsLegal-push first history entry legal may = legal_push first 0 history entry le
     zero_more n = omega arith
 
 -- a row that comes to all rows comes to those of its directory
-names_of-insert : (d e : ℕ) (name : List ℕ) (child : ℕ) (rows : FinMap key_cmp ℕ) → names_of d (insert rows (e, name) child) ≡ cond (nat_eq e d) (insert (names_of d rows) name child) (names_of d rows)
+pub names_of-insert : (d e : ℕ) (name : List ℕ) (child : ℕ) (rows : FinMap key_cmp ℕ) → names_of d (insert rows (e, name) child) ≡ cond (nat_eq e d) (insert (names_of d rows) name child) (names_of d rows)
 names_of-insert d e name child rows =
     same_map nat_list_cmp_total name_cmp-IsAntisymmetric _ _ (λ n.
     get-names_where d (λ _. true) (insert rows (e, name) child) n

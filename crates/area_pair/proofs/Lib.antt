@@ -1,0 +1,12 @@
+mod BodyWritten
+mod Commits
+mod Doubts
+mod Frames
+pub mod Names
+mod Numbering
+mod Opening
+pub mod ReadAgain
+pub mod Sound
+mod Standing
+mod Torn
+mod Writes

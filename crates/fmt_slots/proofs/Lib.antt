@@ -1,0 +1,3 @@
+pub mod RowWritten
+pub mod SlotsSoFar
+pub mod SlotsWritten

@@ -1,0 +1,2 @@
+pub mod SuperRead
+pub mod SuperWritten

@@ -1,0 +1,11 @@
+//! The bytes of a file in memory, in pages, with the stamp of the last change of each block.
+#![tactic(auto)]
+
+mod file;
+mod marks;
+mod page;
+mod pages;
+mod touched;
+
+pub use file::{FileBytes, LONGEST_FILE};
+pub use touched::Touched;

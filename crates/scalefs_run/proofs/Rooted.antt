@@ -1,0 +1,144 @@
+-- The rows of the root as they are given to the areas.
+use Rattle.std.proofs.Common.{◌≡◌, ◌≢◌, ℕ, zero, suc, ◌+◌, ◌<◌, ◌≤◌, Bool, true, false, cond, ◌&&◌, ◌||◌, List, [], ◌∷◌, ◌++◌, length, map, Option, Some, None, IsTrue, T, refl, sym, ap, subst, ◌∙◌, arith, nat_eq, slice_get, bytes_eq}
+use Rattle.std.specs.Prelude.{option_map}
+use Rattle.std.proofs.lemmas.List.{length-map}
+use Rattle.std.proofs.lemmas.Option.{slice_get-map}
+use Rattle.std.proofs.lemmas.Map.Text.{is_eq-slice_cmp}
+use borrow.Author.Tests.{eqb-true, eq-eqb}
+use Rattle.std.specs.Ordering.{nat_cmp, eq_by_cmp, is_eq, is_lt}
+use Rattle.std.specs.declared.cmp.Ordering.{Ordering}
+use Rattle.std.specs.declared.cmp.Ordering.TheVariants.{Less, Equal, Greater}
+use Rattle.std.specs.Cmp.Lexicographic.{nat_list_cmp_total}
+use Rattle.std.specs.FinMap.{FinMap, find, get, insert, entries, entries_sorted, len, len-entries, get-entries, is_sorted}
+use Rattle.std.specs.FinMap.Entries.{below_all}
+use Rattle.sfs_base.specs.declared.numbers.Kind.{Kind}
+use Rattle.sfs_base.specs.declared.numbers.Kind.TheVariants.{File, Directory}
+use Rattle.sfs_tree.specs.Order.{name_cmp}
+use Rattle.sfs_tree.specs.Tree.{TreeState, names_of, row_of}
+use Rattle.sfs_tree.specs.History.{kind_of}
+use Rattle.sfs_tree.proofs.Names.{get-names_where}
+use Rattle.sfs_tree.proofs.Joined.{name_cmp-IsAntisymmetric, is_equal}
+use Rattle.area_pair.specs.declared.area.Row.{Row}
+use Rattle.area_pair.specs.Rows.{clashes, KeepsApart}
+use Rattle.area_pair.specs.Rows as rows
+use Rattle.scalefs_run.specs.Flushed.{IsLinked, row_with_kind, rows_of_root}
+use Rattle.scalefs_run.specs.Replies.{root_rows}
+
+-- the two sides of a conjunction
+and_first : (a b : Bool) → (a && b) ≡ true → a ≡ true
+and_first true b e = refl
+and_first false b e = e
+
+and_second : (a b : Bool) → (a && b) ≡ true → b ≡ true
+and_second true b e = e
+and_second false b e = cc
+
+pub some_same : {A : Type 0} {x y : A} → Some x ≡ Some y → x ≡ y
+some_same e = cc
+
+pub none_some : {A : Type 0} {x : A} → None ≡ Some x → ⊥
+none_some e = cc
+
+abbrev pub Entries : Type 0
+Entries = List (List ℕ × ℕ)
+
+-- a name below all others is below each
+below_at : (name : List ℕ) (es : Entries) (k : ℕ) (e : List ℕ × ℕ) → below_all name_cmp name es ≡ true → slice_get es k ≡ Some e → is_lt (name_cmp name e.0) ≡ true
+below_at name [] k e below at = absurd (none_some at)
+below_at name (x ∷ es) zero e below at = subst (λ (y : List ℕ × ℕ). is_lt (name_cmp name y.0) ≡ true) (some_same at) (and_first _ _ below)
+below_at name (x ∷ es) (suc k) e below at = below_at name es k e (and_second _ _ below) at
+
+-- names in order rise
+rise : (es : Entries) (i j : ℕ) (e f : List ℕ × ℕ) → is_sorted name_cmp es ≡ true → i < j → slice_get es i ≡ Some e → slice_get es j ≡ Some f → is_lt (name_cmp e.0 f.0) ≡ true
+rise [] i j e f sorted lt at_e at_f = absurd (none_some at_e)
+rise (x ∷ es) zero zero e f sorted lt at_e at_f = absurd (omega arith)
+rise (x ∷ es) zero (suc j) e f sorted lt at_e at_f = subst (λ (y : List ℕ × ℕ). is_lt (name_cmp y.0 f.0) ≡ true) (some_same at_e) (below_at x.0 es j f (and_first _ _ sorted) at_f)
+rise (x ∷ es) (suc i) zero e f sorted lt at_e at_f = absurd (omega arith)
+rise (x ∷ es) (suc i) (suc j) e f sorted lt at_e at_f = rise es i j e f (and_second _ _ sorted) (omega arith) at_e at_f
+
+less_not_equal : (o : Ordering) → is_lt o ≡ true → is_eq o ≡ false
+less_not_equal Less e = refl
+less_not_equal Equal e = cc
+less_not_equal Greater e = cc
+
+same_bytes : (xs : List ℕ) → bytes_eq xs xs ≡ true
+same_bytes [] = refl
+same_bytes (x ∷ xs) = ap (λ b. b && bytes_eq xs xs) (eq-eqb x x refl) ∙ same_bytes xs
+
+self_ties : (name : List ℕ) → eq_by_cmp name_cmp name name ≡ true
+self_ties name = is_eq-slice_cmp name name ∙ same_bytes name
+
+pub bytes_same : (xs ys : List ℕ) → bytes_eq xs ys ≡ true → xs ≡ ys
+bytes_same xs ys e = name_cmp-IsAntisymmetric xs ys (is_equal _ (is_eq-slice_cmp xs ys ∙ e))
+
+-- a name that is less ties neither way
+less_names : (a b : List ℕ) → is_lt (name_cmp a b) ≡ true → bytes_eq a b ≡ false
+less_names a b lt = sym (is_eq-slice_cmp a b) ∙ less_not_equal _ lt
+
+less_not_equal_back : (a b : List ℕ) → is_lt (name_cmp b a) ≡ true → eq_by_cmp name_cmp a b ≡ false
+less_not_equal_back a b lt =
+    elim (eq_by_cmp name_cmp a b) as (λ t. eq_by_cmp name_cmp a b ≡ t → t ≡ false) [
+      | true ↦ λ e.
+          let same : a ≡ b = bytes_same a b (sym (is_eq-slice_cmp a b) ∙ e) in
+          let differs : bytes_eq b a ≡ false = less_names b a lt in
+          let alike : bytes_eq b a ≡ true = subst (λ n. bytes_eq b n ≡ true) (sym same) (same_bytes b) in
+          sym alike ∙ differs
+      | false ↦ λ e. refl
+    ] refl
+
+-- the entry at a place is found by its name
+found_at : (es : Entries) (k : ℕ) (e : List ℕ × ℕ) → is_sorted name_cmp es ≡ true → slice_get es k ≡ Some e → find name_cmp e.0 es ≡ Some e.1
+found_at [] k e sorted at = absurd (none_some at)
+found_at (x ∷ es) zero e sorted at =
+    ap (λ b. cond b (Some x.1) (find name_cmp e.0 es)) (ap (λ (y : List ℕ × ℕ). eq_by_cmp name_cmp y.0 x.0) (sym (some_same at)) ∙ self_ties x.0)
+    ∙ ap (λ (y : List ℕ × ℕ). Some y.1) (some_same at)
+found_at (x ∷ es) (suc k) e sorted at =
+    ap (λ b. cond b (Some x.1) (find name_cmp e.0 es)) (less_not_equal_back e.0 x.0 (below_at x.0 es k e (and_first _ _ sorted) at))
+    ∙ found_at es k e (and_second _ _ sorted) at
+
+to_true : (b : Bool) → T b → b ≡ true
+to_true true h = refl
+to_true false h = absurd h
+
+-- a row of the root at its place
+row_at : (tree : TreeState) (k : ℕ) (e : List ℕ × ℕ) → slice_get (entries (names_of 0 tree.rows)) k ≡ Some e → row_of tree 0 e.0 ≡ Some e.1
+row_at tree k e at =
+    let names = names_of 0 tree.rows in
+    sym (get-names_where 0 (λ _. true) tree.rows e.0) ∙ get-entries names e.0 ∙ found_at (entries names) k e (to_true _ (entries_sorted names)) at
+
+-- what an entry of a mapped list comes from
+from_entry : (tree : TreeState) (es : Entries) (k : ℕ) (row : Row) → slice_get (map (row_with_kind tree) es) k ≡ Some row → (e : List ℕ × ℕ) × (slice_get es k ≡ Some e) × (row ≡ row_with_kind tree e)
+from_entry tree [] k row at = absurd (none_some at)
+from_entry tree (x ∷ es) zero row at = (x, refl, sym (some_same at))
+from_entry tree (x ∷ es) (suc k) row at = from_entry tree es k row at
+
+-- the rows of a linked root clash with none before them
+pub linked_apart : (tree : TreeState) → IsLinked tree → KeepsApart (rows_of_root tree)
+linked_apart tree linked i j before row lt at_before at_row =
+    let names = names_of 0 tree.rows in
+    let es = entries names in
+    let b = from_entry tree es i before at_before in
+    let r = from_entry tree es j row at_row in
+    let e = b.0 in
+    let f = r.0 in
+    let differs : bytes_eq e.0 f.0 ≡ false = less_names e.0 f.0 (rise es i j e f (to_true _ (entries_sorted names)) lt b.1 r.1) in
+    let others : e.0 ≢ f.0 = (λ same. other_names e.0 f.0 same differs) in
+    ap (λ x. clashes x row) b.2 ∙ ap (clashes (row_with_kind tree e)) r.2
+    ∙ ap (λ t. t || (nat_eq e.1 f.1 && (rows.is_directory (kind_of tree e.1) || rows.is_directory (kind_of tree f.1)))) differs
+    ∙ elim (nat_eq e.1 f.1) as (λ t. nat_eq e.1 f.1 ≡ t → (t && (rows.is_directory (kind_of tree e.1) || rows.is_directory (kind_of tree f.1))) ≡ false) [
+      | true ↦ λ t.
+          let same : e.1 ≡ f.1 = eqb-true _ _ t in
+          let file : kind_of tree e.1 ≡ File = linked.single e.0 f.0 e.1 (row_at tree i e b.1) (row_at tree j f r.1 ∙ ap Some (sym same)) others in
+          either_file _ _ file (ap (kind_of tree) (sym same) ∙ file)
+      | false ↦ λ t. refl
+    ] refl
+  where
+    other_names : (a b : List ℕ) → a ≡ b → bytes_eq a b ≡ false → ⊥
+    other_names a b same differs = let clash : true ≡ false = sym (subst (λ n. bytes_eq a n ≡ true) same (same_bytes a)) ∙ differs in cc
+
+    either_file : (k l : Kind) → k ≡ File → l ≡ File → (rows.is_directory k || rows.is_directory l) ≡ false
+    either_file k l a b = ap (λ x. rows.is_directory x || rows.is_directory l) a ∙ ap rows.is_directory b
+
+-- there are as many as the root has
+pub length-rows_of_root : (tree : TreeState) → length (rows_of_root tree) ≡ root_rows tree
+length-rows_of_root tree = length-map (entries (names_of 0 tree.rows)) (row_with_kind tree) ∙ sym (len-entries (names_of 0 tree.rows))

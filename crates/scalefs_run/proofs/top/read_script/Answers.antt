@@ -1,0 +1,19 @@
+use Rattle.std.proofs.Common.{Result, Err, Vec, Global, ℕ, sym, ap, subst, ◌∙◌}
+use Rattle.sfs_base.specs.Ends.{Rose}
+use Rattle.sfs_base.specs.Transfer.{ReadsAll}
+use Rattle.sfs_base.specs.declared.transfer.ReadAllFault.{ReadAllFault}
+use Rattle.scalefs_run.specs.Outcome.{HasReadFault, IsOf}
+use Rattle.scalefs_run.specs.declared.outcome.Status.{Status}
+use Rattle.std.specs.Prelude.{List, ◌≡◌}
+use Rattle.scalefs_run.proofs.Serving.{read_fault}
+use Rattle.scalefs_run.proofs.top.read_script.Goals as goal
+
+pub returns-in-Err-clause-err : goal.returns-in-Err-clause-err
+returns-in-Err-clause-err g c =
+    let left = g.S.Source.left c.args.source.now in
+    let rest = g.S.Source.left c.read_all.new.source in
+    let failed = Rose (g.S.Source.faults c.args.source.now) (g.S.Source.faults c.read_all.new.source) in
+    let given = c.in-Err.ensures in
+    let taken = given.taken in
+    let found = read_fault failed left rest taken.0 c.in-Err.fault taken.1 taken.2 (λ is. given.cause (ap Err is)) in
+    subst (λ (s : Status). (script : List ℕ) × IsOf left script × HasReadFault script failed s) (sym c.status_of_source.ensures) found

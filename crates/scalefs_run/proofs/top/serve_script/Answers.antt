@@ -1,0 +1,65 @@
+-- Each way in which a script ends that was read.
+use Rattle.std.proofs.Common.{◌≡◌, ℕ, List, [], Option, refl, sym, ap, subst, ◌∙◌}
+use Rattle.sfs_base.specs.Ends.{Rose}
+use Rattle.sfs_tree.specs.declared.history.Entry.{Entry}
+use Rattle.area_pair.specs.Fault.{IsFault}
+use Rattle.area_pair.specs.declared.open.OpenFault.{OpenFault}
+use Rattle.script.specs.Calls.{calls_of}
+use Rattle.scalefs_run.specs.declared.outcome.Status.{Status}
+use Rattle.scalefs_run.specs.declared.outcome.Status.TheVariants.{Done, DiskFault, NoMemory}
+use Rattle.scalefs_run.specs.Outcome.{HasText}
+use Rattle.scalefs_run.specs.Served.{Served}
+use Rattle.scalefs_run.proofs.Serving.{served_none, served_run, write_status, write_history}
+use Rattle.scalefs_run.proofs.top.serve_script.Goals.{in-Err, in-Ok-served}
+use Rattle.scalefs_run.proofs.top.serve_script.Goals as goal
+
+pub returns-in-Err-DiskFailed-clause-served : goal.returns-in-Err-DiskFailed-clause-served
+returns-in-Err-DiskFailed-clause-served g c =
+    let view = g.D.Disk.view in
+    let old = view c.args.disk.now in
+    let new = view c.mount.new.disk in
+    let sink = c.args.sink.now in
+    let rose : Rose old.faults new.faults = subst (λ (f : OpenFault). IsFault f old.faults new.faults) c.in-Err-DiskFailed.field-0-is c.in-Err-DiskFailed.ensures.cause in
+    subst (λ (h : List Entry). Served Done c.args.commands.now ⊥ (Rose (g.K.Sink.faults sink) (g.K.Sink.faults sink)) (g.K.Sink.written sink) (g.K.Sink.written sink) old new DiskFault h) (sym c.new.ensures)
+    (served_none Done c.args.commands.now ⊥ _ (g.K.Sink.written sink) (g.K.Sink.written sink) old new DiskFault (rose, refl) refl refl refl)
+
+pub returns-in-Err-NoMemory-clause-served : goal.returns-in-Err-NoMemory-clause-served
+returns-in-Err-NoMemory-clause-served g c =
+    let view = g.D.Disk.view in
+    let old = view c.args.disk.now in
+    let new = view c.mount.new.disk in
+    let sink = c.args.sink.now in
+    subst (λ (h : List Entry). Served Done c.args.commands.now ⊥ (Rose (g.K.Sink.faults sink) (g.K.Sink.faults sink)) (g.K.Sink.written sink) (g.K.Sink.written sink) old new NoMemory h) (sym c.new-in-Err-NoMemory.ensures)
+    (served_none Done c.args.commands.now ⊥ _ (g.K.Sink.written sink) (g.K.Sink.written sink) old new NoMemory tt (calls_of c.args.commands.now, refl) refl refl)
+
+pub returns-clause-served : goal.returns-clause-served
+returns-clause-served g c =
+    let view = g.D.Disk.view in
+    let written = g.K.Sink.written in
+    let faults = g.K.Sink.faults in
+    let old = view c.args.disk.now in
+    let mid = view c.mount.new.disk in
+    let new = view c.serve-served.new.disk in
+    let commands = c.args.commands.now in
+    let was = c.args.sink.now in
+    let is = c.match-served.sink in
+    let status = c.match-served.status in
+    let engine = c.serve-served.new.engine in
+    let history = engine.entries.items in
+    let begins = c.in-Ok.ensures.begins in
+    let still = c.serve-served.ensures.stands in
+    subst (λ (h : List Entry). Served Done commands ⊥ (Rose (faults was) (faults is)) (written was) (written is) old new status h) (sym c.from_entries-history.ensures)
+    (elim c.match-served.branch [
+      | in-Err w ↦
+          subst (λ (s : Status). Served Done commands ⊥ (Rose (faults was) (faults is)) (written was) (written is) old new s history) (sym w.status-is)
+          (served_run commands _ (written was) (written is) c.in-Ok.engine engine old mid new NoMemory begins still tt w.in-Err.ensures.err (ap written w.sink-is))
+      | in-Ok-served w ↦
+          let ended = w.write_history-status.ensures in
+          let given = w.write_history-status.result in
+          let last = w.write_history-status.new.sink in
+          let served = served_run commands (Rose (faults was) (faults last)) (written was) (written last) c.in-Ok.engine engine old mid new given begins still
+          (write_status _ _ given ended.status) (write_history _ commands history given ended.status w.in-Ok-served.ensures.ok)
+          (subst (λ (h : List Entry). HasText h (written was) (written last) given) c.from_entries-history.ensures ended.text) in
+          subst (λ (s : Status). Served Done commands ⊥ (Rose (faults was) (faults is)) (written was) (written is) old new s history) (sym w.status-is)
+          (subst (λ k. Served Done commands ⊥ (Rose (faults was) (faults k)) (written was) (written k) old new given history) (sym w.sink-is) served)
+    ])

@@ -1,0 +1,56 @@
+-- The replies of fsyncs, with their causes.
+use Rattle.std.specs.Prelude.{◌≡◌, ℕ, ◌+◌, ◌/◌, ◌<◌, ◌≤◌, Bool, true, false, ◌||◌, List, [], ◌∷◌, if◌then◌else◌}
+use Rattle.std.specs.FinMap.{len}
+use Rattle.sfs_base.specs.declared.numbers.SpaceKind.TheVariants.{Blocks}
+use Rattle.sfs_tree.specs.declared.call.Call.{Call}
+use Rattle.sfs_tree.specs.declared.call.Call.TheVariants as call
+use Rattle.sfs_tree.specs.declared.history.Entry.{Entry}
+use Rattle.sfs_tree.specs.declared.reply.Reply.{Reply}
+use Rattle.sfs_tree.specs.declared.reply.Reply.TheVariants as reply
+use Rattle.sfs_tree.specs.Tree.{TreeState, names_of}
+use Rattle.sfs_tree.specs.History.{tree_after_entry}
+
+-- how many rows an area of the disk has room for
+abbrev pub AREA_ROWS : ℕ
+AREA_ROWS = 15
+
+-- how many rows the root has
+abbrev pub root_rows : TreeState → ℕ
+root_rows tree = len (names_of 0 tree.rows)
+
+-- Why an fsync of the root is answered as it is, from whether a commit has failed before, the count of faults kept then,
+-- and the number of the root's rows. After a failure it is Stopped, with that count. Else the root has too many rows exactly
+-- where it is NoSpace, for want of the blocks that so many rows need, of which one is free.
+abbrev pub IsAnswered : Bool → ℕ → ℕ → Reply → Type 0
+IsAnswered halted kept rows reply.Ok = (halted ≡ false) × (rows ≤ AREA_ROWS)
+IsAnswered halted kept rows (reply.Node node kind) = ⊥
+IsAnswered halted kept rows (reply.Error code) = ⊥
+IsAnswered halted kept rows reply.DiskFailed = (halted ≡ false) × (rows ≤ AREA_ROWS)
+IsAnswered halted kept rows (reply.NoSpace kind need free) =
+    (halted ≡ false) × (AREA_ROWS < rows) × (kind ≡ Blocks) × (need ≡ (rows + 14) / AREA_ROWS) × (free ≡ 1)
+IsAnswered halted kept rows (reply.Stopped faults) = (halted ≡ true) × (faults ≡ kept)
+IsAnswered halted kept rows reply.NoMemory = Unit {0}
+
+-- whether a reply is DiskFailed
+abbrev pub is_failure : Reply → Bool
+is_failure reply.DiskFailed = true
+is_failure _ = false
+
+-- the same of an entry that makes a node, of which the table tells all, and of one that flushes the root
+abbrev pub IsAnsweredEntry : Bool → ℕ → TreeState → Entry → Type 0
+IsAnsweredEntry halted kept tree entry = by_call entry.call
+  where
+    by_call : Call → Type 0
+    by_call (call.Make directory name kind) = Unit {0}
+    by_call (call.Fsync node) = IsAnswered halted kept (root_rows tree) entry.reply
+
+-- each fsync of a history is answered as it is for its cause
+abbrev pub AreAnswered : Bool → ℕ → TreeState → List Entry → Type 0
+AreAnswered halted kept tree [] = Unit {0}
+AreAnswered halted kept tree (entry ∷ history) =
+    IsAnsweredEntry halted kept tree entry × AreAnswered (halted || is_failure entry.reply) kept (tree_after_entry tree entry) history
+
+-- whether a commit of a history has failed
+abbrev pub has_failed : List Entry → Bool
+has_failed [] = false
+has_failed (entry ∷ history) = is_failure entry.reply || has_failed history

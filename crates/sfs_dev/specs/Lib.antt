@@ -1,0 +1,9 @@
+pub mod Disk
+pub mod Holds
+pub mod Log
+pub mod LogLaws
+pub mod Memory
+pub mod MemoryLaws
+pub mod RangeLaws
+pub mod Ranges
+pub mod Run

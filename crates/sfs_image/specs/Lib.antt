@@ -1,0 +1,7 @@
+pub mod Bytes
+pub mod Format
+pub mod Inode
+pub mod Journal
+pub mod Slot
+pub mod SlotBlock
+pub mod Super

@@ -1,0 +1,5 @@
+pub mod Changes
+pub mod First
+pub mod Free
+pub mod Order
+pub mod Rows

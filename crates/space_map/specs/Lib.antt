@@ -1,0 +1,4 @@
+pub mod Change
+pub mod Groups
+pub mod Pool
+pub mod Space
