@@ -1,17 +1,17 @@
 -- A run that begins, with the tree of the rows that opening gave.
-use Rattle.std.proofs.Common.{◌≡◌, ◌≢◌, nat_lt, bytes_eq, slice_get, is_some, IfSome, ℕ, zero, suc, ◌+◌, ◌<◌, ◌≤◌, Bool, true, false, List, [], ◌∷◌, ◌++◌, length, map, Option, Some, None, IsTrue, refl, sym, ap, subst, ◌∙◌, arith}
+use Rattle.std.proofs.Common.{◌≡◌, ◌≢◌, nat_lt, bytes_eq, slice_get, is_some, IfSome, ℕ, ◌≤◌, true, false, List, [], length, map, Option, Some, None, refl, sym, ap, subst, ◌∙◌, arith}
 use Rattle.std.proofs.lemmas.List.{length-map}
 use Rattle.std.specs.Prelude.{filter_map}
-use Rattle.std.specs.FinMap.{get, find, entries, len, len-entries, from_entries, get-from_entries}
+use Rattle.std.specs.FinMap.{find, entries, len-entries, get-from_entries}
 use Rattle.sfs_tree.proofs.Joined.{key_cmp_total, length-from_entries}
 use Rattle.sfs_tree.proofs.Names.{entries-names_where}
 use borrow.Author.Tests.{ltb-true, ltb-false}
 use Rattle.sfs_base.specs.Ends.{Rose}
 use Rattle.sfs_base.specs.declared.numbers.Kind.TheVariants.{File}
 use Rattle.sfs_tree.specs.History.{kind_of}
-use Rattle.sfs_tree.specs.Order.{Key, key_cmp}
+use Rattle.sfs_tree.specs.Order.{key_cmp}
 use Rattle.scalefs_run.proofs.Rooted.{bytes_same, some_same}
-use Rattle.sfs_tree.specs.Tree.{TreeState, name_row, row_of}
+use Rattle.sfs_tree.specs.Tree.{TreeState, name_row}
 use Rattle.sfs_dev.specs.Disk.{View}
 use Rattle.area_pair.specs.declared.area.Row.{Row}
 use Rattle.area_pair.specs.Settled.{ReadsAs}

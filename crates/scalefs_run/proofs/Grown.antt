@@ -1,20 +1,17 @@
 -- What making a directory in the root does to the tree.
-use Rattle.std.proofs.Common.{◌≡◌, ◌≢◌, ◌⊎◌, ℕ, zero, suc, ◌+◌, ◌*◌, ◌<◌, ◌≤◌, Bool, true, false, cond, List, [], ◌∷◌, length, Option, Some, None, inl, inr, is_some, refl, sym, ap, subst, ◌∙◌, arith, nat_eq, nat_le, bytes_eq, slice_index, slice_set}
+use Rattle.std.proofs.Common.{◌≡◌, ◌⊎◌, ℕ, ◌+◌, ◌*◌, ◌<◌, ◌≤◌, true, false, cond, List, [], ◌∷◌, length, Option, Some, None, inl, inr, is_some, refl, sym, ap, ◌∙◌, arith, nat_le, bytes_eq, slice_index, slice_set}
 use borrow.Author.Tests.{ne_eqb}
 use Rattle.std.specs.Option.{option_map_or}
-use Rattle.std.specs.Ordering.{nat_cmp}
 use Rattle.std.specs.Cmp.{nat_cmp_total, unsigned_ties}
 use Rattle.std.specs.Cmp.Lexicographic.{nat_list_cmp_total}
-use Rattle.std.specs.FinMap.{FinMap, get, insert, get-insert, len, len-insert}
+use Rattle.std.specs.FinMap.{get, get-insert, len, len-insert}
 use Rattle.sfs_base.specs.declared.numbers.Kind.TheVariants.{File, Directory}
 use Rattle.sfs_base.specs.Name.{bucket}
-use Rattle.sfs_tree.specs.Order.{key_cmp, name_cmp}
 use Rattle.sfs_tree.specs.Tree.{TreeState, Node, names_of, row_of, bucket_rows, made_by, next_number}
-use Rattle.sfs_tree.specs.Effect.{Adds, Stays, tree_with}
+use Rattle.sfs_tree.specs.Effect.{Adds, tree_with}
 use Rattle.sfs_tree.specs.Verdict.{verdict, make_fault, make_node, or_else, first_of_two, directory_fault, tree_after_call}
 use Rattle.sfs_tree.specs.History.{kind_of}
 use Rattle.sfs_tree.specs.declared.call.Call.TheVariants.{Make}
-use Rattle.sfs_tree.specs.declared.reply.Code.{Code}
 use Rattle.sfs_tree.specs.declared.reply.Code.TheVariants.{Exists, DirFull, NoNodes}
 use Rattle.sfs_tree.specs.declared.reply.Reply.{Reply}
 use Rattle.sfs_tree.proofs.Joined.{key_cmp_total}
@@ -24,7 +21,7 @@ use Rattle.scalefs_run.specs.Flushed.{IsLinked}
 use Rattle.scalefs_run.specs.Replies.{is_failure, root_rows}
 use Rattle.scalefs_run.specs.Stands.{root_shown}
 use Rattle.scalefs_run.proofs.Opened.{row_ties}
-use Rattle.scalefs_run.proofs.Rooted.{bytes_same, some_same, none_some}
+use Rattle.scalefs_run.proofs.Rooted.{bytes_same, some_same}
 
 -- The root has as many rows as before and shows the same, or has more; the reply is no failure.
 pub record Grows (tree after : TreeState) (reply : Reply) : Type 0 where

@@ -1,25 +1,24 @@
 -- The tree that is built from the rows on a disk.
-use Rattle.std.proofs.Common.{◌≡◌, ◌≢◌, ℕ, zero, suc, ◌+◌, ◌<◌, ◌≤◌, Bool, true, false, cond, ◌&&◌, ◌||◌, List, [], ◌∷◌, ◌++◌, length, map, Option, Some, None, IsSome, IsTrue, is_some, refl, sym, ap, subst, ◌∙◌, arith, nat_eq, slice_get, bytes_eq}
-use Rattle.std.specs.Prelude.{filter_map, option_map}
+use Rattle.std.proofs.Common.{◌≡◌, ◌≢◌, ℕ, zero, suc, ◌<◌, ◌≤◌, Bool, true, false, cond, ◌&&◌, ◌||◌, List, [], ◌∷◌, ◌++◌, length, map, Option, Some, None, IsSome, IsTrue, is_some, refl, sym, ap, subst, ◌∙◌, arith, nat_eq, slice_get, bytes_eq}
+use Rattle.std.specs.Prelude.{filter_map}
 use Rattle.std.specs.List.{cons_option}
 use Rattle.std.specs.Option.{option_map_or}
 use Rattle.std.proofs.lemmas.List.{length-map, length-append, append_assoc}
 use Rattle.sfs_base.specs.Name.{bucket}
-use borrow.Author.Tests.{eqb-true, eqb-false, eq-eqb, ne_eqb}
+use borrow.Author.Tests.{eqb-true, eq-eqb, ne_eqb}
 use Rattle.std.specs.Ordering.{nat_cmp, eq_by_cmp}
 use Rattle.std.specs.Cmp.{nat_cmp_total, unsigned_ties}
-use Rattle.std.specs.Cmp.Lexicographic.{nat_list_cmp_total}
-use Rattle.std.specs.FinMap.{FinMap, find, get, insert, entries, from_entries, len, get-from_entries, get-insert, len-entries, same_map, nat_cmp-IsAntisymmetric}
+use Rattle.std.specs.FinMap.{FinMap, find, get, insert, entries, len, get-from_entries, get-insert, len-entries, same_map, nat_cmp-IsAntisymmetric}
 use Rattle.std.proofs.lemmas.Map.Text.{is_eq-slice_cmp}
 use Rattle.sfs_base.specs.declared.numbers.Kind.{Kind}
 use Rattle.sfs_base.specs.declared.numbers.Kind.TheVariants.{File, Directory}
-use Rattle.sfs_tree.specs.Order.{name_cmp, Key, key_cmp}
-use Rattle.sfs_tree.specs.Tree.{Node, TreeState, name_row, names_where, bucket_rows, row_of, is_directory, is_directory_kind}
+use Rattle.sfs_tree.specs.Order.{key_cmp}
+use Rattle.sfs_tree.specs.Tree.{Node, TreeState, name_row, bucket_rows, row_of, is_directory, is_directory_kind}
 use Rattle.sfs_tree.proofs.Joined.{key_cmp_total, same_key, length-from_entries}
 use Rattle.sfs_tree.proofs.Names.{entries-names_where}
 use Rattle.area_pair.specs.declared.area.Row.{Row}
 use Rattle.area_pair.specs.Rows.{clashes, KeepsApart}
-use Rattle.area_pair.specs.Sound.{HasInode, HaveInodes, AreRoots}
+use Rattle.area_pair.specs.Sound.{HaveInodes, AreRoots}
 use Rattle.area_pair.proofs.Sound.{Alone, apart_head, apart_tail}
 use Rattle.area_pair.specs.Rows as rows
 use Rattle.scalefs_run.specs.First.{first_tree, row_entry, node_entry, root_entry, with_child, with_root_row}

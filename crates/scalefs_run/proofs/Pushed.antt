@@ -1,14 +1,13 @@
 -- What holds of a history that has one more entry at its end.
-use Rattle.std.proofs.Common.{◌≡◌, ℕ, zero, suc, ◌+◌, ◌<◌, ◌≤◌, Bool, true, false, cond, ◌||◌, List, [], ◌∷◌, ◌++◌, length, take, map, refl, sym, ap, subst, ◌∙◌, arith}
-use Rattle.std.specs.Prelude.{fold}
+use Rattle.std.proofs.Common.{◌≡◌, ℕ, ◌≤◌, Bool, true, false, ◌||◌, List, [], ◌∷◌, ◌++◌, length, take, refl, sym, ap, subst, ◌∙◌, arith}
 use Rattle.std.specs.FinMap.{from_entries, FinMap}
 use Rattle.std.proofs.lemmas.List.Sums.{fold-append}
 use Rattle.std.proofs.lemmas.List.{take-append-le}
 use Rattle.std.proofs.Math.Seq.{take-length}
 use Rattle.sfs_tree.specs.Order.{name_cmp}
 use Rattle.sfs_tree.specs.declared.history.Entry.{Entry}
-use Rattle.sfs_tree.specs.Tree.{TreeState, names_of}
-use Rattle.sfs_tree.specs.History.{tree_after, tree_after_entry, IsLegal, rows_at, with_kinds}
+use Rattle.sfs_tree.specs.Tree.{TreeState}
+use Rattle.sfs_tree.specs.History.{tree_after, tree_after_entry, IsLegal, with_kinds}
 use Rattle.sfs_tree.proofs.Histories.{rows_at-tree_after}
 use Rattle.scalefs_run.specs.Replies.{AreAnswered, IsAnsweredEntry, has_failed, is_failure}
 use Rattle.scalefs_run.specs.Shown.{shown_at, last_flush, later_flush}

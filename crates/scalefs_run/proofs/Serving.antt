@@ -1,11 +1,8 @@
 -- A run ends.
-use Rattle.std.proofs.Common.{◌≡◌, ℕ, suc, ◌+◌, ◌<◌, ◌≤◌, Bool, true, false, List, [], ◌∷◌, ◌++◌, length, map, Option, Some, None, Result, Ok, Err, is_some, IfSome, cond, not, nat_lt, refl, sym, ap, subst, ◌∙◌, arith}
+use Rattle.std.proofs.Common.{◌≡◌, ℕ, ◌+◌, ◌<◌, ◌≤◌, true, false, List, [], length, map, Option, Some, None, Result, Ok, Err, is_some, IfSome, cond, not, nat_lt, refl, sym, ap, subst, ◌∙◌, arith}
 use Rattle.std.proofs.lemmas.List.{length-append, append-nil}
-use Rattle.std.specs.declared.vec.Vec.{Vec}
-use Rattle.std.specs.declared.alloc.Global.{Global}
 use Rattle.sfs_base.specs.Ends.{Rose, Takes}
 use Rattle.sfs_base.specs.Transfer.{ReadsAll}
-use Rattle.sfs_base.specs.declared.numbers.Measure.{Measure}
 use Rattle.sfs_base.specs.declared.transfer.ReadAllFault.{ReadAllFault}
 use Rattle.sfs_base.specs.declared.transfer.ReadAllFault.TheVariants as source
 use Rattle.sfs_tree.specs.declared.history.Entry.{Entry}
@@ -17,16 +14,14 @@ use Rattle.script.specs.declared.command.Command.{Command}
 use borrow.Author.Tests.{lt-ltb, le-ltb}
 use Rattle.sfs_base.specs.declared.numbers.Measure.TheVariants.{Bytes}
 use Rattle.script.specs.Commands.{commands_of}
-use Rattle.script.specs.Calls.{Follows, called, calls_of}
+use Rattle.script.specs.Calls.{called, calls_of}
 use Rattle.scalefs_run.specs.declared.engine.Engine.{Engine}
 use Rattle.scalefs_run.specs.declared.outcome.Status.{Status}
 use Rattle.scalefs_run.specs.declared.outcome.Status.TheVariants.{Done, BadWords, BadScript, ReadFault, WriteFault, DiskFault, NoMemory, TooLong}
-use Rattle.scalefs_run.specs.First.{first_tree}
 use Rattle.scalefs_run.specs.Outcome.{IsOf, HasStatus, HasHistory, HasText, HasReadFault, IsWriteStatus, FollowsSoFar, IsCommand, status_of_source, is_run, due, script_status, commands_in}
-use Rattle.scalefs_run.specs.Replies.{has_failed}
 use Rattle.scalefs_run.specs.Served.{Served, ServedScript, has_run}
 use Rattle.scalefs_run.specs.Shown.{shown}
-use Rattle.scalefs_run.specs.Stands.{Stands, StandsStill, Begins}
+use Rattle.scalefs_run.specs.Stands.{StandsStill, Begins}
 use Rattle.scalefs_run.proofs.Rooted.{some_same, none_some}
 
 -- the rows of a disk that tells what a read gives

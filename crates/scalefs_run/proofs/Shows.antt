@@ -1,12 +1,12 @@
 -- Names and kinds of rows.
-use Rattle.std.proofs.Common.{◌≡◌, ℕ, zero, suc, Bool, true, false, cond, ◌||◌, List, [], ◌∷◌, ◌++◌, length, map, Option, Some, None, refl, sym, ap, subst, ◌∙◌, nat_eq, slice_get}
+use Rattle.std.proofs.Common.{◌≡◌, ℕ, zero, suc, true, false, cond, List, [], ◌∷◌, ◌++◌, map, Option, Some, refl, sym, ap, ◌∙◌, nat_eq, slice_get}
 use Rattle.std.specs.Prelude.{option_map}
 use Rattle.std.specs.Option.{option_map_or}
 use borrow.Author.Tests.{eqb-true, eq-eqb}
 use Rattle.std.specs.Ordering.{nat_cmp, eq_by_cmp}
 use Rattle.std.specs.Cmp.{nat_cmp_total, unsigned_ties}
 use Rattle.std.specs.Cmp.Lexicographic.{nat_list_cmp_total}
-use Rattle.std.specs.FinMap.{FinMap, find, get, entries, from_entries, get-entries, get-from_entries, same_map}
+use Rattle.std.specs.FinMap.{find, entries, from_entries, get-entries, get-from_entries, same_map}
 use Rattle.std.proofs.lemmas.Map.Text.{is_eq-slice_cmp}
 use Rattle.sfs_base.specs.declared.numbers.Kind.{Kind}
 use Rattle.sfs_base.specs.declared.numbers.Kind.TheVariants.{File}
@@ -16,8 +16,8 @@ use Rattle.sfs_tree.specs.History.{kind_of, with_kinds}
 use Rattle.sfs_tree.proofs.Joined.{key_cmp_total, name_cmp-IsAntisymmetric}
 use Rattle.sfs_tree.proofs.Names.{get-names_where}
 use Rattle.area_pair.specs.declared.area.Row.{Row}
-use Rattle.area_pair.specs.Rows.{clashes, KeepsApart, numbered, with_inode, mentions}
-use Rattle.area_pair.proofs.Sound.{Alone, apart_head, apart_tail}
+use Rattle.area_pair.specs.Rows.{KeepsApart, numbered, with_inode, mentions}
+use Rattle.area_pair.proofs.Sound.{apart_head, apart_tail}
 use Rattle.scalefs_run.specs.First.{first_tree, row_entry, node_entry, root_entry}
 use Rattle.scalefs_run.specs.Flushed.{row_with_kind, rows_of_root}
 use Rattle.scalefs_run.specs.Shown.{shown, name_and_kind}

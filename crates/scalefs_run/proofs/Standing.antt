@@ -1,5 +1,5 @@
 -- A run goes on by one call.
-use Rattle.std.proofs.Common.{◌≡◌, ◌⊎◌, ◌↔◌, ℕ, zero, suc, ◌+◌, ◌<◌, ◌≤◌, ◌^◌, ◌-◌, min, Bool, true, false, cond, ◌||◌, List, [], ◌∷◌, ◌++◌, length, Option, Some, None, inl, inr, is_some, IsSome, IsTrue, IfSome, unwrap_or, refl, sym, ap, subst, ◌∙◌, arith}
+use Rattle.std.proofs.Common.{◌≡◌, ◌↔◌, ℕ, ◌+◌, ◌≤◌, Bool, true, false, cond, ◌||◌, List, [], ◌∷◌, ◌++◌, length, Option, Some, None, inl, inr, is_some, IsSome, IsTrue, IfSome, unwrap_or, refl, sym, ap, subst, ◌∙◌, arith}
 use Rattle.std.proofs.lemmas.List.{length-append}
 use Rattle.sfs_base.specs.Ends.{Rose}
 use Rattle.sfs_base.specs.declared.numbers.Kind.TheVariants.{Directory}
@@ -9,7 +9,7 @@ use Rattle.sfs_tree.specs.declared.reply.Reply.{Reply}
 use Rattle.sfs_tree.specs.declared.reply.Reply.TheVariants as reply
 use Rattle.sfs_tree.specs.Tree.{TreeState}
 use Rattle.sfs_tree.specs.Verdict.{verdict, tree_after_call}
-use Rattle.sfs_tree.specs.History.{MayCome, IsLegal, IsFsyncReply, tree_after, tree_after_entry, is_ok_reply}
+use Rattle.sfs_tree.specs.History.{MayCome, IsLegal, IsFsyncReply, tree_after, is_ok_reply}
 use Rattle.sfs_tree.proofs.Histories.{tree_after-push, IsLegal-push}
 use Rattle.sfs_dev.specs.Disk.{View}
 use Rattle.sfs_dev.specs.Run.{GoesOn}
@@ -19,12 +19,12 @@ use Rattle.area_pair.specs.declared.area.Current.{Current}
 use Rattle.area_pair.specs.Rows.{numbered}
 use Rattle.area_pair.specs.Settled.{ReadsAs}
 use Rattle.scalefs_run.specs.First.{first_tree}
-use Rattle.scalefs_run.specs.Flushed.{HasFlushed, Commits, Fails, rows_of_root, IsLinked}
-use Rattle.scalefs_run.specs.Replies.{IsAnswered, IsAnsweredEntry, AreAnswered, has_failed, is_failure, root_rows}
-use Rattle.scalefs_run.specs.Shown.{shown, shown_at, last_flush, later_flush}
-use Rattle.scalefs_run.specs.Stands.{Stands, ReadsFlushed, root_shown}
+use Rattle.scalefs_run.specs.Flushed.{HasFlushed, Fails, rows_of_root}
+use Rattle.scalefs_run.specs.Replies.{IsAnswered, has_failed, is_failure, root_rows}
+use Rattle.scalefs_run.specs.Shown.{shown, shown_at, last_flush}
+use Rattle.scalefs_run.specs.Stands.{Stands, root_shown}
 use Rattle.scalefs_run.specs.declared.flush.Store.{Store}
-use Rattle.scalefs_run.proofs.Grown.{Grows, grown}
+use Rattle.scalefs_run.proofs.Grown.{grown}
 use Rattle.scalefs_run.proofs.Pushed.{AreAnswered-push, has_failed-push, last_flush-push, shown_at-push, shown_at-end}
 use Rattle.scalefs_run.proofs.Rooted.{length-rows_of_root}
 use Rattle.scalefs_run.proofs.Shows.{shown-numbered}

@@ -1,6 +1,6 @@
 -- What an fsync of the root does to the disk and to what is known of it.
-use Rattle.std.specs.Prelude.{◌≡◌, ◌≢◌, ◌⊎◌, ℕ, ◌+◌, ◌<◌, List, length, map, Some, None}
-use Rattle.std.specs.FinMap.{get, entries}
+use Rattle.std.specs.Prelude.{◌≡◌, ◌≢◌, ◌⊎◌, ℕ, ◌<◌, List, length, map, Some, None}
+use Rattle.std.specs.FinMap.{entries}
 use Rattle.sfs_base.specs.Ends.{Rose}
 use Rattle.sfs_base.specs.declared.numbers.Kind.TheVariants.{File}
 use Rattle.sfs_tree.specs.Tree.{TreeState, names_of, row_of, next_number}

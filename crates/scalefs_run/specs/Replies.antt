@@ -1,5 +1,5 @@
 -- The replies of fsyncs, with their causes.
-use Rattle.std.specs.Prelude.{◌≡◌, ℕ, ◌+◌, ◌/◌, ◌<◌, ◌≤◌, Bool, true, false, ◌||◌, List, [], ◌∷◌, if◌then◌else◌}
+use Rattle.std.specs.Prelude.{◌≡◌, ℕ, ◌+◌, ◌/◌, ◌<◌, ◌≤◌, Bool, true, false, ◌||◌, List, [], ◌∷◌}
 use Rattle.std.specs.FinMap.{len}
 use Rattle.sfs_base.specs.declared.numbers.SpaceKind.TheVariants.{Blocks}
 use Rattle.sfs_tree.specs.declared.call.Call.{Call}

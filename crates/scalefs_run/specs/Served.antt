@@ -1,10 +1,9 @@
 -- What a run has done when it ends.
-use Rattle.std.specs.Prelude.{◌≡◌, ℕ, Bool, true, false, List, [], ◌∷◌, Option, IsTrue}
+use Rattle.std.specs.Prelude.{◌≡◌, ℕ, Bool, true, false, List, [], ◌∷◌, Option}
 use Rattle.sfs_base.specs.Ends.{Rose}
 use Rattle.sfs_tree.specs.declared.history.Entry.{Entry}
 use Rattle.sfs_tree.specs.History.{IsLegal}
 use Rattle.sfs_dev.specs.Disk.{View}
-use Rattle.sfs_dev.specs.Run.{GoesOn}
 use Rattle.area_pair.specs.declared.area.Row.{Row}
 use Rattle.area_pair.specs.Put.{IsTold}
 use Rattle.area_pair.specs.Rows.{rows_of}

@@ -1,5 +1,5 @@
 -- The first line of some bytes.
-use Rattle.std.proofs.Common.{◌≡◌, ℕ, zero, suc, ◌+◌, ◌<◌, ◌≤◌, Bool, true, false, cond, List, [], ◌∷◌, ◌++◌, length, take, drop, get_or, Option, Some, None, Result, Ok, Err, refl, sym, ap, subst, ◌∙◌, arith, nat_eq, ltb, position, append_assoc}
+use Rattle.std.proofs.Common.{◌≡◌, ℕ, zero, suc, ◌<◌, Bool, true, false, cond, List, [], ◌∷◌, ◌++◌, length, take, drop, get_or, Some, None, Result, Ok, Err, refl, sym, ap, ◌∙◌, arith, nat_eq, ltb, position, append_assoc}
 use borrow.Author.Tests.{ltb-false}
 use Rattle.std.specs.List.{position_or_len}
 use Rattle.std.proofs.Common.{◌-◌}
@@ -9,7 +9,7 @@ use Rattle.std.proofs.lemmas.List.Quantifiers.{position-Some}
 use Rattle.std.proofs.lemmas.List.Sums.{fails_before_first}
 use Rattle.script.specs.declared.command.Command.{Command}
 use Rattle.script.specs.Lines.{lines, first_longer}
-use Rattle.script.specs.Commands.{commands_from, command_of, with_first, with_line}
+use Rattle.script.specs.Commands.{with_first}
 
 -- a line that ends at a place
 line_at : (bytes : List ℕ) (i : ℕ) → i < length bytes → nat_eq (get_or bytes i 0) 10 ≡ true → ((k : ℕ) → k < i → nat_eq (get_or bytes k 0) 10 ≡ false) → lines bytes ≡ take i bytes ∷ lines (drop (suc i) bytes)

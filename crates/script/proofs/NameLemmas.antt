@@ -1,5 +1,5 @@
 -- Names of letters and digits are names.
-use Rattle.std.proofs.Common.{◌≡◌, ◌≢◌, ℕ, zero, suc, ◌+◌, ◌<◌, ◌≤◌, Bool, true, false, cond, ◌&&◌, ◌||◌, List, [], ◌∷◌, length, get_or, drop, Option, Some, None, IsTrue, refl, sym, ap, subst, ◌∙◌, arith, nat_eq, nat_le, nat_lt, position, codes, bytes_eq}
+use Rattle.std.proofs.Common.{◌≡◌, ℕ, zero, suc, ◌<◌, ◌≤◌, Bool, true, false, cond, ◌&&◌, ◌||◌, List, [], ◌∷◌, length, get_or, drop, Option, Some, None, refl, sym, ap, ◌∙◌, arith, nat_eq, nat_le, position, codes, bytes_eq}
 use Rattle.std.specs.List.{list_all}
 use borrow.Author.Tests.{leb-true, ne_eqb, le-ltb}
 use Rattle.std.specs.List.{position_or_len}
@@ -61,15 +61,16 @@ not_dotted name dots rest e some all =
 pub name_fault-plain : (name : List ℕ) → is_plain_name name ≡ true → name_fault name ≡ None
 name_fault-plain name plain =
     let some : 1 ≤ length name = leb-true 1 (length name) (and_first _ _ (and_first _ _ plain)) in
+    let longer : nat_eq (length name) 0 ≡ false = ne_eqb (length name) 0 (λ e. omega arith) in
     let few : length name ≤ 255 = leb-true (length name) 255 (and_second _ _ (and_first _ _ plain)) in
     let all : list_all is_plain name ≡ true = and_second _ _ plain in
     let dots : is_dots name ≡ false = ap (λ t. t || bytes_eq name (codes "..")) (not_dotted name (codes ".") [] refl some all) ∙ not_dotted name (codes "..") (46 ∷ []) refl some all in
-    rw (ne_eqb (length name) 0 (λ e. omega arith), le-ltb 255 (length name) few, none_bad name all, dots)
+    rw (longer, le-ltb 255 (length name) few, none_bad name all, dots)
 
 -- the line that makes a directory
 pub mkdir_read : (line name : List ℕ) → bytes_eq line FSYNC ≡ false → starts_with nat_eq line MKDIR ≡ true → is_plain_name (drop 9 line) ≡ true → name ≡ drop 9 line → ◌≡◌ {A = Option Command} (Some (Mkdir name)) (command_of line)
 mkdir_read line name other starts plain is =
     ap (λ n. Some (Mkdir n)) is
     ∙ sym (ap (λ t. cond t (Some Fsync) (mkdir_of line)) other
-      ∙ ap (λ t. cond (t && is_plain_name (drop 9 line)) (Some (Mkdir (drop 9 line))) None) starts
-      ∙ ap (λ t. cond t (Some (Mkdir (drop 9 line))) None) plain)
+    ∙ ap (λ t. cond (t && is_plain_name (drop 9 line)) (Some (Mkdir (drop 9 line))) None) starts
+    ∙ ap (λ t. cond t (Some (Mkdir (drop 9 line))) None) plain)

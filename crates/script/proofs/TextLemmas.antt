@@ -1,5 +1,5 @@
 -- The escapes of a name.
-use Rattle.std.proofs.Common.{◌≡◌, ℕ, zero, suc, ◌+◌, ◌<◌, ◌≤◌, Bool, true, false, cond, not, List, [], ◌∷◌, ◌++◌, length, get_or, refl, sym, ap, subst, ◌∙◌, arith, flat_map}
+use Rattle.std.proofs.Common.{◌≡◌, ℕ, zero, suc, ◌+◌, ◌<◌, ◌≤◌, Bool, true, false, cond, not, List, [], ◌∷◌, ◌++◌, length, refl, sym, ap, ◌∙◌, arith, flat_map}
 use Rattle.std.proofs.Common.{◌||◌, ◌&&◌, ◌/◌, ◌%◌, nat_eq, nat_lt, nat_le}
 use Rattle.std.specs.Fmt.{digit_glyph}
 use borrow.Author.Tests.{eqb-true, eqb-false, ltb-true, ltb-false, le-ltb, lt-leb}
@@ -7,7 +7,6 @@ use Rattle.std.specs.List.{list_all, range_with_len}
 use Rattle.script.proofs.NameLemmas.{and_first, and_second}
 use Rattle.percent_encoding.specs.Percent.{percent_encode, encode_byte, percent_encode_byte}
 use Rattle.percent_encoding.specs.AsciiSet.{should_percent_encode, contains}
-use Rattle.percent_encoding.proofs.PercentLemmas.{percent_encode-nil}
 use Rattle.script.specs.declared.writer.TheConstants.{ESCAPED}
 use Rattle.script.specs.Texts.{is_shown, byte_text, name_text, entry_text, history_text}
 use Rattle.sfs_tree.specs.declared.history.Entry.{Entry}
@@ -89,8 +88,10 @@ entries_all history cursor text none within written =
       where
         clash : (x : Entry) → None ≡ Some x → ⊥
         clash x e = cc
+
         not_some : IsSome {T = Entry} None → ⊥
         not_some e = cc
+
     slice_get_within_some : (xs : List Entry) (k : ℕ) → k < length xs → IsSome (slice_get xs k)
     slice_get_within_some [] k lt = absurd (omega arith)
     slice_get_within_some (x ∷ xs) zero lt = refl

@@ -1,6 +1,5 @@
 -- Why a script is refused.
 use Rattle.std.specs.Prelude.{◌≡◌, ℕ, ◌<◌, ◌≤◌, List, length, Err}
-use Rattle.sfs_base.specs.declared.numbers.Measure.{Measure}
 use Rattle.sfs_base.specs.declared.numbers.Measure.TheVariants.{Bytes}
 use Rattle.script.specs.declared.fault.ScriptFault.{ScriptFault}
 use Rattle.script.specs.declared.fault.ScriptFault.TheVariants.{TooLong, BadLine, NoMemory}

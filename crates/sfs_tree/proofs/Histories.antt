@@ -1,17 +1,17 @@
 -- Histories that grow by one entry at their end.
-use Rattle.std.proofs.Common.{◌≡◌, ℕ, zero, suc, ◌+◌, ◌<◌, ◌≤◌, Bool, true, false, cond, ◌&&◌, List, [], ◌∷◌, ◌++◌, length, take, Option, Some, None, refl, sym, ap, subst, ◌∙◌, arith, nat_lt, nat_eq}
-use borrow.Author.Tests.{eqb-true, eq-eqb, eqb-false, ltb-true, ltb-false, lt-ltb}
+use Rattle.std.proofs.Common.{◌≡◌, ℕ, zero, suc, ◌+◌, ◌<◌, ◌≤◌, true, false, cond, ◌&&◌, List, [], ◌∷◌, ◌++◌, length, take, Some, refl, sym, ap, subst, ◌∙◌, arith, nat_lt, nat_eq}
+use borrow.Author.Tests.{eqb-true, eq-eqb, ltb-true, lt-ltb}
 use Rattle.std.specs.Prelude.{filter, fold}
 use Rattle.std.specs.Cmp.Lexicographic.{nat_list_cmp_total}
 use Rattle.std.specs.FinMap.{FinMap, get, insert, get-insert, same_map}
 use Rattle.std.proofs.lemmas.List.Sums.{fold-append}
 use Rattle.std.proofs.lemmas.List.Elements.{filter-append}
-use Rattle.sfs_tree.specs.Order.{name_cmp, Key, key_cmp}
+use Rattle.sfs_tree.specs.Order.{name_cmp, key_cmp}
 use Rattle.sfs_tree.specs.declared.history.Entry.{Entry}
 use Rattle.sfs_tree.specs.Tree.{TreeState, names_of}
 use Rattle.sfs_tree.specs.Effect.{Effect, Stays, Adds, rows_after}
-use Rattle.sfs_tree.specs.Verdict.{verdict, tree_after_call}
-use Rattle.sfs_tree.specs.History.{tree_after, tree_after_entry, MayCome, IsLegalFrom, IsLegal, RowChange, changes_by, changes_of, is_own_below, with_change, rows_at}
+use Rattle.sfs_tree.specs.Verdict.{verdict}
+use Rattle.sfs_tree.specs.History.{tree_after, tree_after_entry, MayCome, IsLegalFrom, IsLegal, changes_by, changes_of, is_own_below, with_change, rows_at}
 use Rattle.sfs_tree.proofs.Joined.{key_cmp_total, same_key, name_cmp-IsAntisymmetric}
 use Rattle.sfs_tree.proofs.Names.{get-names_where, not_same}
 

@@ -1,17 +1,17 @@
 -- The parts of a store, kept by each change.
-use Rattle.std.proofs.Common.{◌≡◌, ◌≢◌, ℕ, zero, suc, ◌+◌, ◌*◌, ◌%◌, ◌^◌, ◌<◌, ◌≤◌, Bool, true, false, cond, List, [], ◌∷◌, ◌++◌, length, set, get_or, replicate, Option, Some, None, IsSome, inl, inr, refl, sym, ap, subst, ◌∙◌, arith, count_by, nat_eq, slice_index, append_assoc}
-use borrow.Author.Tests.{eqb-true, eq-eqb, eqb-false}
+use Rattle.std.proofs.Common.{◌≡◌, ℕ, zero, suc, ◌+◌, ◌*◌, ◌^◌, ◌<◌, ◌≤◌, Bool, true, false, cond, List, [], ◌∷◌, ◌++◌, length, set, replicate, Option, None, IsSome, inl, inr, refl, sym, ap, subst, ◌∙◌, arith, count_by, nat_eq, slice_index, append_assoc}
+use borrow.Author.Tests.{eqb-true, eqb-false}
 use Rattle.std.proofs.lemmas.List.{get_or-set_same, get_or-set_other, length-append, length-set, append-nil}
-use Rattle.std.specs.FinMap.{FinMap, get, insert, empty, entries, len, get-empty, len-empty}
+use Rattle.std.specs.FinMap.{get, insert, empty, entries, len, get-empty, len-empty}
 use Rattle.sfs_base.specs.Name.{bucket}
 use Rattle.sfs_tree.specs.declared.store.NodeData.{NodeData}
-use Rattle.sfs_tree.specs.Order.{name_cmp, Key, key_cmp}
+use Rattle.sfs_tree.specs.Order.{name_cmp, Key}
 use Rattle.sfs_tree.specs.Tree.{count_of, names_it, bucket_rows}
 use Rattle.sfs_tree.specs.StoreState.{StoreState, HasPlace}
 use Rattle.sfs_tree.proofs.Names.{bucket_rows-joined}
 use Rattle.sfs_tree.proofs.Numbered.{numbered_within}
 use Rattle.sfs_tree.specs.Buckets.{Bucket, bucket_at, joined, stands_in, IsPlaced}
-use Rattle.sfs_tree.specs.Store.{numbered, IsCounted, IsSized, IsStored}
+use Rattle.sfs_tree.specs.Store.{numbered, IsStored}
 use Rattle.sfs_tree.proofs.Joined.{IsPlaced-push, joined-push, IsPlaced-insert, joined-insert, count-insert, count-joined, get-joined, bucket_small}
 
 pub IsPlaced-grown : (ms : List Bucket) (n : ℕ) → IsPlaced ms → IsPlaced (ms ++ replicate n empty)

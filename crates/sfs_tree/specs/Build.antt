@@ -1,5 +1,5 @@
 -- How a tree is built before any call.
-use Rattle.std.specs.Prelude.{◌≡◌, ℕ, ◌*◌, ◌≤◌, List, [], length, replicate, slice_index}
+use Rattle.std.specs.Prelude.{ℕ, ◌*◌, ◌≤◌, List, [], length, replicate, slice_index}
 use Rattle.std.specs.FinMap.{empty, insert}
 use Rattle.sfs_base.specs.declared.numbers.Kind.{Kind}
 use Rattle.sfs_base.specs.declared.numbers.Kind.TheVariants.{Directory}

@@ -1,5 +1,5 @@
 -- The history of calls: the tree after it, when it is legal, and the rows of a directory at a stamp.
-use Rattle.std.specs.Prelude.{◌≡◌, ℕ, suc, ◌==◌, ◌<◌, ◌⊎◌, ◌↔◌, Bool, true, false, ◌&&◌, not, cond, List, [], ◌∷◌, ◌++◌, length, take, Option, Some, None, IsSome, IsTrue, nat_lt, filter, fold, map, unwrap_or}
+use Rattle.std.specs.Prelude.{◌≡◌, ℕ, suc, ◌==◌, ◌<◌, ◌↔◌, Bool, true, false, ◌&&◌, List, [], ◌∷◌, ◌++◌, length, IsSome, IsTrue, nat_lt, filter, fold, map}
 use Rattle.std.specs.Option.{option_map_or}
 use Rattle.std.specs.FinMap.{FinMap, get, insert, entries}
 use Rattle.sfs_base.specs.declared.numbers.Kind.{Kind}

@@ -1,5 +1,5 @@
 -- What a store of rows and nodes is seen as.
-use Rattle.std.specs.Prelude.{ℕ, ◌<◌, ◌⊎◌, IsSome, List, refl}
+use Rattle.std.specs.Prelude.{ℕ, ◌<◌, ◌⊎◌, IsSome, refl}
 use Rattle.std.specs.Coded.{Coded, code_by, coded×, coded_ℕ, coded_list}
 use Rattle.std.specs.Ordering.{nat_cmp}
 use Rattle.std.specs.FinMap.{FinMap, code, get}

@@ -1,8 +1,7 @@
 -- What each call answers and does: the table of the calls, the first condition that holds.
-use Rattle.std.specs.Prelude.{ℕ, Bool, not, List, Option, Some, None, is_some, nat_le, if◌then◌else◌}
+use Rattle.std.specs.Prelude.{ℕ, not, List, Option, Some, None, is_some, nat_le, if◌then◌else◌}
 use Rattle.std.specs.FinMap.{len}
 use Rattle.sfs_base.specs.declared.numbers.Kind.{Kind}
-use Rattle.sfs_base.specs.declared.numbers.NodeId.{NodeId}
 use Rattle.sfs_base.specs.Name.{bucket}
 use Rattle.sfs_tree.specs.declared.call.Call.{Call}
 use Rattle.sfs_tree.specs.declared.call.Call.TheVariants as call

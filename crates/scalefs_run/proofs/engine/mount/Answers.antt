@@ -1,7 +1,7 @@
 -- A run begins with the rows that opening gave.
 use Rattle.std.proofs.Common.{List, [], refl, sym, subst}
 use Rattle.sfs_tree.specs.declared.history.Entry.{Entry}
-use Rattle.scalefs_run.specs.Stands.{Begins, Stands}
+use Rattle.scalefs_run.specs.Stands.{Stands}
 use Rattle.scalefs_run.specs.declared.flush.Store.{Store}
 use Rattle.scalefs_run.proofs.Begun.{stands_first}
 use Rattle.std.proofs.Common.{None}

@@ -1,5 +1,5 @@
 -- A call is made: a directory, or an fsync.
-use Rattle.std.proofs.Common.{◌≡◌, Vec, Global, vec_len, is_some, unwrap_or, arith, ℕ, List, [], ◌∷◌, ◌++◌, Option, None, length, refl, sym, ap, subst, ◌∙◌}
+use Rattle.std.proofs.Common.{◌≡◌, Vec, Global, vec_len, is_some, unwrap_or, arith, ℕ, List, [], ◌∷◌, ◌++◌, Option, None, length, sym, ap, subst, ◌∙◌}
 use Rattle.sfs_dev.specs.Disk.{View}
 use Rattle.sfs_tree.specs.declared.call.Call.{Call}
 use Rattle.sfs_tree.specs.declared.call.Call.TheVariants.{Make, Fsync}
@@ -9,7 +9,6 @@ use Rattle.sfs_tree.specs.Tree.{TreeState}
 use Rattle.sfs_tree.specs.Verdict.{verdict, tree_after_call}
 use Rattle.script.specs.Calls.{call_of}
 use Rattle.area_pair.specs.declared.area.Row.{Row}
-use Rattle.area_pair.specs.declared.area.Current.{Current}
 use Rattle.area_pair.specs.Settled.{ReadsAs}
 use Rattle.sfs_base.specs.declared.numbers.Kind.TheVariants.{Directory}
 use Rattle.scalefs_run.specs.Flushed.{HasFlushed}
@@ -18,7 +17,7 @@ use Rattle.scalefs_run.specs.Stands.{Stands}
 use Rattle.scalefs_run.specs.declared.engine.Engine.{Engine}
 use Rattle.scalefs_run.specs.declared.flush.Flushed.{Flushed}
 use Rattle.scalefs_run.specs.declared.flush.Store.{Store}
-use Rattle.scalefs_run.proofs.Standing.{stands_made, stands_flushed, made_entry, flushed_entry}
+use Rattle.scalefs_run.proofs.Standing.{stands_made, stands_flushed}
 use Rattle.scalefs_run.proofs.engine.serve_one.Goals.{in-Mkdir, in-Fsync}
 use Rattle.scalefs_run.proofs.engine.serve_one.Goals as goal
 

@@ -1,10 +1,8 @@
-use Rattle.std.proofs.Common.{◌≡◌, ◌+◌, ◌<◌, ◌≤◌, List, [], ◌∷◌, ◌++◌, None, IsTrue, refl, sym, ap, subst, ◌∙◌, arith}
+use Rattle.std.proofs.Common.{◌<◌, ◌≤◌, ◌∷◌, IsTrue, refl, sym, ap, subst, ◌∙◌, arith}
 use Rattle.std.specs.FinMap.{len}
 use Rattle.sfs_base.specs.Name.{bucket}
 use Rattle.sfs_tree.specs.Tree.{TreeState, row_of, is_directory, bucket_rows}
-use Rattle.area_pair.specs.declared.area.Row.{Row}
-use Rattle.area_pair.specs.Sound.{AreRoots}
-use Rattle.scalefs_run.specs.First.{first_tree, with_root_row}
+use Rattle.scalefs_run.specs.First.{with_root_row}
 use Rattle.scalefs_run.proofs.Opened.{roots_popped, popped, first_more, first_absent, first_directory, first_room, roots_rest}
 use Rattle.scalefs_run.proofs.first.tree_of_rows.Goals as goal
 

@@ -1,5 +1,4 @@
-use Rattle.std.proofs.Common.{◌≡◌, ◌≤◌, List, length, sym, ap, subst, ◌∙◌, arith}
-use Rattle.area_pair.specs.declared.area.Row.{Row}
+use Rattle.std.proofs.Common.{◌≡◌, length, sym, ap, subst, ◌∙◌, arith}
 use Rattle.area_pair.specs.Rows.{KeepsApart}
 use Rattle.scalefs_run.specs.Flushed.{rows_of_root}
 use Rattle.scalefs_run.proofs.Rooted.{linked_apart, length-rows_of_root}

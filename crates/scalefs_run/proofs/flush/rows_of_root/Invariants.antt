@@ -1,4 +1,4 @@
-use Rattle.std.proofs.Common.{◌≡◌, ◌≤◌, map, take, length}
+use Rattle.std.proofs.Common.{◌≡◌, map, take}
 use Rattle.std.specs.FinMap.{entries}
 use Rattle.sfs_tree.specs.NameRow.{entry_of}
 use Rattle.sfs_tree.specs.Tree.{names_of}

@@ -1,10 +1,8 @@
-use Rattle.std.proofs.Common.{Result, Err, Vec, Global, ℕ, sym, ap, subst, ◌∙◌}
+use Rattle.std.proofs.Common.{Err, ℕ, sym, ap, subst}
 use Rattle.sfs_base.specs.Ends.{Rose}
-use Rattle.sfs_base.specs.Transfer.{ReadsAll}
-use Rattle.sfs_base.specs.declared.transfer.ReadAllFault.{ReadAllFault}
 use Rattle.scalefs_run.specs.Outcome.{HasReadFault, IsOf}
 use Rattle.scalefs_run.specs.declared.outcome.Status.{Status}
-use Rattle.std.specs.Prelude.{List, ◌≡◌}
+use Rattle.std.specs.Prelude.{List}
 use Rattle.scalefs_run.proofs.Serving.{read_fault}
 use Rattle.scalefs_run.proofs.top.read_script.Goals as goal
 

@@ -1,5 +1,5 @@
 -- Each way in which a script ends that was read.
-use Rattle.std.proofs.Common.{◌≡◌, ℕ, List, [], Option, refl, sym, ap, subst, ◌∙◌}
+use Rattle.std.proofs.Common.{List, refl, sym, ap, subst}
 use Rattle.sfs_base.specs.Ends.{Rose}
 use Rattle.sfs_tree.specs.declared.history.Entry.{Entry}
 use Rattle.area_pair.specs.Fault.{IsFault}

@@ -1,11 +1,10 @@
 -- Each way in which a run ends.
-use Rattle.std.proofs.Common.{◌≡◌, ℕ, List, [], map, string_bytes, refl, sym, ap, subst, ◌∙◌}
+use Rattle.std.proofs.Common.{List, map, string_bytes, sym, subst, ◌∙◌}
 use Rattle.sfs_base.specs.Ends.{Rose}
 use Rattle.sfs_tree.specs.declared.history.Entry.{Entry}
-use Rattle.scalefs_run.specs.declared.outcome.Status.{Status}
 use Rattle.scalefs_run.specs.declared.outcome.Status.TheVariants.{BadWords}
 use Rattle.scalefs_run.specs.Served.{ServedScript}
-use Rattle.scalefs_run.proofs.Serving.{served_words, served_unread, served_read}
+use Rattle.scalefs_run.proofs.Serving.{served_words, served_unread}
 use Rattle.scalefs_run.proofs.top.serve_words.Goals as goal
 
 pub returns-then-not-is_run-clause-served : goal.returns-then-not-is_run-clause-served

@@ -1,5 +1,4 @@
-use Rattle.std.proofs.Common.{◌≡◌, ◌+◌, ◌-◌, ◌∷◌, List, ℕ, suc, [], length, take, drop, sym, ap, ◌∙◌, arith, refl, subst}
-use Rattle.std.proofs.lemmas.List.{take_rest}
+use Rattle.std.proofs.Common.{◌∷◌, suc, drop, sym, ap, ◌∙◌}
 use Rattle.script.specs.Lines.{lines}
 use Rattle.script.proofs.LineLemmas.{lines-ended, lines_open, split_line, split_open}
 use Rattle.script.proofs.lines.first_line.Goals as goal

@@ -1,6 +1,6 @@
 use Rattle.std.specs.Prelude.{bytes_eq, nat_eq}
 use Rattle.std.specs.List.{starts_with}
-use Rattle.std.proofs.Common.{◌≡◌, List, ℕ, length, drop, take, sym, ap, ◌∙◌, arith}
+use Rattle.std.proofs.Common.{sym, ap, ◌∙◌}
 use Rattle.std.proofs.lemmas.List.{take_rest}
 use Rattle.script.specs.Commands.{is_plain_name}
 use Rattle.script.proofs.NameLemmas.{mkdir_read}

@@ -1,4 +1,4 @@
-use Rattle.std.proofs.Common.{◌≡◌, ◌⊎◌, inl, inr, Option, Some, None, sym, ◌∙◌}
+use Rattle.std.proofs.Common.{◌≡◌, inl, inr, Some, None, sym, ◌∙◌}
 use Rattle.sfs_base.specs.declared.name.NameFault.{NameFault}
 use Rattle.script.proofs.NameLemmas.{name_fault-plain}
 use Rattle.script.proofs.reader.plain_name.Goals as goal

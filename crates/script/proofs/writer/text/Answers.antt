@@ -1,4 +1,4 @@
-use Rattle.std.proofs.Common.{◌≡◌, ◌∙◌, sym, ap, arith, vec_items}
+use Rattle.std.proofs.Common.{◌∙◌, sym, ap, arith, vec_items}
 use Rattle.std.proofs.lemmas.Option.{slice_get_within}
 use Rattle.script.proofs.TextLemmas.{entry_more, entries_all}
 use Rattle.script.proofs.writer.text.Goals as goal

@@ -1,4 +1,4 @@
-use Rattle.std.proofs.Common.{◌≡◌, ◌++◌, ap, ◌∙◌, string_bytes}
+use Rattle.std.proofs.Common.{◌++◌, ap, ◌∙◌, string_bytes}
 use Rattle.percent_encoding.specs.Percent.{percent_encode}
 use Rattle.script.specs.declared.writer.TheConstants.{ESCAPED}
 use Rattle.script.proofs.TextLemmas.{percent_encode-name_text}

@@ -1,12 +1,8 @@
-use Rattle.std.proofs.Common.{◌≡◌, ◌≤◌, ℕ, suc, Bool, true, false, cond, bytes_eq, ◌∷◌, List, Option, None, Some, map, drop, refl, sym, ap, ◌∙◌, arith}
+use Rattle.std.proofs.Common.{true, false, bytes_eq, map, sym, ap, ◌∙◌, arith}
 use Rattle.std.proofs.Math.ListN.{drop_of_length-le}
-use Rattle.std.proofs.Math.Seq.{drop-cons}
-use Rattle.std.proofs.lemmas.Map.Text.{is_eq-slice_cmp}
 use Rattle.std.specs.Cmp.Lexicographic.{nat_list_cmp_total}
-use Rattle.std.specs.Cmp.{eq_by_cmp_equiv}
 use Rattle.sfs_tree.specs.Order.{name_cmp}
 use Rattle.sfs_tree.specs.NameRow.{entry_of}
-use Rattle.sfs_tree.specs.declared.name_map.NameRow.{NameRow}
 use Rattle.sfs_tree.proofs.Search.{first_if}
 use Rattle.sfs_tree.proofs.NameRows.{find-at_place, find-at_row}
 use Rattle.sfs_tree.proofs.name_map.child_at.Goals as goal

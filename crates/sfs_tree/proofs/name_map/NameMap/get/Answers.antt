@@ -1,5 +1,5 @@
-use Rattle.std.proofs.Common.{◌≡◌, refl, sym, ap, ◌∙◌, map, subst}
-use Rattle.std.specs.FinMap.{get, find, from_sorted}
+use Rattle.std.proofs.Common.{sym, ap, ◌∙◌, map}
+use Rattle.std.specs.FinMap.{get, find}
 use Rattle.sfs_tree.specs.Order.{name_cmp}
 use Rattle.sfs_tree.specs.NameRow.{entry_of}
 use Rattle.sfs_tree.proofs.NameRows.{get-map_of}

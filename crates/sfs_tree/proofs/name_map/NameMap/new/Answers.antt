@@ -1,5 +1,5 @@
-use Rattle.std.proofs.Common.{◌≡◌, sym, ap, ◌∙◌, map, [], length, refl}
-use Rattle.std.specs.FinMap.{from_sorted, empty, empty_of_len, len, len-entries, entries-from_sorted}
+use Rattle.std.proofs.Common.{ap, ◌∙◌, map, [], length}
+use Rattle.std.specs.FinMap.{from_sorted, empty_of_len, len-entries, entries-from_sorted}
 use Rattle.sfs_tree.specs.Order.{name_cmp}
 use Rattle.sfs_tree.specs.NameRow.{entry_of}
 use Rattle.sfs_tree.proofs.name_map.NameMap.new.Goals as goal

@@ -1,7 +1,7 @@
-use Rattle.std.proofs.Common.{◌≡◌, ℕ, zero, suc, ◌+◌, ◌*◌, ◌<◌, ◌≤◌, List, [], ◌∷◌, ◌++◌, length, set, get_or, replicate, Option, Some, None, option_map, refl, sym, ap, subst, ◌∙◌, arith, slice_index, count_by, vec_len}
+use Rattle.std.proofs.Common.{◌≡◌, [], ◌∷◌, ◌++◌, length, None, ap, ◌∙◌, arith}
 use Rattle.sfs_tree.specs.StoreState.{StoreState}
 use Rattle.sfs_tree.specs.Buckets.{joined}
-use Rattle.sfs_tree.specs.Store.{IsStored, numbered}
+use Rattle.sfs_tree.specs.Store.{numbered}
 use Rattle.sfs_tree.proofs.Stored.{IsStored-place, joined-grown}
 use Rattle.sfs_tree.proofs.Numbered.{numbered-push}
 use Rattle.sfs_tree.proofs.store.Store.add_place.Goals as goal

@@ -1,9 +1,8 @@
-use Rattle.std.proofs.Common.{◌≡◌, ℕ, zero, suc, ◌+◌, ◌*◌, ◌<◌, ◌≤◌, List, [], ◌∷◌, ◌++◌, length, set, get_or, replicate, Option, Some, None, option_map, refl, sym, ap, subst, ◌∙◌, arith, slice_index, count_by, vec_len}
+use Rattle.std.proofs.Common.{◌+◌, ◌*◌, sym, ap, ◌∙◌, arith}
 use Rattle.std.specs.FinMap.{empty}
 use Rattle.std.proofs.lemmas.List.{get_or_past, get_or_read}
 use Rattle.sfs_tree.specs.StoreState.{StoreState}
 use Rattle.sfs_tree.specs.Tree.{bucket_rows}
-use Rattle.sfs_tree.specs.Buckets.{joined, bucket_at}
 use Rattle.sfs_tree.proofs.Names.{bucket_rows-joined}
 use Rattle.sfs_tree.proofs.store.Store.bucket.Goals as goal
 

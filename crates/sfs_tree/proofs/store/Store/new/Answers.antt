@@ -1,5 +1,3 @@
-use Rattle.std.proofs.Common.{◌≡◌, ℕ, zero, suc, ◌+◌, ◌*◌, ◌<◌, ◌≤◌, List, [], ◌∷◌, ◌++◌, length, set, get_or, replicate, Option, Some, None, option_map, refl, sym, ap, subst, ◌∙◌, arith, slice_index, count_by, vec_len}
-use Rattle.sfs_tree.specs.Store.{IsStored}
 use Rattle.sfs_tree.proofs.Stored.{IsStored-new}
 use Rattle.sfs_tree.proofs.store.Store.new.Goals as goal
 

@@ -1,7 +1,7 @@
-use Rattle.std.proofs.Common.{◌≡◌, ℕ, zero, suc, ◌+◌, ◌*◌, ◌<◌, ◌≤◌, List, [], ◌∷◌, ◌++◌, length, set, get_or, replicate, Option, Some, None, option_map, refl, sym, ap, subst, ◌∙◌, arith, slice_index, count_by, vec_len}
+use Rattle.std.proofs.Common.{◌≡◌, length, ap, ◌∙◌, arith}
 use Rattle.std.specs.FinMap.{insert}
 use Rattle.sfs_tree.specs.StoreState.{StoreState}
-use Rattle.sfs_tree.specs.Store.{numbered, node_of}
+use Rattle.sfs_tree.specs.Store.{node_of}
 use Rattle.sfs_tree.proofs.Numbered.{numbered-set}
 use Rattle.sfs_tree.proofs.store.Store.put_node.Goals as goal
 

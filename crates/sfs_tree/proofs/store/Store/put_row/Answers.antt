@@ -1,6 +1,5 @@
-use Rattle.std.proofs.Common.{◌≡◌, ℕ, zero, suc, ◌+◌, ◌*◌, ◌<◌, ◌≤◌, Bool, true, false, List, [], ◌∷◌, ◌++◌, length, set, get_or, replicate, Option, Some, None, is_some, option_map, refl, sym, ap, subst, ◌∙◌, arith, slice_index, count_by, vec_len}
+use Rattle.std.proofs.Common.{◌+◌, ◌*◌, ◌<◌, set, sym, ap, subst, ◌∙◌, arith, vec_len}
 use Rattle.std.specs.FinMap.{get, insert}
-use Rattle.sfs_base.specs.Name.{bucket}
 use Rattle.sfs_tree.specs.StoreState.{StoreState}
 use Rattle.sfs_tree.specs.Buckets.{joined, bucket_at}
 use Rattle.sfs_tree.proofs.Stored.{MayStand, may_stand, in_bucket, absent_there, IsStored-row, rows_with, named_small, inside_small}

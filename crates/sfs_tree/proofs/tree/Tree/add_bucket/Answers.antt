@@ -1,5 +1,5 @@
-use Rattle.std.proofs.Common.{◌≡◌, ℕ, zero, suc, ◌+◌, ◌*◌, ◌<◌, ◌≤◌, Bool, true, false, cond, nat_lt, List, [], ◌∷◌, ◌++◌, length, map, take, set, get_or, replicate, Option, Some, None, IsSome, IsTrue, OnOk, Ok, Err, is_some, option_map, refl, sym, ap, subst, ◌∙◌, arith, slice_index, count_by, vec_len}
-use Rattle.std.specs.FinMap.{get, find, entries, entries_sorted, is_sorted, get-entries, get-empty, empty}
+use Rattle.std.proofs.Common.{◌≡◌, ℕ, List, map, IsSome, IsTrue, OnOk, Ok, Err, sym, ap, subst, ◌∙◌}
+use Rattle.std.specs.FinMap.{get, find, entries_sorted, is_sorted, get-entries, get-empty}
 use Rattle.sfs_tree.specs.Order.{name_cmp}
 use Rattle.sfs_tree.specs.Tree.{bucket_rows, TreeState}
 use Rattle.sfs_tree.specs.NameRow.{either, entry_of}

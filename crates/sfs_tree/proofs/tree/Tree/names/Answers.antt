@@ -1,4 +1,4 @@
-use Rattle.std.proofs.Common.{◌≡◌, ℕ, zero, suc, ◌+◌, ◌*◌, ◌<◌, ◌≤◌, Bool, true, false, cond, nat_lt, List, [], ◌∷◌, ◌++◌, length, map, take, set, get_or, replicate, Option, Some, None, IsSome, IsTrue, is_some, option_map, refl, sym, ap, subst, ◌∙◌, arith, slice_index, count_by, vec_len}
+use Rattle.std.proofs.Common.{cond, nat_lt, None, sym, ap, ◌∙◌, arith}
 use Rattle.std.specs.FinMap.{get, get-empty}
 use Rattle.sfs_base.specs.Name.{bucket}
 use Rattle.sfs_tree.specs.Order.{name_cmp}
