@@ -1,0 +1,76 @@
+// Sources and sinks in memory, and the calls that read and write all.
+use sfs_base::{
+    BytesSink, BytesSource, ReadAllFault, Sink, Source, SureSource, WriteFault, read_all, write_all,
+};
+use std::alloc::Global;
+use std::process::Abort;
+use std::test::Fail;
+
+// Bytes 0 to 250, again and again.
+fn pattern(alloc: Global, count: u32) -> Result<Vec<u8>, Fail> {
+    let mut bytes = Vec::new(alloc);
+    for i in 0..count {
+        bytes.push((i % 251) as u8)?;
+    }
+    Ok(bytes)
+}
+
+// Asserts why a source can't be read whole.
+fn assert_refused<S: Source>(
+    rt: &impl Abort,
+    alloc: Global,
+    source: &mut S,
+    most: u64,
+    due: ReadAllFault,
+) {
+    match read_all(alloc, source, most) {
+        Err(fault) => assert_eq!(rt; fault, due),
+        Ok(_) => panic!(rt; "taken"),
+    }
+}
+
+#[test]
+fn a_source_is_read_to_its_end(rt: HostRuntime) -> Result<(), Fail> {
+    let alloc = rt.alloc();
+    let bytes = pattern(alloc, 40_000)?;
+    let mut source = BytesSource::new(bytes.clone()?, Vec::new(alloc));
+    assert_eq!(rt;
+        read_all(alloc, &mut source, 40_000)?.as_slice(),
+        bytes.as_slice()
+    );
+    assert_eq!(rt; source.faults(), 0);
+    let mut source = SureSource::new(bytes.clone()?);
+    assert_eq!(rt;
+        read_all(alloc, &mut source, 40_000)?.as_slice(),
+        bytes.as_slice()
+    );
+    assert_eq!(rt; read_all(alloc, &mut source, 0)?.len(), 0);
+    Ok(())
+}
+
+#[test]
+fn a_source_is_too_long_or_fails(rt: HostRuntime) -> Result<(), Fail> {
+    let alloc = rt.alloc();
+    let mut source = SureSource::new(pattern(alloc, 40_000)?);
+    assert_refused(&rt, alloc, &mut source, 39_999, ReadAllFault::TooLong);
+    let mut source = BytesSource::new(pattern(alloc, 40_000)?, vec![in alloc; 1]?);
+    assert_refused(&rt, alloc, &mut source, 40_000, ReadAllFault::ReadFault);
+    assert_eq!(rt; source.faults(), 1);
+    Ok(())
+}
+
+#[test]
+fn a_sink_takes_all_or_fails(rt: HostRuntime) -> Result<(), Fail> {
+    let mut sink = BytesSink::new(rt.alloc(), vec![in rt.alloc(); 2]?);
+    sink.reserve(100)?;
+    assert_eq!(rt; write_all(&mut sink, b"hello".as_slice()), Ok(()));
+    assert_eq!(rt; write_all(&mut sink, b"".as_slice()), Ok(()));
+    assert_eq!(rt; write_all(&mut sink, b"you".as_slice()), Ok(()));
+    assert_eq!(rt;
+        write_all(&mut sink, b"no".as_slice()),
+        Err(WriteFault { taken: 0 })
+    );
+    assert_eq!(rt; sink.bytes(), b"helloyou".as_slice());
+    assert_eq!(rt; sink.faults(), 1);
+    Ok(())
+}

@@ -1,0 +1,81 @@
+// The bytes of a file and the marks of its blocks.
+use mem_files::{FileBytes, LONGEST_FILE, Touched};
+use sfs_base::Stamp;
+use std::test::Fail;
+
+const NONE: Touched = Touched { first: 0, end: 0 };
+
+#[test]
+fn a_write_touches_the_blocks_that_it_overlaps(rt: HostRuntime) -> Result<(), Fail> {
+    let mut file = FileBytes::new(rt.alloc());
+    assert_eq!(rt;
+        file.write(4_090, b"0123456789".as_slice())?,
+        Touched { first: 0, end: 2 }
+    );
+    assert_eq!(rt; file.write(0, b"".as_slice())?, NONE);
+    assert_eq!(rt; file.size(), 4_100);
+    let mut buffer = [9u8; 14];
+    assert_eq!(rt; file.read(4_088, &mut buffer), 12);
+    assert_eq!(rt;
+        buffer,
+        [
+            0, 0, b'0', b'1', b'2', b'3', b'4', b'5', b'6', b'7', b'8', b'9', 9, 9
+        ]
+    );
+    assert_eq!(rt; file.read(4_100, &mut buffer), 0);
+    Ok(())
+}
+
+#[test]
+fn a_truncation_touches_the_blocks_that_had_bytes(rt: HostRuntime) -> Result<(), Fail> {
+    let mut file = FileBytes::new(rt.alloc());
+    assert_eq!(rt;
+        file.write(67_551_231, b"x".as_slice())?,
+        Touched {
+            first: 16_491,
+            end: 16_492
+        }
+    );
+    assert_eq!(rt; file.size(), 67_551_232);
+    assert_eq!(rt;
+        file.trunc(4_096)?,
+        Touched {
+            first: 1,
+            end: 16_492
+        }
+    );
+    assert_eq!(rt; file.trunc(4_096)?, NONE);
+    assert_eq!(rt; file.trunc(5_000)?, NONE);
+    assert_eq!(rt; file.size(), 5_000);
+    Ok(())
+}
+
+#[test]
+fn what_was_cut_off_is_zeros_afterwards(rt: HostRuntime) -> Result<(), Fail> {
+    let mut file = FileBytes::new(rt.alloc());
+    assert_eq!(rt;
+        file.write(3, b"hi".as_slice())?,
+        Touched { first: 0, end: 1 }
+    );
+    assert_eq!(rt; file.trunc(4)?, Touched { first: 0, end: 1 });
+    assert_eq!(rt; file.trunc(6)?, NONE);
+    let mut buffer = [9u8; 8];
+    assert_eq!(rt; file.read(0, &mut buffer), 6);
+    assert_eq!(rt; buffer, [0, 0, 0, b'h', 0, 0, 9, 9]);
+    Ok(())
+}
+
+#[test]
+fn blocks_keep_their_marks(rt: HostRuntime) -> Result<(), Fail> {
+    let mut file = FileBytes::new(rt.alloc());
+    let touched = file.write(4_000, b"0123".as_slice())?;
+    assert_eq!(rt; file.last(0), None);
+    file.mark(touched, Stamp(7));
+    assert_eq!(rt; file.last(0), Some(Stamp(7)));
+    assert_eq!(rt; file.last(1), None);
+    let copy = file.copy()?;
+    assert_eq!(rt; copy.size(), 4_004);
+    assert_eq!(rt; copy.last(0), Some(Stamp(7)));
+    assert!(rt; LONGEST_FILE >= 67_551_232);
+    Ok(())
+}

@@ -1,0 +1,24 @@
+//! The formats, the maps, the pages, the ends and the disks: each call once, each fault once, with
+//! values worked out by hand.
+#![tactic(auto)]
+
+#[cfg(test)]
+mod areas;
+#[cfg(test)]
+mod disks;
+#[cfg(test)]
+mod ends;
+#[cfg(test)]
+mod files;
+#[cfg(test)]
+mod inodes;
+#[cfg(test)]
+mod journal;
+#[cfg(test)]
+mod names;
+#[cfg(test)]
+mod slots;
+#[cfg(test)]
+mod space;
+#[cfg(test)]
+mod superblock;

@@ -1,0 +1,96 @@
+ghost use Rattle.space_map.specs.Space.{AllGranted};
+
+// Free space: of blocks 4 to below 9 all but 5 and 7, and of inodes 0 to below 4 all but 0.
+use sfs_base::SpaceKind;
+use space_map::{Grant, Need, SpaceFault, SpaceMap};
+use std::alloc::Global;
+use std::process::Abort;
+use std::test::Fail;
+
+// That map.
+fn map(alloc: Global) -> Result<SpaceMap, Fail> {
+    Ok(SpaceMap::new(alloc, 4, 9, 4, &[7, 5], &[0])?)
+}
+
+// Asserts why a need is not met.
+fn assert_short(rt: &impl Abort, map: &mut SpaceMap, need: Need, due: SpaceFault) {
+    match map.reserve(need) {
+        Err(fault) => assert_eq!(rt; fault, due),
+        Ok(_) => panic!(rt; "granted"),
+    }
+}
+
+// Asserts what is granted.
+fn assert_granted(rt: &impl Abort, grant: &Grant, inodes: &[u32], blocks: &[u32]) {
+    assert_eq!(rt; grant.inodes.as_slice(), inodes);
+    assert_eq!(rt; grant.blocks.as_slice(), blocks);
+}
+
+// A need that is met.
+fn reserve(rt: &impl Abort, map: &mut SpaceMap, inodes: u32, blocks: u32) -> Grant
+    ensures inodes { AllGranted map.new.inodes result.inodes.items }
+    ensures blocks { AllGranted map.new.blocks result.blocks.items }
+{
+    match map.reserve(Need { inodes, blocks }) {
+        Ok(grant) => grant,
+        Err(_) => panic!(rt; "refused"),
+    }
+}
+
+#[test]
+fn too_much_is_refused_inodes_first(rt: HostRuntime) -> Result<(), Fail> {
+    let mut map = map(rt.alloc())?;
+    let inodes = SpaceFault::NoSpace {
+        kind: SpaceKind::Inodes,
+        need: 4,
+        free: 3,
+    };
+    assert_short(
+        &rt,
+        &mut map,
+        Need {
+            inodes: 4,
+            blocks: 9,
+        },
+        inodes,
+    );
+    let blocks = SpaceFault::NoSpace {
+        kind: SpaceKind::Blocks,
+        need: 4,
+        free: 3,
+    };
+    assert_short(
+        &rt,
+        &mut map,
+        Need {
+            inodes: 3,
+            blocks: 4,
+        },
+        blocks,
+    );
+    Ok(())
+}
+
+#[test]
+fn a_grant_is_given_back(rt: HostRuntime) -> Result<(), Fail> {
+    let mut map = map(rt.alloc())?;
+    let grant = reserve(&rt, &mut map, 2, 3);
+    assert_granted(&rt, &grant, &[1, 2], &[4, 6, 8]);
+    map.give_back(grant);
+    let again = reserve(&rt, &mut map, 3, 3);
+    assert_granted(&rt, &again, &[1, 2, 3], &[4, 6, 8]);
+    map.give_back(again);
+    Ok(())
+}
+
+#[test]
+fn a_grant_ends_and_what_was_given_up_is_free(rt: HostRuntime) -> Result<(), Fail> {
+    let mut map = map(rt.alloc())?;
+    let grant = reserve(&rt, &mut map, 1, 3);
+    assert_granted(&rt, &grant, &[1], &[4, 6, 8]);
+    map.free_after(grant, &[5], &[0]);
+    let after = reserve(&rt, &mut map, 3, 1);
+    assert_granted(&rt, &after, &[0, 2, 3], &[5]);
+    map.give_back(after);
+    Ok(())
+}

@@ -1,0 +1,13 @@
+//! Runs of the top call over disks in memory, with their texts and statuses worked out by hand.
+#![tactic(auto)]
+
+#[cfg(test)]
+mod bench;
+#[cfg(test)]
+mod ends;
+#[cfg(test)]
+mod histories;
+#[cfg(test)]
+mod statuses;
+#[cfg(test)]
+mod words;

@@ -1,0 +1,78 @@
+// Words and scripts that are refused before the disk is touched.
+use crate::bench::{Ran, fresh, run_alone, run_between, run_script};
+use scalefs_run::Status;
+use sfs_base::{BytesSink, BytesSource, Measure};
+use sfs_dev::Disk;
+use std::alloc::Global;
+use std::process::Abort;
+use std::sync::Wait;
+use std::test::Fail;
+use std::thread::Threads;
+
+// Asserts that nothing happened but the status.
+fn assert_untouched(rt: &impl Abort, ran: &Ran) {
+    assert!(rt; ran.history.is_empty());
+    assert!(rt; ran.text.is_empty());
+    assert_eq!(rt; ran.disk.now(), 0);
+}
+
+// Runs the smallest script with these words.
+fn run_words<R: Threads + Wait + Sync + Abort>(
+    rt: &R,
+    alloc: Global,
+    words: &[String],
+) -> Result<Ran, Fail> {
+    let script = Vec::from_slice(alloc, b"0 mkdir /a\n".as_slice())?;
+    let source = BytesSource::new(script, Vec::new(alloc));
+    let sink = BytesSink::new(alloc, Vec::new(alloc));
+    run_between(rt, alloc, words, source, sink, fresh(alloc)?)
+}
+
+#[test]
+fn only_the_word_run_is_a_command(rt: HostRuntime) -> Result<(), Fail> {
+    let bad = Status::BadWords { place: 0 };
+    let mut words = Vec::new(rt.alloc());
+    let ran = run_words(&rt, rt.alloc(), &words)?;
+    assert_eq!(rt; ran.status, bad);
+    assert_untouched(&rt, &ran);
+    words.push(String::from_str(rt.alloc(), "--help")?)?;
+    let ran = run_words(&rt, rt.alloc(), &words)?;
+    assert_eq!(rt; ran.status, bad);
+    assert_untouched(&rt, &ran);
+    let mut words = run_alone(rt.alloc())?;
+    words.push(String::from_str(rt.alloc(), "run")?)?;
+    let ran = run_words(&rt, rt.alloc(), &words)?;
+    assert_eq!(rt; ran.status, bad);
+    assert_untouched(&rt, &ran);
+    Ok(())
+}
+
+#[test]
+fn a_bad_line_is_named(rt: HostRuntime) -> Result<(), Fail> {
+    let ran = run_script(&rt, rt.alloc(), b"x".as_slice(), fresh(rt.alloc())?)?;
+    assert_eq!(rt; ran.status, Status::BadScript { line: 1 });
+    assert_untouched(&rt, &ran);
+    let ran = run_script(
+        &rt,
+        rt.alloc(),
+        b"0 mkdir /a\n0 fsync /\nx\n".as_slice(),
+        fresh(rt.alloc())?,
+    )?;
+    assert_eq!(rt; ran.status, Status::BadScript { line: 3 });
+    assert_untouched(&rt, &ran);
+    Ok(())
+}
+
+#[test]
+fn a_script_past_16_mib_is_too_long(rt: HostRuntime) -> Result<(), Fail> {
+    let script = vec![in rt.alloc(); b'#'; 16_777_217]?;
+    let ran = run_script(&rt, rt.alloc(), &script, fresh(rt.alloc())?)?;
+    assert_eq!(rt;
+        ran.status,
+        Status::TooLong {
+            measure: Measure::Bytes
+        }
+    );
+    assert_untouched(&rt, &ran);
+    Ok(())
+}

@@ -1,0 +1,11 @@
+//! The tree of one thread, its history, and the script with its texts, with values worked out by hand.
+#![tactic(auto)]
+
+#[cfg(test)]
+mod histories;
+#[cfg(test)]
+mod scripts;
+#[cfg(test)]
+mod texts;
+#[cfg(test)]
+mod trees;
