@@ -25,7 +25,7 @@ use Rattle.scalefs_run.specs.Shown.{shown, shown_at, last_flush}
 use Rattle.scalefs_run.specs.Stands.{Stands, root_shown}
 use Rattle.scalefs_run.specs.declared.flush.Store.{Store}
 use Rattle.scalefs_run.proofs.Grown.{grown}
-use Rattle.scalefs_run.proofs.Pushed.{AreAnswered-push, has_failed-push, last_flush-push, shown_at-push, shown_at-end}
+use Rattle.scalefs_run.proofs.Pushed.{or_false, AreAnswered-push, has_failed-push, last_flush-push, shown_at-push, shown_at-end}
 use Rattle.scalefs_run.proofs.Rooted.{length-rows_of_root}
 use Rattle.scalefs_run.proofs.Shows.{shown-numbered}
 
@@ -94,10 +94,6 @@ module _ (start : ℕ) (opened : List Row) (history : List Entry) (tree : TreeSt
         read = λ none. let found = so_far.read none in (found.0, found.1, found.2 ∙ sym shows);
         later = so_far.later;
       }
-    where
-      or_false : (a : Bool) → (a || false) ≡ a
-      or_false true = refl
-      or_false false = refl
 
   reply_due : (reply : Reply) → IsAnswered (is_some store.failed) (unwrap_or store.failed 0) (root_rows tree) reply → IsFsyncReply reply
   reply_due reply.Ok h = tt
@@ -164,10 +160,6 @@ module _ (start : ℕ) (opened : List Row) (history : List Entry) (tree : TreeSt
         later = let first_later = so_far.later in let then_later = goes.never_falls in omega arith;
       }
     where
-      or_false : (a : Bool) → (a || false) ≡ a
-      or_false true = refl
-      or_false false = refl
-
       kept_on : (failed : Option ℕ) → IfSome failed (λ f. f ≡ disk.faults) → IfSome failed (λ f. f ≡ disk_after.faults)
       kept_on None h = tt
       kept_on (Some f) h = h ∙ sym faults
@@ -204,10 +196,6 @@ module _ (start : ℕ) (opened : List Row) (history : List Entry) (tree : TreeSt
         later = let first_later = so_far.later in let then_later = goes.never_falls in omega arith;
       }
     where
-      or_false : (a : Bool) → (a || false) ≡ a
-      or_false true = refl
-      or_false false = refl
-
       not_failed : (failed : Option ℕ) (kept : ℕ) → is_some failed ≡ false → IfSome failed (λ faults. faults ≡ kept)
       not_failed None kept e = tt
       not_failed (Some f) kept e = absurd (let never : true ≡ false = e in cc)
