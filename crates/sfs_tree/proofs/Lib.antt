@@ -1,7 +1,7 @@
 pub mod Added
 pub mod Histories
 pub mod Joined
-pub mod NameRows
+pub mod RowsByName
 pub mod Names
 pub mod Numbered
 pub mod Search

@@ -1,20 +1,55 @@
 -- What a call does to the tree.
-use Rattle.std.specs.Prelude.{ℕ, ◌+◌, List, [], Option, Some, None, slice_set}
+use Rattle.std.specs.Prelude.{ℕ, ◌+◌, ◌-◌, List, [], ◌++◌, length, take, drop, replicate, Option, Some, None, option_map, slice_set}
 use Rattle.std.specs.Ordering.{nat_cmp}
-use Rattle.std.specs.FinMap.{FinMap, insert}
+use Rattle.std.specs.FinMap.{FinMap, get, insert, remove}
 use Rattle.sfs_base.specs.declared.numbers.Kind.{Kind}
 use Rattle.sfs_tree.specs.Order.{key_cmp}
 use Rattle.sfs_tree.specs.Tree.{TreeState, Node, made_by, next_number}
 
--- what becomes of the rows: nothing, or a row comes
+-- how a file's bytes change: bytes are put at a place, or the file gets a size
+pub data Edit : Type 0 where
+  Puts : (at : ℕ) (bytes : List ℕ) → Edit
+  Resizes : (size : ℕ) → Edit
+
+-- bytes at this size: the first of them, and zeros behind them where there are fewer
+abbrev pub with_size : ℕ → List ℕ → List ℕ
+with_size size bytes = take size bytes ++ replicate (size - length bytes) 0
+
+-- bytes with others put from byte `at` on; what lies between the old end and these is zero
+abbrev pub with_bytes : ℕ → List ℕ → List ℕ → List ℕ
+with_bytes at written bytes = with_size at bytes ++ written ++ drop (at + length written) bytes
+
+-- a file's bytes after an edit
+abbrev pub edited : Edit → List ℕ → List ℕ
+edited (Puts at written) bytes = with_bytes at written bytes
+edited (Resizes size) bytes = with_size size bytes
+
+-- what becomes of the tree: nothing; a row comes; a row goes; a row's child moves to another row, in place of what stands there;
+-- a file's bytes change
 pub data Effect : Type 0 where
   Stays : Effect
   Adds : (directory : ℕ) (name : List ℕ) (child : ℕ) → Effect
+  Removes : (directory : ℕ) (name : List ℕ) (child : ℕ) → Effect
+  Moves : (directory : ℕ) (name : List ℕ) (to_directory : ℕ) (to_name : List ℕ) (child : ℕ) → Effect
+  Edits : (file : ℕ) (edit : Edit) → Effect
 
 -- the rows after an effect
 abbrev pub rows_after : FinMap key_cmp ℕ → Effect → FinMap key_cmp ℕ
 rows_after rows Stays = rows
 rows_after rows (Adds directory name child) = insert rows (directory, name) child
+rows_after rows (Removes directory name child) = remove rows (directory, name)
+rows_after rows (Moves directory name to_directory to_name child) = insert (remove rows (directory, name)) (to_directory, to_name) child
+rows_after rows (Edits file edit) = rows
+
+-- nodes in which the bytes of one are changed, where it is there
+abbrev pub with_edit : FinMap nat_cmp Node → ℕ → Edit → Option Node → FinMap nat_cmp Node
+with_edit nodes file edit None = nodes
+with_edit nodes file edit (Some node) = insert nodes file (record node { bytes = edited edit node.bytes })
+
+-- the nodes after an effect
+abbrev pub edited_nodes : FinMap nat_cmp Node → Effect → FinMap nat_cmp Node
+edited_nodes nodes (Edits file edit) = with_edit nodes file edit (get nodes file)
+edited_nodes nodes _ = nodes
 
 -- the nodes, with an empty one of this kind where one is made
 abbrev pub nodes_after : FinMap nat_cmp Node → ℕ → Option Kind → FinMap nat_cmp Node
@@ -30,7 +65,7 @@ made_after made core before (Some kind) = slice_set made core (before + 1)
 abbrev pub tree_with : TreeState → ℕ → Effect → Option Kind → TreeState
 tree_with tree core effect makes = record {
   rows = rows_after tree.rows effect;
-  nodes = nodes_after tree.nodes (next_number tree core) makes;
+  nodes = nodes_after (edited_nodes tree.nodes effect) (next_number tree core) makes;
   first = tree.first;
   share = tree.share;
   made = made_after tree.made core (made_by tree core) makes;

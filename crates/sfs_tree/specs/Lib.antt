@@ -1,9 +1,14 @@
 pub mod Buckets
 pub mod Build
+pub mod Changes
 pub mod Effect
 pub mod History
+pub mod NameKinds
 pub mod NameRow
+pub mod Names
 pub mod Order
+pub mod Shape
+pub mod Sound
 pub mod Store
 pub mod StoreState
 pub mod Tree

@@ -1,9 +1,10 @@
 -- The tree of one thread: rows, nodes, and how many nodes each core has made.
-use Rattle.std.specs.Prelude.{◌≡◌, ℕ, ◌+◌, ◌*◌, Bool, true, false, not, ◌||◌, ◌&&◌, List, Option, Some, None, slice_index, ◌==◌, count_by, filter_map, refl, if◌then◌else◌}
+use Rattle.std.specs.Prelude.{◌≡◌, ℕ, zero, suc, ◌+◌, ◌*◌, Bool, true, false, not, ◌||◌, ◌&&◌, List, [], ◌∷◌, Option, Some, None, option_map, slice_index, ◌==◌, count_by, filter_map, refl, if◌then◌else◌}
+use Rattle.std.specs.List.{find, list_any}
 use Rattle.std.specs.Option.{option_map_or}
 use Rattle.std.specs.Coded.{Coded, code_by, coded×, coded_ℕ, coded_bool, coded_list}
 use Rattle.std.specs.Ordering.{nat_cmp}
-use Rattle.std.specs.FinMap.{FinMap, code, get, entries, from_sorted}
+use Rattle.std.specs.FinMap.{FinMap, code, get, entries, from_sorted, len}
 use Rattle.sfs_base.specs.declared.numbers.Kind.{Kind}
 use Rattle.sfs_base.specs.declared.numbers.Kind.TheVariants.{File, Directory}
 use Rattle.sfs_base.specs.Name.{bucket}
@@ -99,3 +100,42 @@ made_by tree core = slice_index tree.made core
 -- the number of the node that a core makes next
 abbrev pub next_number : TreeState → ℕ → ℕ
 next_number tree core = tree.first + core * tree.share + made_by tree core
+
+-- the kind of a node of the tree, and File for any other
+abbrev pub kind_of : TreeState → ℕ → Kind
+kind_of tree node = option_map_or (λ n. n.kind) (get tree.nodes node) File
+
+-- the bytes of a node of the tree, and none for any other
+abbrev pub bytes_of : TreeState → ℕ → List ℕ
+bytes_of tree node = option_map_or (λ n. n.bytes) (get tree.nodes node) []
+
+-- how many rows a directory has
+abbrev pub row_count : TreeState → ℕ → ℕ
+row_count tree directory = len (names_of directory tree.rows)
+
+-- whether a row stands in this directory and names a directory
+abbrev pub holds_directory : TreeState → ℕ → Key × ℕ → Bool
+holds_directory tree directory row = row.0.0 == directory && is_directory tree row.1
+
+-- a node's link count: of a directory 2 and the number of rows in it that name directories, of a file the number of rows that name it
+abbrev pub links_of : TreeState → ℕ → ℕ
+links_of tree node =
+    if is_directory tree node then 2 + count_by (holds_directory tree node) (entries tree.rows) else count_of tree.rows node
+
+-- a directory's holder: the directory of the row that names it, where there is one
+abbrev pub holder_of : TreeState → ℕ → Option ℕ
+holder_of tree node = option_map (λ row. row.0.0) (find (names_it node) (entries tree.rows))
+
+-- a directory and those that a walk from it meets, or none
+abbrev pub and_above : (ℕ → List ℕ) → Option ℕ → List ℕ
+and_above above None = []
+and_above above (Some holder) = holder ∷ above holder
+
+-- the directories that a walk up from a node meets, from its holder on, so many of them at most
+abbrev pub walk_up : ℕ → TreeState → ℕ → List ℕ
+walk_up zero tree node = []
+walk_up (suc steps) tree node = and_above (walk_up steps tree) (holder_of tree node)
+
+-- a node lies below a directory where walking up from the node through holders meets that directory
+abbrev pub lies_below : TreeState → ℕ → ℕ → Bool
+lies_below tree node directory = list_any (λ above. above == directory) (walk_up (len tree.rows) tree node)

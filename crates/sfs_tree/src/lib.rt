@@ -3,7 +3,9 @@
 
 mod call;
 mod history;
+mod listing;
 mod name_map;
+
 mod reply;
 mod store;
 mod tree;
@@ -12,6 +14,7 @@ mod turns;
 pub use call::Call;
 pub use history::{Cursor, Entry, History};
 pub use name_map::{NameMap, NameRow};
+pub use listing::{NameKind, NameRows};
 pub use reply::{Code, Reply};
 pub use tree::Tree;
 pub use turns::{Turn, TurnAct, Turns};

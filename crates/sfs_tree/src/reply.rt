@@ -1,4 +1,5 @@
-use sfs_base::{Kind, NodeId, SpaceKind};
+use crate::NameRows;
+use sfs_base::{Chunk, Kind, NodeId, SpaceKind};
 
 /// Why a call was refused.
 #[derive(Clone, Copy, Debug, PartialEq, Eq)]
@@ -6,17 +7,36 @@ pub enum Code {
     NoEntry,
     Exists,
     NotDir,
+    IsDir,
+    NotEmpty,
+    Invalid,
+    NotPermitted,
+    TooManyLinks,
+    FileTooBig,
     DirFull,
     NoNodes,
 }
 
 /// What a call answers. The last four are those of an fsync alone.
-#[derive(Clone, Copy, Debug, PartialEq, Eq)]
+#[derive(Debug, Drop)]
 pub enum Reply {
     Ok,
     Node {
         node: NodeId,
         kind: Kind,
+    },
+    Bytes {
+        bytes: Chunk,
+    },
+    /// A file's size is in bytes, a directory's is its number of rows.
+    Stat {
+        kind: Kind,
+        links: u32,
+        size: u64,
+    },
+    /// Names ascending by their bytes.
+    Names {
+        rows: NameRows,
     },
     Error {
         code: Code,

@@ -147,6 +147,7 @@ impl Tree {
         match call {
             Call::Make { dir, name, kind } => self.make(core, *dir, name, *kind),
             Call::Fsync { node } => Ok(self.fsync(*node)),
+            _ => Err(NoMemory),
         }
     }
 

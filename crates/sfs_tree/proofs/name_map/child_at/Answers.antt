@@ -4,7 +4,7 @@ use Rattle.std.specs.Cmp.Lexicographic.{nat_list_cmp_total}
 use Rattle.sfs_tree.specs.Order.{name_cmp}
 use Rattle.sfs_tree.specs.NameRow.{entry_of}
 use Rattle.sfs_tree.proofs.Search.{first_if}
-use Rattle.sfs_tree.proofs.NameRows.{find-at_place, find-at_row}
+use Rattle.sfs_tree.proofs.RowsByName.{find-at_place, find-at_row}
 use Rattle.sfs_tree.proofs.name_map.child_at.Goals as goal
 
 pub returns-then-place-rows : goal.returns-then-place-rows

@@ -3,7 +3,7 @@ use Rattle.std.specs.Ordering.{is_lt}
 use Rattle.sfs_tree.specs.Order.{name_cmp}
 use Rattle.sfs_tree.specs.declared.name_map.NameRow.{NameRow}
 use Rattle.std.proofs.lemmas.List.Sorted.{IsPartitionPoint-from_clause}
-use Rattle.sfs_tree.proofs.NameRows.{IsPartitionedBy-sorted, IsPlaceOf-partition}
+use Rattle.sfs_tree.proofs.RowsByName.{IsPartitionedBy-sorted, IsPlaceOf-partition}
 use Rattle.sfs_tree.proofs.name_map.place_of.Goals as goal
 
 pub returns : goal.returns

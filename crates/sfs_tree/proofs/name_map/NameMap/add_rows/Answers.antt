@@ -6,7 +6,7 @@ use Rattle.std.specs.FinMap.{get, find, insert}
 use Rattle.sfs_tree.specs.Order.{name_cmp}
 use Rattle.sfs_tree.specs.NameRow.{entry_of, either}
 use Rattle.sfs_tree.specs.declared.name_map.NameRow.{NameRow}
-use Rattle.sfs_tree.proofs.NameRows.{is_true}
+use Rattle.sfs_tree.proofs.RowsByName.{is_true}
 use Rattle.sfs_tree.proofs.Added.{add_one, fresh, there}
 use Rattle.sfs_tree.proofs.name_map.NameMap.add_rows.Goals as goal
 

@@ -2,7 +2,7 @@ use Rattle.std.proofs.Common.{sym, ap, ◌∙◌, map}
 use Rattle.std.specs.FinMap.{get, find}
 use Rattle.sfs_tree.specs.Order.{name_cmp}
 use Rattle.sfs_tree.specs.NameRow.{entry_of}
-use Rattle.sfs_tree.proofs.NameRows.{get-map_of}
+use Rattle.sfs_tree.proofs.RowsByName.{get-map_of}
 use Rattle.sfs_tree.proofs.name_map.NameMap.get.Goals as goal
 
 pub returns : goal.returns

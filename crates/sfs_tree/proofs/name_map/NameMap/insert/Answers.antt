@@ -2,7 +2,7 @@ use Rattle.std.proofs.Common.{◌≡◌, ◌∙◌, sym, ap, map, None, IsTrue, 
 use Rattle.std.specs.FinMap.{insert, from_sorted, is_sorted, find, get}
 use Rattle.sfs_tree.specs.Order.{name_cmp}
 use Rattle.sfs_tree.specs.NameRow.{entry_of, IsPlaceOf}
-use Rattle.sfs_tree.proofs.NameRows.{map_inserted, sorted_inserted, get-map_of}
+use Rattle.sfs_tree.proofs.RowsByName.{map_inserted, sorted_inserted, get-map_of}
 use Rattle.sfs_tree.proofs.name_map.NameMap.insert.Goals as goal
 use Rattle.sfs_tree.proofs.name_map.NameMap.insert.Goals.{In_ok-insert}
 

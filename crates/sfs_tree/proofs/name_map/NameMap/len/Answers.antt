@@ -2,7 +2,7 @@ use Rattle.std.proofs.Common.{sym, ap, ◌∙◌, length}
 use Rattle.std.specs.FinMap.{len, len-entries}
 use Rattle.std.proofs.lemmas.List.{length-map}
 use Rattle.sfs_tree.specs.NameRow.{entry_of}
-use Rattle.sfs_tree.proofs.NameRows.{entries-map_of}
+use Rattle.sfs_tree.proofs.RowsByName.{entries-map_of}
 use Rattle.sfs_tree.proofs.name_map.NameMap.len.Goals as goal
 
 pub returns : goal.returns

@@ -1,7 +1,7 @@
 use Rattle.std.proofs.Common.{sym, ap, ◌∙◌, map}
 use Rattle.std.specs.FinMap.{entries}
 use Rattle.sfs_tree.specs.NameRow.{entry_of}
-use Rattle.sfs_tree.proofs.NameRows.{entries-map_of}
+use Rattle.sfs_tree.proofs.RowsByName.{entries-map_of}
 use Rattle.sfs_tree.proofs.name_map.NameMap.rows.Goals as goal
 
 pub returns : goal.returns

@@ -3,7 +3,7 @@ use Rattle.std.specs.FinMap.{get, find, entries_sorted, is_sorted, get-entries, 
 use Rattle.sfs_tree.specs.Order.{name_cmp}
 use Rattle.sfs_tree.specs.Tree.{bucket_rows, TreeState}
 use Rattle.sfs_tree.specs.NameRow.{either, entry_of}
-use Rattle.sfs_tree.proofs.NameRows.{was_true}
+use Rattle.sfs_tree.proofs.RowsByName.{was_true}
 use Rattle.sfs_tree.proofs.tree.Tree.add_bucket.Goals as goal
 use Rattle.sfs_tree.proofs.tree.Tree.add_bucket.Goals.{After-rows}
 
