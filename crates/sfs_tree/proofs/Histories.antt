@@ -9,9 +9,7 @@ use Rattle.std.proofs.lemmas.List.Elements.{filter-append}
 use Rattle.sfs_tree.specs.Order.{name_cmp, key_cmp}
 use Rattle.sfs_tree.specs.declared.history.Entry.{Entry}
 use Rattle.sfs_tree.specs.Tree.{TreeState, names_of}
-use Rattle.sfs_tree.specs.Effect.{Effect, Stays, Adds, rows_after}
-use Rattle.sfs_tree.specs.Verdict.{verdict}
-use Rattle.sfs_tree.specs.History.{tree_after, tree_after_entry, MayCome, IsLegalFrom, IsLegal, changes_by, changes_of, is_own_below, with_change, rows_at}
+use Rattle.sfs_tree.specs.History.{tree_after, tree_after_entry, MayCome, IsLegalFrom, IsLegal}
 use Rattle.sfs_tree.proofs.Joined.{key_cmp_total, same_key, name_cmp-IsAntisymmetric}
 use Rattle.sfs_tree.proofs.Names.{get-names_where, not_same}
 
@@ -53,50 +51,3 @@ names_of-insert d e name child rows =
           ap (λ b. cond (cond b (Rattle.std.specs.Ordering.eq_by_cmp name_cmp n name) false) (Some child) (get rows (d, n))) (not_same e d t)
           ∙ sym (get-names_where d (λ _. true) rows n)
     ] refl)
-
--- the changes of an effect below a stamp, folded in, give the rows after it
-folded : (d stamp c : ℕ) (effect : Effect) (rows : FinMap key_cmp ℕ) → stamp < c → fold with_change (names_of d rows) (filter (is_own_below d c) (changes_by stamp effect)) ≡ names_of d (rows_after rows effect)
-folded d stamp c Stays rows lt = refl
-folded d stamp c (Adds e name child) rows lt =
-    elim (nat_eq e d) as (λ t. nat_eq e d ≡ t → fold with_change (names_of d rows) (cond (nat_lt stamp c && t) (record { stamp = stamp; directory = e; name = name; child = child } ∷ []) []) ≡ cond t (insert (names_of d rows) name child) (names_of d rows)) [
-      | true ↦ λ t. ap (λ b. fold with_change (names_of d rows) (cond (b && true) (record { stamp = stamp; directory = e; name = name; child = child } ∷ []) [])) (lt-ltb _ _ lt)
-      | false ↦ λ t. ap (λ b. fold with_change (names_of d rows) (cond (b && false) (record { stamp = stamp; directory = e; name = name; child = child } ∷ []) [])) (lt-ltb _ _ lt)
-    ] refl
-    ∙ sym (names_of-insert d e name child rows)
-
--- changes that do not lie below a stamp are not folded in
-dropped : (d c stamp : ℕ) (effect : Effect) → c ≤ stamp → filter (is_own_below d c) (changes_by stamp effect) ≡ []
-dropped d c stamp Stays le = refl
-dropped d c stamp (Adds e name child) le = ap (λ b. cond (b && nat_eq e d) (record { stamp = stamp; directory = e; name = name; child = child } ∷ []) []) (not_below stamp c le)
-  where
-    not_below : (a b : ℕ) → b ≤ a → nat_lt a b ≡ false
-    not_below a b le = elim (nat_lt a b) as (λ t. nat_lt a b ≡ t → t ≡ false) [ true ↦ λ e. absurd (let lt = ltb-true _ _ e in omega arith) | false ↦ λ _. refl ] refl
-
-all_dropped : (d c stamp : ℕ) (first : TreeState) (history : List Entry) → c ≤ stamp → IsLegalFrom first stamp history → filter (is_own_below d c) (changes_of first history) ≡ []
-all_dropped d c stamp first [] le legal = refl
-all_dropped d c stamp first (e ∷ history) le legal =
-    filter-append (is_own_below d c) (changes_by e.stamp.0 (verdict first e.core.0 e.call).effect) (changes_of (tree_after_entry first e) history)
-    ∙ ap (λ l. l ++ filter (is_own_below d c) (changes_of (tree_after_entry first e) history)) (dropped d c e.stamp.0 (verdict first e.core.0 e.call).effect (subst (λ n. c ≤ n) (sym legal.0.stamped) le))
-    ∙ all_dropped d c (suc stamp) (tree_after_entry first e) history (omega arith) legal.1
-
-rows_from_stamp : (d c stamp k : ℕ) (first : TreeState) (history : List Entry) → stamp + k ≡ c → IsLegalFrom first stamp history → fold with_change (names_of d first.rows) (filter (is_own_below d c) (changes_of first history)) ≡ names_of d (tree_after first (take k history)).rows
-rows_from_stamp d c stamp zero first history e legal =
-    ap (fold with_change (names_of d first.rows)) (all_dropped d c stamp first history (omega arith) legal)
-    ∙ ap (λ h. names_of d (tree_after first h).rows) (sym (take_none history))
-  where
-    take_none : (h : List Entry) → take 0 h ≡ []
-    take_none [] = refl
-    take_none (x ∷ h) = refl
-rows_from_stamp d c stamp (suc k) first [] e legal = refl
-rows_from_stamp d c stamp (suc k) first (entry ∷ history) e legal =
-    ap (fold with_change (names_of d first.rows)) (filter-append (is_own_below d c) (changes_by entry.stamp.0 (verdict first entry.core.0 entry.call).effect) (changes_of (tree_after_entry first entry) history))
-    ∙ fold-append with_change (names_of d first.rows) (filter (is_own_below d c) (changes_by entry.stamp.0 (verdict first entry.core.0 entry.call).effect)) (filter (is_own_below d c) (changes_of (tree_after_entry first entry) history))
-    ∙ ap (λ rows. fold with_change rows (filter (is_own_below d c) (changes_of (tree_after_entry first entry) history))) (folded d entry.stamp.0 c (verdict first entry.core.0 entry.call).effect first.rows (subst (λ n. n < c) (sym legal.0.stamped) (omega arith)))
-    ∙ rows_from_stamp d c (suc stamp) k (tree_after_entry first entry) history (omega arith) legal.1
-
--- the rows of a directory at a stamp are those of the tree after the entries below it
-pub rows_at-tree_after : (first : TreeState) (history : List Entry) (d c : ℕ) → IsLegal first history → rows_at first history d c ≡ names_of d (tree_after first (take c history)).rows
-rows_at-tree_after first history d c legal = rows_from_stamp d c 0 c first history (zero_more c) legal
-  where
-    zero_more : (n : ℕ) → 0 + n ≡ n
-    zero_more n = omega arith

@@ -137,32 +137,6 @@ impl Tree {
         }
     }
 
-    /// What the call answers, and the tree after it. An fsync leaves the tree as it is.
-    pub fn step(&mut self, core: CoreId, call: &Call) -> Result<Reply, NoMemory>
-        requires { core.0 < length self.old.made }
-        ensures ok { IfOk result (λ reply. reply ≡ (verdict self.old core.0 call.now).reply) }
-        ensures tree { OnOk result (self.new ≡ tree_after_call self.old core.0 call.now) }
-        ensures err { OnErr result (self.new ≡ self.old) }
-    {
-        match call {
-            Call::Make { dir, name, kind } => self.make(core, *dir, name, *kind),
-            Call::Fsync { node } => Ok(self.fsync(*node)),
-            _ => Err(NoMemory),
-        }
-    }
-
-    fn fsync(&self, node: NodeId) -> Reply
-        ensures { (core : _) → result ≡ (verdict self.now core (Call.Fsync node)).reply }
-    {
-        if self.is_alive(node) {
-            Reply::Ok
-        } else {
-            Reply::Error {
-                code: Code::NoEntry,
-            }
-        }
-    }
-
     fn make(
         &mut self,
         core: CoreId,
