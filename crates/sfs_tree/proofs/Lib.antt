@@ -1,8 +1,10 @@
-pub mod Added
 pub mod Histories
 pub mod Joined
+pub mod Merged
 pub mod RowsByName
+pub mod RowsRemoved
 pub mod Names
 pub mod Numbered
+pub mod Removed
 pub mod Search
 pub mod Stored

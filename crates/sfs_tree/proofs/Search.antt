@@ -8,19 +8,19 @@ use Rattle.std.specs.Cmp.{IsTotalOrder}
 use Rattle.std.specs.FinMap.{find, put, is_sorted}
 use Rattle.std.specs.FinMap.Entries.{below_all, by_order}
 
-both_first : (a b : Bool) → T (a && b) → T a
+pub both_first : (a b : Bool) → T (a && b) → T a
 both_first true b p = tt
 both_first false b p = p
 
-both_second : (a b : Bool) → T (a && b) → T b
+pub both_second : (a b : Bool) → T (a && b) → T b
 both_second true b p = p
 both_second false b p = absurd p
 
-both_of : (a b : Bool) → T a → T b → T (a && b)
+pub both_of : (a b : Bool) → T a → T b → T (a && b)
 both_of true b p q = q
 both_of false b p q = p
 
-is_less : (o : Ordering) → T (is_lt o) → o ≡ Less
+pub is_less : (o : Ordering) → T (is_lt o) → o ≡ Less
 is_less Less p = refl
 is_less Equal p = absurd p
 is_less Greater p = absurd p
@@ -33,17 +33,17 @@ module _ {K : Type 0} {R : K → K → Ordering} (o : IsTotalOrder R) where
   not_behind x y p = o.antisymm y x ∙ ap ordering_reverse p
 
 module _ {K X : Type 0} {R : K → K → Ordering} (o : IsTotalOrder R) where
-  below_if_less : (x y : K) (es : List (K × X)) → R x y ≡ Less → T (below_all R y es) → T (below_all R x es)
+  pub below_if_less : (x y : K) (es : List (K × X)) → R x y ≡ Less → T (below_all R y es) → T (below_all R x es)
   below_if_less x y [] p h = tt
   below_if_less x y (e ∷ es) p h =
       both_of _ _ (subst (λ r. T (is_lt r)) (sym (o.trans x y e.0 p (is_less _ (both_first _ _ h)))) tt) (below_if_less x y es p (both_second _ _ h))
 
-  below_if_tied : (x y : K) (es : List (K × X)) → R x y ≡ Equal → T (below_all R y es) → T (below_all R x es)
+  pub below_if_tied : (x y : K) (es : List (K × X)) → R x y ≡ Equal → T (below_all R y es) → T (below_all R x es)
   below_if_tied x y [] p h = tt
   below_if_tied x y (e ∷ es) p h =
       both_of _ _ (subst (λ r. T (is_lt r)) (sym (o.congr x y e.0 p)) (both_first _ _ h)) (below_if_tied x y es p (both_second _ _ h))
 
-  not_found : (q : K) (es : List (K × X)) → T (below_all R q es) → find R q es ≡ None
+  pub not_found : (q : K) (es : List (K × X)) → T (below_all R q es) → find R q es ≡ None
   not_found q [] h = refl
   not_found q (e ∷ es) h = ap (λ r. cond (is_eq r) (Some e.1) (find R q es)) (is_less _ (both_first _ _ h)) ∙ not_found q es (both_second _ _ h)
 

@@ -1,5 +1,6 @@
 -- The rows of a directory as a list.
-use Rattle.std.specs.Prelude.{◌≡◌, ◌≢◌, ℕ, ◌≤◌, List, length, Option, Some, None, option_map}
+use Rattle.std.specs.Prelude.{◌≡◌, ◌≢◌, ℕ, ◌≤◌, List, [], ◌∷◌, length, Option, Some, None, option_map, if◌then◌else◌}
+use Rattle.std.specs.Ordering.{is_lt}
 use Rattle.std.specs.List.{AllWithin}
 use Rattle.std.specs.declared.cmp.Ordering.TheVariants.{Less}
 use Rattle.sfs_base.specs.declared.numbers.NodeId.{NodeId}
@@ -24,3 +25,14 @@ pub record IsPlaceOf (rows : List (List ℕ × ℕ)) (name : List ℕ) (place : 
 abbrev pub either : {X : Type 0} → Option X → Option X → Option X
 either (Some x) later = Some x
 either None later = later
+
+-- a row that comes first or behind some rows of a second list, with all that is to follow it
+abbrev pub put_among : List ℕ × ℕ → (List (List ℕ × ℕ) → List (List ℕ × ℕ)) → List (List ℕ × ℕ) → List (List ℕ × ℕ)
+put_among row follow [] = row ∷ follow []
+put_among row follow (other ∷ others) =
+    if is_lt (name_cmp row.0 other.0) then row ∷ follow (other ∷ others) else other ∷ put_among row follow others
+
+-- two lists of rows in one: of the two first rows the one with the lesser name comes first, and where neither is less that of the second list
+abbrev pub both_lists : List (List ℕ × ℕ) → List (List ℕ × ℕ) → List (List ℕ × ℕ)
+both_lists [] others = others
+both_lists (row ∷ rows) others = put_among row (both_lists rows) others

@@ -1,5 +1,5 @@
 // The rows are kept ascending by the bytes of their names, so a look-up halves the list at each step.
-ghost use Rattle.std.specs.Prelude.{◌≡◌, ◌≤◌, ◌<◌, ℕ, None, Some, length, map, option_map, OnOk, OnErr, IsTrue, IfOk, MatchOption};
+ghost use Rattle.std.specs.Prelude.{◌≡◌, ◌≤◌, ◌<◌, ◌++◌, [], ◌∷◌, ℕ, None, Some, length, map, option_map, slice_get, OnOk, OnErr, IsTrue, IsSome, IfOk, MatchOption};
 ghost use Rattle.std.specs.FinMap as finmap;
 ghost use Rattle.sfs_tree.specs.Order.{name_cmp};
 
@@ -83,28 +83,97 @@ impl NameMap {
         self.rows.insert(place, NameRow { name, child })?;
         Ok(())
     }
+
+    /// Takes away the row of this name.
+    pub fn remove(&mut self, name: &Name)
+        requires { IsSome (finmap.get self.old name.now) }
+        ensures { self.new ≡ finmap.remove self.old name.now }
+    {
+        let place = place_of(&self.rows, name.bytes());
+        self.rows.remove(place);
+    }
+
+    /// Gives the row of this name another child.
+    pub fn replace(&mut self, name: &Name, child: NodeId)
+        requires { IsSome (finmap.get self.old name.now) }
+        ensures { self.new ≡ finmap.insert self.old name.now child.0 }
+    {
+        let place = place_of(&self.rows, name.bytes());
+        self.rows[place].child = child;
+    }
+
+    /// The row at this place, names ascending by their bytes. `None` is past the last.
+    pub fn at(&self, place: usize) -> Option<&NameRow>
+        ensures { option_map (λ row. entry_of row.now) result ≡ slice_get (finmap.entries self.now) place }
+    {
+        if place < self.rows.len() {
+            Some(&self.rows[place])
+        } else {
+            None
+        }
+    }
 }
 
 impl NameMap {
-    ghost use Rattle.std.specs.Prelude.{IsSome};
     ghost use Rattle.sfs_tree.specs.NameRow.{either};
 
     // Adds rows whose names no row has.
-    pub(crate) fn add_rows(&mut self, rows: &[NameRow]) -> Result<(), NoMemory>
+    pub(crate) fn add_rows(&mut self, alloc: Global, rows: &[NameRow]) -> Result<(), NoMemory>
         requires sorted { IsTrue (finmap.is_sorted name_cmp (map entry_of rows.now)) }
         requires apart { (name : _) → IsSome (finmap.find name_cmp name (map entry_of rows.now))
             → finmap.get self.old name ≡ None }
         ensures { OnOk result ((name : _) → finmap.get self.new name
             ≡ either (finmap.find name_cmp name (map entry_of rows.now)) (finmap.get self.old name)) }
     {
-        for row in rows {
-            self.insert(row.name.copy()?, row.child)?;
-        }
+        self.rows = merged(alloc, rows, &self.rows)?;
         Ok(())
     }
 }
 
-ghost use Rattle.sfs_tree.specs.NameRow.{entry_of, number_of, IsPlaceOf};
+ghost use Rattle.sfs_tree.specs.NameRow.{entry_of, number_of, IsPlaceOf, both_lists};
+
+// The rows of two lists in one, names ascending where they ascend in both.
+fn merged(alloc: Global, rows: &[NameRow], others: &[NameRow]) -> Result<Vec<NameRow>, NoMemory>
+    ensures { IfOk result (λ both. map entry_of both.items ≡ both_lists (map entry_of rows.now) (map entry_of others.now)) }
+{
+    let mut both = Vec::new(alloc);
+    let mut place = 0;
+    let mut other = 0;
+    while place < rows.len() && other < others.len() {
+        if rows[place].name.bytes().cmp(others[other].name.bytes()) == Ordering::Less {
+            push_copy(&mut both, &rows[place])?;
+            place += 1;
+        } else {
+            push_copy(&mut both, &others[other])?;
+            other += 1;
+        }
+    }
+    push_copies(&mut both, &rows[place..])?;
+    push_copies(&mut both, &others[other..])?;
+    Ok(both)
+}
+
+// Puts a copy of each of the rows behind the last.
+fn push_copies(into: &mut Vec<NameRow>, rows: &[NameRow]) -> Result<(), NoMemory>
+    ensures { OnOk result (map entry_of into.new.items ≡ map entry_of into.old.items ++ map entry_of rows.now) }
+{
+    for row in rows {
+        push_copy(into, row)?;
+    }
+    Ok(())
+}
+
+// Puts a copy of a row behind the last.
+fn push_copy(into: &mut Vec<NameRow>, row: &NameRow) -> Result<(), NoMemory>
+    ensures { OnOk result (map entry_of into.new.items ≡ map entry_of into.old.items ++ entry_of row.now ∷ []) }
+{
+    let name = row.name.copy()?;
+    into.push(NameRow {
+        name,
+        child: row.child,
+    })?;
+    Ok(())
+}
 
 // Where a name stands among rows, or would.
 fn place_of(rows: &[NameRow], name: &[u8]) -> usize

@@ -132,7 +132,7 @@ impl Tree {
             ≡ either (finmap.get (bucket_rows dir.0 number self.now.rows) name) (finmap.get names.old name)) }
     {
         match self.store.bucket(dir.0, number) {
-            Some(rows) => names.add_rows(rows.rows()),
+            Some(rows) => names.add_rows(self.alloc, rows.rows()),
             None => Ok(()),
         }
     }

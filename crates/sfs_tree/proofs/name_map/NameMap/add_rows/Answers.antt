@@ -1,37 +1,32 @@
-use Rattle.std.proofs.Common.{◌≡◌, ℕ, List, map, take, get_or, None, IsSome, sym, ap, subst, ◌∙◌, arith}
-use Rattle.std.proofs.Math.ListN.{get_or-map}
-use Rattle.std.proofs.lemmas.List.{length-map}
-use Rattle.std.specs.Cmp.Lexicographic.{nat_list_cmp_total}
-use Rattle.std.specs.FinMap.{get, find, insert}
+use Rattle.std.proofs.Common.{◌≡◌, ◌∙◌, List, ℕ, sym, ap, map, IsTrue, IsSome, None, subst}
+use Rattle.std.specs.FinMap.{find, get, is_sorted}
 use Rattle.sfs_tree.specs.Order.{name_cmp}
-use Rattle.sfs_tree.specs.NameRow.{entry_of, either}
-use Rattle.sfs_tree.specs.declared.name_map.NameRow.{NameRow}
-use Rattle.sfs_tree.proofs.RowsByName.{is_true}
-use Rattle.sfs_tree.proofs.Added.{add_one, fresh, there}
+use Rattle.sfs_tree.specs.NameRow.{entry_of, either, both_lists}
+use Rattle.sfs_tree.proofs.RowsByName.{is_true, was_true, get-map_of}
+use Rattle.sfs_tree.proofs.Merged.{find-both_lists, sorted-both_lists, Apart}
 use Rattle.sfs_tree.proofs.name_map.NameMap.add_rows.Goals as goal
+use Rattle.sfs_tree.proofs.name_map.NameMap.add_rows.Goals.{In_ok-self-inside}
 
--- the entry of the row at a place
-at : (rows : List NameRow) (k : ℕ) (row : NameRow) → row ≡ get_or rows k row → entry_of row ≡ get_or (map entry_of rows) k (entry_of row)
-at rows k row is = ap entry_of is ∙ sym (get_or-map entry_of rows k row)
+found : (c : In_ok-self-inside) (name : List ℕ) → find name_cmp name (map entry_of c.self.inside.rows.items) ≡ get c.args.self.now name
+found c name = sym (get-map_of c.self.inside.rows.items name c.self.invariant) ∙ ap (λ m. get m name) c.self.view_is
 
-pub insert-requires : goal.insert-requires
-insert-requires c =
-    let row = c.row-item.result in
-    let entries = map entry_of c.args.rows.now in
-    let k = c.loop-row.row-index in
-    let n = length-map c.args.rows.now entry_of in
-    let is = at c.args.rows.now k row c.row-item.is in
-    let sorted = is_true _ c.requires.sorted in
-    let new : find name_cmp row.name (take k entries) ≡ None = ap (λ (e : List ℕ × ℕ). find name_cmp e.0 (take k entries)) is ∙ fresh nat_list_cmp_total entries k (entry_of row) sorted (omega arith) in
-    let among : IsSome (find name_cmp row.name entries) = subst (λ (e : List ℕ × ℕ). IsSome (find name_cmp e.0 entries)) (sym is) (there nat_list_cmp_total entries k (entry_of row) sorted (omega arith)) in
-    ap (λ name. get c.loop-row.self name) c.in_ok-copy.ensures.ok
-    ∙ c.loop-row.invariant row.name
-    ∙ ap (λ o. either o (get c.args.self.now row.name)) new
-    ∙ c.requires.apart row.name among
+apart : (c : In_ok-self-inside) → Apart (map entry_of c.args.rows.now) (map entry_of c.self.inside.rows.items)
+apart c = λ name some. found c name ∙ c.requires.apart name some
 
-pub loop-row-preserved : goal.loop-row-preserved
-loop-row-preserved c = λ name.
-    let row = c.row-item.result in
-    let n = length-map c.args.rows.now entry_of in
-    ap (λ m. get m name) (c.in_ok-insert.ensures.ok ∙ ap (λ key. insert c.loop-row.self key row.child.0) c.in_ok-copy.ensures.ok)
-    ∙ add_one (map entry_of c.args.rows.now) c.loop-row.row-index (entry_of row) c.loop-row.self c.args.self.now (is_true _ c.requires.sorted) (omega arith) (at c.args.rows.now c.loop-row.row-index row c.row-item.is) c.loop-row.invariant name
+rows : (c : In_ok-self-inside) → map entry_of c.in_ok-self-inside.field-0.items ≡ both_lists (map entry_of c.args.rows.now) (map entry_of c.self.inside.rows.items)
+rows c = c.in_ok-self-inside.ensures ∙ ap (λ l. both_lists (map entry_of c.args.rows.now) (map entry_of l)) c.deref.ensures.value
+
+sorted : (c : In_ok-self-inside) → IsTrue (is_sorted name_cmp (map entry_of c.in_ok-self-inside.field-0.items))
+sorted c =
+    subst (λ l. IsTrue (is_sorted name_cmp l)) (sym (rows c)) (was_true _ (sorted-both_lists (map entry_of c.args.rows.now) (map entry_of c.self.inside.rows.items) (is_true _ c.requires.sorted) (is_true _ c.self.invariant) (apart c)))
+
+pub invariant_of-self : goal.invariant_of-self
+invariant_of-self c = sorted (goal.at.invariant_of-self c).In_ok-self-inside
+
+pub returns : goal.returns
+returns c = λ name.
+    let at = (goal.at.returns c).In_ok-self-inside in
+    get-map_of c.in_ok-self-inside.field-0.items name (sorted at)
+    ∙ ap (find name_cmp name) (rows at)
+    ∙ find-both_lists name (map entry_of c.args.rows.now) (map entry_of c.self.inside.rows.items) (apart at)
+    ∙ ap (either (find name_cmp name (map entry_of c.args.rows.now))) (found at name)
