@@ -144,7 +144,7 @@ find_from place (m ∷ ms) d n (suc k) h e =
     ∙ ap (λ o. either o (find key_cmp (d, n) (rows_from (suc place) ms))) (find-in_directory (place / 8) d n (entries m) ∙ elsewhere m place d n (λ some. let b = h zero n some in omega arith) (omega arith))
     ∙ find_from (suc place) ms d n k (placed_tail place m ms h) (omega arith)
 
-other_key : (k q : Key) → k ≢ q → eq_by_cmp key_cmp k q ≡ false
+pub other_key : (k q : Key) → k ≢ q → eq_by_cmp key_cmp k q ≡ false
 other_key k q h =
     elim (eq_by_cmp key_cmp k q) as (λ b. eq_by_cmp key_cmp k q ≡ b → b ≡ false) [ true ↦ λ e. absurd (h (key_cmp-IsAntisymmetric k q (is_equal _ e))) | false ↦ λ e. refl ] refl
 
@@ -159,7 +159,7 @@ get-joined ms d n h =
 same_rows : (m n : FinMap key_cmp ℕ) → ((d : ℕ) (name : List ℕ) → get m (d, name) ≡ get n (d, name)) → m ≡ n
 same_rows m n h = same_map key_cmp_total key_cmp-IsAntisymmetric m n (λ q. h q.0 q.1)
 
-bucket_at_set : (ms : List Bucket) (i j : ℕ) (m : Bucket) → i < length ms → bucket_at (set ms i m) j ≡ cond (nat_eq j i) m (bucket_at ms j)
+pub bucket_at_set : (ms : List Bucket) (i j : ℕ) (m : Bucket) → i < length ms → bucket_at (set ms i m) j ≡ cond (nat_eq j i) m (bucket_at ms j)
 bucket_at_set ms i j m lt =
     elim (nat_eq j i) as (λ b. nat_eq j i ≡ b → bucket_at (set ms i m) j ≡ cond b m (bucket_at ms j)) [
       | true ↦ λ e. ap (bucket_at (set ms i m)) (eqb-true _ _ e) ∙ get_or-set_same ms i m empty lt

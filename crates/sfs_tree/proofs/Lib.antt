@@ -1,10 +1,14 @@
+pub mod Counted
+pub mod Counting
+pub mod FileBytes
 pub mod Histories
 pub mod Joined
+pub mod JoinedChanged
 pub mod Merged
-pub mod RowsByName
-pub mod RowsRemoved
 pub mod Names
 pub mod Numbered
 pub mod Removed
+pub mod RowsByName
+pub mod RowsRemoved
 pub mod Search
 pub mod Stored

@@ -5,9 +5,9 @@ use Rattle.std.specs.Ordering.{nat_cmp, eq_by_cmp}
 use Rattle.std.specs.Cmp.{nat_cmp_total, unsigned_ties}
 use Rattle.std.specs.FinMap.{find, get, insert, get-from_entries, get-insert, same_map, nat_cmp-IsAntisymmetric}
 use Rattle.std.proofs.lemmas.List.{get_or-set_same, get_or-set_other, get_or_past}
-use Rattle.sfs_tree.specs.declared.store.NodeData.{NodeData}
+use Rattle.sfs_tree.specs.declared.nodes.NodeData.{NodeData}
 use Rattle.sfs_tree.specs.Tree.{Node}
-use Rattle.sfs_tree.specs.Store.{node_of, nodes_from, numbered}
+use Rattle.sfs_tree.specs.Nodes.{node_of, nodes_from, numbered}
 
 -- the node at a place
 pub node_at : List (Option NodeData) → ℕ → Option Node

@@ -1,5 +1,5 @@
 -- Rows in buckets, eight to a directory.
-use Rattle.std.specs.Prelude.{◌≡◌, ℕ, suc, ◌/◌, ◌%◌, ◌≤◌, Bool, List, [], ◌∷◌, ◌++◌, map, IsSome, slice_index_or, ◌==◌}
+use Rattle.std.specs.Prelude.{◌≡◌, ℕ, suc, ◌/◌, ◌%◌, ◌≤◌, Bool, List, [], ◌∷◌, ◌++◌, ◌*◌, length, map, IsSome, slice_index_or, ◌==◌}
 use Rattle.std.specs.FinMap.{FinMap, entries, from_entries, empty, get, len}
 use Rattle.sfs_base.specs.Name.{bucket}
 use Rattle.sfs_tree.specs.Order.{name_cmp, Key, key_cmp}
@@ -33,3 +33,8 @@ stands_in directory row = row.0.0 == directory
 pub record IsPlaced (buckets : List Bucket) : Type 0 where
   pub placed : (place : ℕ) (name : List ℕ) → IsSome (get (bucket_at buckets place) name) → bucket name ≡ place % 8
   pub full : (place : ℕ) → len (bucket_at buckets place) ≤ 4096
+
+-- each directory has eight buckets, with each name in its own
+pub record IsBuilt (buckets : List Bucket) : Type 0 where
+  pub eight : length buckets ≡ 8 * (length buckets / 8)
+  pub rows : IsPlaced buckets

@@ -1,12 +1,17 @@
 pub mod Buckets
 pub mod Build
 pub mod Changes
+pub mod Counts
 pub mod Effect
 pub mod History
+pub mod Least
 pub mod NameKinds
 pub mod NameRow
 pub mod Names
+pub mod Nodes
+pub mod NodesState
 pub mod Order
+pub mod RowsState
 pub mod Shape
 pub mod Sound
 pub mod Store

@@ -2,11 +2,14 @@
 #![tactic(auto)]
 
 mod call;
+mod counts;
+mod file_bytes;
 mod history;
 mod listing;
 mod name_map;
-
+mod nodes;
 mod reply;
+mod rows;
 mod store;
 mod tree;
 mod turns;

@@ -2,7 +2,8 @@ ghost use Rattle.std.specs.Prelude.{◌≡◌, ◌≢◌, ◌⊎◌, ◌+◌, �
 ghost use Rattle.std.specs.FinMap as finmap;
 ghost use Rattle.sfs_base.specs.Name.{bucket};
 
-use crate::store::{NodeData, Store};
+use crate::nodes::NodeData;
+use crate::store::Store;
 use crate::{Call, Code, NameMap, Reply};
 use sfs_base::{CoreId, Kind, Name, NoMemory, NodeId, bucket_of};
 use std::alloc::Global;
@@ -40,7 +41,7 @@ impl Model for Tree {
 impl Tree {
     ghost use Rattle.sfs_base.specs.declared.numbers.Kind.TheVariants.{Directory};
     ghost use Rattle.sfs_tree.specs.Tree.{row_of, is_alive, is_directory, bucket_rows, names_of, made_by, next_number};
-    ghost use Rattle.sfs_tree.specs.NameRow.{either};
+    ghost use Rattle.sfs_tree.specs.NameRow.{either, number_of};
     ghost use Rattle.sfs_tree.specs.Build.{root_alone, with_node, with_row};
     ghost use Rattle.sfs_tree.specs.Effect.{Adds, tree_with};
     ghost use Rattle.sfs_tree.specs.Verdict.{verdict, make_fault, directory_fault, tree_after_call};
@@ -137,55 +138,6 @@ impl Tree {
         }
     }
 
-    fn make(
-        &mut self,
-        core: CoreId,
-        dir: NodeId,
-        name: &Name,
-        kind: Kind,
-    ) -> Result<Reply, NoMemory>
-        requires { core.0 < length self.old.made }
-        ensures ok { IfOk result (λ reply. reply ≡ (verdict self.old core.0 (Call.Make dir name.now kind)).reply) }
-        ensures tree { OnOk result (self.new ≡ tree_after_call self.old core.0 (Call.Make dir name.now kind)) }
-        ensures err { OnErr result (self.new ≡ self.old) }
-    {
-        if let Some(code) = self.make_fault(core, dir, name) {
-            return Ok(Reply::Error { code });
-        }
-        let node = self.next_node(core);
-        self.add_node(core, dir, name.copy()?, node, kind)?;
-        Ok(Reply::Node { node, kind })
-    }
-
-    // Puts the row, the node and the count of the core's nodes. The row first: it alone can be refused.
-    fn add_node(
-        &mut self,
-        core: CoreId,
-        dir: NodeId,
-        name: Name,
-        node: NodeId,
-        kind: Kind,
-    ) -> Result<(), NoMemory>
-        requires core { core.0 < length self.old.made }
-        requires directory { IsTrue (is_directory self.old dir.0) }
-        requires absent { row_of self.old dir.0 name ≡ None }
-        requires room { finmap.len (bucket_rows dir.0 (bucket name) self.old.rows) < 4096 }
-        requires share { made_by self.old core.0 < self.old.share }
-        requires node { node.0 ≡ next_number self.old core.0 }
-        ensures ok { OnOk result (self.new ≡ tree_with self.old core.0 (Adds dir.0 name node.0) (Some kind)) }
-        ensures err { OnErr result (self.new ≡ self.old) }
-    {
-        self.store.grow(self.alloc, node.0 as usize + 1)?;
-        self.store.put_row(dir.0, name, node)?;
-        let empty = NodeData {
-            kind,
-            bytes: Vec::new(self.alloc),
-        };
-        self.store.put_node(node.0, empty);
-        self.made[core.0 as usize] += 1;
-        Ok(())
-    }
-
     // The number of the node that the core makes next.
     fn next_node(&self, core: CoreId) -> NodeId
         requires core { core.0 < length self.now.made }
@@ -193,6 +145,13 @@ impl Tree {
         ensures { result.0 ≡ next_number self.now core.0 }
     {
         NodeId(self.first + u32::from(core.0) * self.share + self.made[core.0 as usize])
+    }
+
+    // The child of the directory's row with this name.
+    fn child(&self, dir: NodeId, name: &Name) -> Option<NodeId>
+        ensures { number_of result ≡ row_of self.now dir.0 name.now }
+    {
+        self.store.child(dir.0, name)
     }
 
     // Why a node can't be made here.
@@ -203,7 +162,7 @@ impl Tree {
         if let Some(code) = self.directory_fault(dir) {
             return Some(code);
         }
-        if self.has_row(dir, name) {
+        if self.child(dir, name).is_some() {
             Some(Code::Exists)
         } else if self.is_full(dir, name) {
             Some(Code::DirFull)
@@ -211,16 +170,6 @@ impl Tree {
             Some(Code::NoNodes)
         } else {
             None
-        }
-    }
-
-    // Whether the directory has a row of this name.
-    fn has_row(&self, dir: NodeId, name: &Name) -> bool
-        ensures { result ≡ is_some (row_of self.now dir.0 name.now) }
-    {
-        match self.store.bucket(dir.0, bucket_of(name)) {
-            Some(rows) => rows.get(name).is_some(),
-            None => false,
         }
     }
 

@@ -1,0 +1,7 @@
+use Rattle.std.proofs.Common.{sym, subst, refl}
+use Rattle.sfs_tree.specs.Buckets.{IsBuilt}
+use Rattle.sfs_tree.proofs.Stored.{IsPlaced-new}
+use Rattle.sfs_tree.proofs.rows.Rows.new.Goals as goal
+
+pub invariant_of-result : goal.invariant_of-result
+invariant_of-result c = subst IsBuilt (sym c.new.ensures.items) (record { eight = refl; rows = IsPlaced-new })
