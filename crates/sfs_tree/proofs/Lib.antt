@@ -5,6 +5,7 @@ pub mod Histories
 pub mod Joined
 pub mod JoinedChanged
 pub mod Merged
+pub mod Moved
 pub mod Names
 pub mod Numbered
 pub mod Removed
@@ -12,3 +13,4 @@ pub mod RowsByName
 pub mod RowsRemoved
 pub mod Search
 pub mod Stored
+pub mod StoreKept

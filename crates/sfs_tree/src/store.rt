@@ -76,7 +76,8 @@ impl Store {
     {
         self.rows.grow(alloc, self.nodes.places() + 1)?;
         self.counts.grow()?;
-        self.nodes.grow()
+        self.nodes.grow()?;
+        Ok(())
     }
 
     /// The kind of the node with this number.
@@ -220,5 +221,63 @@ impl Store {
         let is_directory = self.nodes.is_directory(child.0);
         self.rows.remove(directory, name);
         self.counts.take(directory, child.0, is_directory);
+    }
+
+    /// Takes away a row, and puts one for its child whose name no row of the other directory has.
+    pub fn move_row(
+        &mut self,
+        directory: u32,
+        name: &Name,
+        to_directory: u32,
+        to_name: Name,
+        child: NodeId,
+    ) -> Result<(), NoMemory>
+        requires row { finmap.get self.old.rows (directory, name.now) ≡ Some child.0 }
+        requires once { is_directory_in self.old.nodes child.0 ≡ true → count_of self.old.rows child.0 ≡ 1 }
+        requires directory { HasPlace self.old to_directory }
+        requires absent { finmap.get self.old.rows (to_directory, to_name) ≡ None }
+        requires room { finmap.len (bucket_rows to_directory (bucket to_name) self.old.rows) < 4096 }
+        ensures ok { OnOk result (self.new.rows
+            ≡ finmap.insert (finmap.remove self.old.rows (directory, name.now)) (to_directory, to_name) child.0) }
+        ensures err { OnErr result (self.new.rows ≡ self.old.rows) }
+        ensures nodes { self.new.nodes ≡ self.old.nodes }
+        ensures places { self.new.places ≡ self.old.places }
+    {
+        let is_directory = self.nodes.is_directory(child.0);
+        self.rows.insert(to_directory, to_name, child)?;
+        self.rows.remove(directory, name);
+        self.counts.take(directory, child.0, is_directory);
+        self.counts.add(to_directory, child.0, is_directory);
+        Ok(())
+    }
+
+    /// Takes away a row, and gives its child to a row that is there in place of the child that this one has.
+    /// Each of the two is a directory that no other row names, or no directory.
+    pub fn move_onto(
+        &mut self,
+        directory: u32,
+        name: &Name,
+        to_directory: u32,
+        to_name: &Name,
+        child: NodeId,
+        there: NodeId,
+    )
+        requires row { finmap.get self.old.rows (directory, name.now) ≡ Some child.0 }
+        requires once { is_directory_in self.old.nodes child.0 ≡ true → count_of self.old.rows child.0 ≡ 1 }
+        requires other_row { finmap.get self.old.rows (to_directory, to_name.now) ≡ Some there.0 }
+        requires other_once { is_directory_in self.old.nodes there.0 ≡ true → count_of self.old.rows there.0 ≡ 1 }
+        requires apart { child.0 ≢ there.0 }
+        ensures rows { self.new.rows
+            ≡ finmap.insert (finmap.remove self.old.rows (directory, name.now)) (to_directory, to_name.now) child.0 }
+        ensures nodes { self.new.nodes ≡ self.old.nodes }
+        ensures places { self.new.places ≡ self.old.places }
+    {
+        let is_directory = self.nodes.is_directory(child.0);
+        let was_directory = self.nodes.is_directory(there.0);
+        self.rows.replace(to_directory, to_name, child);
+        self.rows.remove(directory, name);
+        self.counts.take(to_directory, there.0, was_directory);
+        self.counts.take(directory, child.0, is_directory);
+        self.counts.add(to_directory, child.0, is_directory);
     }
 }
