@@ -3,10 +3,11 @@ use Rattle.std.proofs.Common.{◌≡◌, ℕ, zero, suc, ◌+◌, ◌<◌, true,
 use borrow.Author.Tests.{eqb-true, eq-eqb, eqb-false, ltb-true, ltb-false}
 use Rattle.std.specs.Ordering.{nat_cmp, eq_by_cmp}
 use Rattle.std.specs.Cmp.{nat_cmp_total, unsigned_ties}
-use Rattle.std.specs.FinMap.{find, get, insert, get-from_entries, get-insert, same_map, nat_cmp-IsAntisymmetric}
+use Rattle.std.specs.FinMap.{FinMap, find, get, insert, get-from_entries, get-insert, same_map, nat_cmp-IsAntisymmetric}
 use Rattle.std.proofs.lemmas.List.{get_or-set_same, get_or-set_other, get_or_past}
 use Rattle.sfs_tree.specs.declared.nodes.NodeData.{NodeData}
 use Rattle.sfs_tree.specs.Tree.{Node}
+use Rattle.sfs_tree.specs.Effect.{Edit, edited, with_edit}
 use Rattle.sfs_tree.specs.Nodes.{node_of, nodes_from, numbered}
 
 -- the node at a place
@@ -78,3 +79,36 @@ numbered_within nodes x some =
       | true ↦ λ t. ltb-true _ _ t
       | false ↦ λ t. absurd (some_none _ (get-numbered nodes x ∙ ap (option_map node_of) (get_or_past nodes x None (ltb-false _ _ t))) some)
     ] refl
+
+-- to put a node that is there again changes nothing
+pub put_same : (nodes : FinMap nat_cmp Node) (k : ℕ) (n : Node) → get nodes k ≡ Some n → insert nodes k n ≡ nodes
+put_same nodes k n is =
+    same_map nat_cmp_total nat_cmp-IsAntisymmetric _ _ (λ y.
+    get-insert nat_cmp_total nodes k n y
+    ∙ elim (eq_by_cmp nat_cmp y k) as (λ t. eq_by_cmp nat_cmp y k ≡ t → cond t (Some n) (get nodes y) ≡ get nodes y) [
+      | true ↦ λ t. sym is ∙ ap (get nodes) (sym (eqb-true y k (unsigned_ties y k ∙ t)))
+      | false ↦ λ t. refl
+    ] refl)
+
+none_not_some : {X : Type 0} {x : X} → ◌≡◌ {A = Option X} None (Some x) → ⊥
+none_not_some e = cc
+
+-- a node that is there, as it is stored and as it is seen
+module _ (places : List (Option NodeData)) (k : ℕ) (n : NodeData) (at : get_or places k None ≡ Some n) where
+  pub seen : get (numbered places) k ≡ Some (node_of n)
+  seen = get-numbered places k ∙ ap (option_map node_of) at
+
+  seen_within : k < length places
+  seen_within =
+      elim (ltb k (length places)) as (λ b. ltb k (length places) ≡ b → k < length places) [
+        | true ↦ λ t. ltb-true _ _ t
+        | false ↦ λ t. absurd (none_not_some (sym (get_or_past places k None (ltb-false _ _ t)) ∙ at))
+      ] refl
+
+  pub numbered_same : (other : NodeData) → node_of other ≡ node_of n → numbered (set places k (Some other)) ≡ numbered places
+  numbered_same other e = numbered-set places k other seen_within ∙ ap (insert (numbered places) k) e ∙ put_same (numbered places) k (node_of n) seen
+
+  pub numbered_edited : (other : NodeData) (edit : Edit) → node_of other ≡ record (node_of n) { bytes = edited edit (node_of n).bytes } → numbered (set places k (Some other)) ≡ with_edit (numbered places) k edit (get (numbered places) k)
+  numbered_edited other edit e =
+      numbered-set places k other seen_within ∙ ap (insert (numbered places) k) e
+      ∙ sym (ap (with_edit (numbered places) k edit) seen)

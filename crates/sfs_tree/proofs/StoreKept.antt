@@ -7,6 +7,7 @@ use Rattle.std.specs.FinMap.{FinMap, get, insert, remove, empty, len, get-empty,
 use Rattle.sfs_tree.specs.declared.counts.Counts.{Counts}
 use Rattle.sfs_tree.specs.Order.{Key, key_cmp}
 use Rattle.sfs_tree.specs.Tree.{Node, is_directory_kind, count_of}
+use Rattle.sfs_tree.specs.Effect.{Edit, edited, with_edit}
 use Rattle.sfs_tree.specs.NodesState.{NodesState}
 use Rattle.sfs_tree.specs.RowsState.{RowsState}
 use Rattle.sfs_tree.specs.StoreState.{StoreState, HasPlace}
@@ -184,3 +185,13 @@ IsWide-fewer c more places w le =
 pub has_place : (n : NodesState) (c : Counts) (r : RowsState) (s : StoreState) (number : ℕ) → IsStored n c r → ◌≡◌ {A = StoreState} (record { rows = r.rows; nodes = n.nodes; places = n.places }) s → HasPlace s number → number < n.places
 has_place n c r s number h is (inl some) = h.within number (subst (λ (s : StoreState). IsSome (get s.nodes number)) (sym is) some)
 has_place n c r s number h is (inr low) = let e : n.places ≡ s.places = ap (λ (s : StoreState). s.places) is in omega arith
+
+-- bytes that change leave all else as it is
+pub IsStored-edited : (n : NodesState) (c : Counts) (r : RowsState) (m : NodesState) (k : ℕ) (edit : Edit) → IsStored n c r → m.nodes ≡ with_edit n.nodes k edit (get n.nodes k) → m.places ≡ n.places → IsSome (get n.nodes k) → IsStored m c r
+IsStored-edited n c r m k edit h nodes places some = by_node (get n.nodes k) refl
+  where
+    by_node : (o : Option Node) → get n.nodes k ≡ o → IsStored m c r
+    by_node (Some node) e =
+        IsStored-edit n c r h m k (record node { bytes = edited edit node.bytes }) (nodes ∙ ap (with_edit n.nodes k edit) e) places some
+        (ap is_directory_node (this_node n.nodes k (record node { bytes = edited edit node.bytes })) ∙ sym (ap is_directory_node e))
+    by_node None e = absurd (some_none _ e some)

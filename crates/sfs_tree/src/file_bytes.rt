@@ -1,5 +1,5 @@
 // The bytes of a file.
-ghost use Rattle.std.specs.Prelude.{◌≡◌, ◌+◌, ◌<◌, ◌≤◌, ◌^◌, length, OnOk, OnErr};
+ghost use Rattle.std.specs.Prelude.{◌≡◌, ◌+◌, ◌-◌, ◌<◌, ◌≤◌, ◌^◌, ◌++◌, length, take, drop, replicate, vec_len, OnOk, OnErr};
 ghost use Rattle.sfs_tree.specs.Effect.{with_bytes, with_size};
 
 use sfs_base::NoMemory;
@@ -10,11 +10,8 @@ pub fn put_bytes(bytes: &mut Vec<u8>, at: usize, written: &[u8]) -> Result<(), N
     ensures ok { OnOk result (bytes.new.items ≡ with_bytes at written.now bytes.old.items) }
     ensures err { OnErr result (bytes.new.items ≡ bytes.old.items) }
 {
-    let end = at + written.len();
-    if bytes.len() < end {
-        bytes.resize(end, 0)?;
-    }
-    bytes[at..end].copy_from_slice(written);
+    make_room(bytes, at + written.len())?;
+    overwrite(bytes, at, written);
     Ok(())
 }
 
@@ -25,4 +22,24 @@ pub fn set_size(bytes: &mut Vec<u8>, size: usize) -> Result<(), NoMemory>
 {
     bytes.resize(size, 0)?;
     Ok(())
+}
+
+// Puts zeros behind the bytes where there are fewer than `end`.
+fn make_room(bytes: &mut Vec<u8>, end: usize) -> Result<(), NoMemory>
+    ensures ok { OnOk result (bytes.new.items ≡ bytes.old.items ++ replicate (end - length bytes.old.items) 0) }
+    ensures room { OnOk result (end ≤ vec_len bytes.new) }
+    ensures err { OnErr result (bytes.new.items ≡ bytes.old.items) }
+{
+    if bytes.len() < end {
+        set_size(bytes, end)?;
+    }
+    Ok(())
+}
+
+// Puts bytes over those that are there.
+fn overwrite(bytes: &mut Vec<u8>, at: usize, written: &[u8])
+    requires { at + length written.now ≤ vec_len bytes.old }
+    ensures { bytes.new.items ≡ take at bytes.old.items ++ written.now ++ drop (at + length written.now) bytes.old.items }
+{
+    bytes[at..at + written.len()].copy_from_slice(written);
 }

@@ -1,9 +1,11 @@
 // Each node lies at its number.
-ghost use Rattle.std.specs.Prelude.{◌≡◌, ◌+◌, ◌<◌, ◌≤◌, None, option_map, IfSome, IfNone, IsSome, OnOk, OnErr};
+ghost use Rattle.std.specs.Prelude.{◌≡◌, ◌+◌, ◌<◌, ◌≤◌, ◌^◌, length, None, option_map, IfSome, IfNone, IsSome, OnOk, OnErr};
 ghost use Rattle.std.specs.FinMap as finmap;
 ghost use Rattle.sfs_tree.specs.Tree.{is_directory_kind};
 ghost use Rattle.sfs_tree.specs.Counts.{is_directory_in};
+ghost use Rattle.sfs_tree.specs.Effect.{Puts, Resizes, with_edit};
 
+use crate::file_bytes::{put_bytes, set_size};
 use sfs_base::{Kind, NoMemory};
 use std::alloc::Global;
 use std::marker::Model;
@@ -24,6 +26,30 @@ impl NodeData {
             Kind::Directory => true,
             Kind::File => false,
         }
+    }
+}
+
+impl NodeData {
+    ghost use Rattle.sfs_tree.specs.Nodes.{node_of};
+    ghost use Rattle.sfs_tree.specs.Effect.{Puts, Resizes, edited};
+
+    /// Puts bytes from byte `at` on.
+    pub fn write(&mut self, at: usize, written: &[u8]) -> Result<(), NoMemory>
+        requires { at + length written.now < 2 ^ 32 }
+        ensures ok { OnOk result (node_of self.new
+            ≡ record (node_of self.old) { bytes = edited (Puts at written.now) (node_of self.old).bytes }) }
+        ensures err { OnErr result (node_of self.new ≡ node_of self.old) }
+    {
+        put_bytes(&mut self.bytes, at, written)
+    }
+
+    /// Gives it this size.
+    pub fn resize(&mut self, size: usize) -> Result<(), NoMemory>
+        ensures ok { OnOk result (node_of self.new
+            ≡ record (node_of self.old) { bytes = edited (Resizes size) (node_of self.old).bytes }) }
+        ensures err { OnErr result (node_of self.new ≡ node_of self.old) }
+    {
+        set_size(&mut self.bytes, size)
     }
 }
 
@@ -48,6 +74,7 @@ impl Model for Nodes {
 
 impl Nodes {
     ghost use Rattle.sfs_tree.specs.Nodes.{node_of};
+    ghost use Rattle.sfs_tree.specs.Least.{IsLeast, NoneFrom};
 
     /// No nodes, and no places.
     pub fn new(alloc: Global) -> Self
@@ -76,16 +103,16 @@ impl Nodes {
         Ok(())
     }
 
-    /// The kind of the node with this number.
-    pub fn kind(&self, number: u32) -> Option<Kind>
-        ensures { result ≡ option_map (λ node. node.kind) (finmap.get self.now.nodes number) }
+    /// The node with this number.
+    pub fn get(&self, number: u32) -> Option<&NodeData>
+        ensures { option_map (λ node. node_of node.now) result ≡ finmap.get self.now.nodes number }
     {
         let place = number as usize;
         if place >= self.places.len() {
             return None;
         }
         match &self.places[place] {
-            Some(node) => Some(node.kind),
+            Some(node) => Some(node),
             None => None,
         }
     }
@@ -94,10 +121,24 @@ impl Nodes {
     pub fn is_directory(&self, number: u32) -> bool
         ensures { result ≡ is_directory_in self.now.nodes number }
     {
-        match self.kind(number) {
-            Some(Kind::Directory) => true,
-            _ => false,
+        match self.get(number) {
+            Some(node) => node.is_directory(),
+            None => false,
         }
+    }
+
+    /// The least number of a node from `first` on.
+    pub fn next_from(&self, first: usize) -> Option<u32>
+        requires { self.now.places ≤ 81920 }
+        ensures found { IfSome result (λ number. IsLeast self.now.nodes first number) }
+        ensures none { IfNone result (NoneFrom self.now.nodes first) }
+    {
+        for place in first..self.places.len() {
+            if self.places[place].is_some() {
+                return Some(place as u32);
+            }
+        }
+        None
     }
 
     /// Puts a node at its number.
@@ -107,5 +148,36 @@ impl Nodes {
         ensures places { self.new.places ≡ self.old.places }
     {
         self.places[number as usize] = Some(node);
+    }
+
+    /// Puts bytes into a node from byte `at` on.
+    pub fn write(&mut self, number: u32, at: usize, written: &[u8]) -> Result<(), NoMemory>
+        requires node { IsSome (finmap.get self.old.nodes number) }
+        requires end { at + length written.now < 2 ^ 32 }
+        ensures ok { OnOk result (self.new.nodes
+            ≡ with_edit self.old.nodes number (Puts at written.now) (finmap.get self.old.nodes number)) }
+        ensures err { OnErr result (self.new.nodes ≡ self.old.nodes) }
+        ensures places { self.new.places ≡ self.old.places }
+    {
+        match &mut self.places[number as usize] {
+            Some(node) => node.write(at, written)?,
+            None => {}
+        }
+        Ok(())
+    }
+
+    /// Gives a node this size.
+    pub fn resize(&mut self, number: u32, size: usize) -> Result<(), NoMemory>
+        requires { IsSome (finmap.get self.old.nodes number) }
+        ensures ok { OnOk result (self.new.nodes
+            ≡ with_edit self.old.nodes number (Resizes size) (finmap.get self.old.nodes number)) }
+        ensures err { OnErr result (self.new.nodes ≡ self.old.nodes) }
+        ensures places { self.new.places ≡ self.old.places }
+    {
+        match &mut self.places[number as usize] {
+            Some(node) => node.resize(size)?,
+            None => {}
+        }
+        Ok(())
     }
 }

@@ -1,5 +1,5 @@
 // The nodes, the rows, and what is counted of the rows. A change that can be refused memory is refused before any part changes.
-ghost use Rattle.std.specs.Prelude.{◌≡◌, ◌≢◌, ◌+◌, ◌*◌, ◌<◌, ◌≤◌, None, Some, true, option_map, IfSome, IfNone, IsSome, OnOk, OnErr};
+ghost use Rattle.std.specs.Prelude.{◌≡◌, ◌≢◌, ◌+◌, ◌*◌, ◌<◌, ◌≤◌, ◌^◌, length, None, Some, true, option_map, IfSome, IfNone, IsSome, OnOk, OnErr};
 ghost use Rattle.std.specs.FinMap as finmap;
 ghost use Rattle.std.specs.List as list;
 ghost use Rattle.sfs_base.specs.Name.{bucket};
@@ -9,7 +9,7 @@ use crate::NameMap;
 use crate::counts::{Counts, number_at};
 use crate::nodes::{NodeData, Nodes};
 use crate::rows::Rows;
-use sfs_base::{Kind, Name, NoMemory, NodeId};
+use sfs_base::{Name, NoMemory, NodeId};
 use std::alloc::Global;
 use std::marker::Model;
 
@@ -36,6 +36,8 @@ impl Model for Store {
 }
 
 impl Store {
+    ghost use Rattle.sfs_tree.specs.Nodes.{node_of};
+    ghost use Rattle.sfs_tree.specs.Least.{IsLeast, NoneFrom};
     ghost use Rattle.sfs_tree.specs.NameRow.{number_of};
     ghost use Rattle.sfs_tree.specs.Counts.{is_directory_in, count_directories};
 
@@ -80,11 +82,19 @@ impl Store {
         Ok(())
     }
 
-    /// The kind of the node with this number.
-    pub fn kind(&self, number: u32) -> Option<Kind>
-        ensures { result ≡ option_map (λ node. node.kind) (finmap.get self.now.nodes number) }
+    /// The node with this number.
+    pub fn node(&self, number: u32) -> Option<&NodeData>
+        ensures { option_map (λ node. node_of node.now) result ≡ finmap.get self.now.nodes number }
     {
-        self.nodes.kind(number)
+        self.nodes.get(number)
+    }
+
+    /// The least number of a node from `first` on.
+    pub fn next_from(&self, first: usize) -> Option<u32>
+        ensures found { IfSome result (λ number. IsLeast self.now.nodes first number) }
+        ensures none { IfNone result (NoneFrom self.now.nodes first) }
+    {
+        self.nodes.next_from(first)
     }
 
     /// Whether the node with this number is a directory.
@@ -110,7 +120,8 @@ impl Store {
 
     /// How many rows of the directory with this number name directories.
     pub fn directories(&self, number: u32) -> u32
-        ensures { result ≡ count_directories self.now.rows self.now.nodes number }
+        ensures small { result ≤ 2684354560 }
+        ensures count { result ≡ count_directories self.now.rows self.now.nodes number }
     {
         number_at(&self.counts.directories, number)
     }
@@ -154,6 +165,7 @@ impl Store {
 impl Store {
     ghost use Rattle.sfs_tree.specs.Nodes.{node_of};
     ghost use Rattle.sfs_tree.specs.Counts.{is_directory_in};
+    ghost use Rattle.sfs_tree.specs.Effect.{Puts, Resizes, with_edit};
     ghost use Rattle.sfs_tree.specs.StoreState.{HasPlace};
 
     /// Puts a node at its number.
@@ -279,5 +291,32 @@ impl Store {
         self.counts.take(to_directory, there.0, was_directory);
         self.counts.take(directory, child.0, is_directory);
         self.counts.add(to_directory, child.0, is_directory);
+    }
+
+    /// Puts bytes into a node from byte `at` on.
+    pub fn write(&mut self, number: u32, at: usize, written: &[u8]) -> Result<(), NoMemory>
+        requires node { IsSome (finmap.get self.old.nodes number) }
+        requires end { at + length written.now < 2 ^ 32 }
+        ensures ok { OnOk result (self.new.nodes
+            ≡ with_edit self.old.nodes number (Puts at written.now) (finmap.get self.old.nodes number)) }
+        ensures err { OnErr result (self.new.nodes ≡ self.old.nodes) }
+        ensures rows { self.new.rows ≡ self.old.rows }
+        ensures places { self.new.places ≡ self.old.places }
+    {
+        self.nodes.write(number, at, written)?;
+        Ok(())
+    }
+
+    /// Gives a node this size.
+    pub fn resize(&mut self, number: u32, size: usize) -> Result<(), NoMemory>
+        requires { IsSome (finmap.get self.old.nodes number) }
+        ensures ok { OnOk result (self.new.nodes
+            ≡ with_edit self.old.nodes number (Resizes size) (finmap.get self.old.nodes number)) }
+        ensures err { OnErr result (self.new.nodes ≡ self.old.nodes) }
+        ensures rows { self.new.rows ≡ self.old.rows }
+        ensures places { self.new.places ≡ self.old.places }
+    {
+        self.nodes.resize(number, size)?;
+        Ok(())
     }
 }

@@ -102,7 +102,10 @@ impl Tree {
     pub fn kind(&self, node: NodeId) -> Option<Kind>
         ensures { result ≡ option_map (λ node. node.kind) (finmap.get self.now.nodes node.0) }
     {
-        self.store.kind(node.0)
+        match self.store.node(node.0) {
+            Some(node) => Some(node.kind),
+            None => None,
+        }
     }
 
     /// How many rows a directory has.
@@ -190,9 +193,10 @@ impl Tree {
         if !self.is_alive(dir) {
             return Some(Code::NoEntry);
         }
-        match self.store.kind(dir.0) {
-            Some(Kind::Directory) => None,
-            _ => Some(Code::NotDir),
+        if self.store.is_directory(dir.0) {
+            None
+        } else {
+            Some(Code::NotDir)
         }
     }
 

@@ -3,15 +3,13 @@ use Rattle.std.specs.FinMap.{get}
 use Rattle.std.proofs.lemmas.List.{get_or_past, get_or_read}
 use Rattle.sfs_tree.specs.declared.nodes.NodeData.{NodeData}
 use Rattle.sfs_tree.specs.NodesState.{NodesState}
-use Rattle.sfs_tree.specs.Tree.{Node}
 use Rattle.sfs_tree.specs.Nodes.{numbered, node_of}
 use Rattle.sfs_tree.proofs.Numbered.{get-numbered}
-use Rattle.sfs_tree.proofs.nodes.Nodes.kind.Goals as goal
+use Rattle.sfs_tree.proofs.nodes.Nodes.get.Goals as goal
 
--- the kind of what lies at a place
-found : (nodes : List (Option NodeData)) (place : ℕ) (s : NodesState) (o : Option NodeData) → numbered nodes ≡ s.nodes → o ≡ get_or nodes place None → option_map (λ (n : NodeData). n.kind) o ≡ option_map (λ (n : Node). n.kind) (get s.nodes place)
-found nodes place s None is at = ap (option_map (λ (n : Node). n.kind)) (ap (option_map node_of) at ∙ sym (get-numbered nodes place) ∙ ap (λ m. get m place) is)
-found nodes place s (Some n) is at = ap (option_map (λ (n : Node). n.kind)) (ap (option_map node_of) at ∙ sym (get-numbered nodes place) ∙ ap (λ m. get m place) is)
+-- what lies at a place
+found : (nodes : List (Option NodeData)) (place : ℕ) (s : NodesState) (o : Option NodeData) → numbered nodes ≡ s.nodes → o ≡ get_or nodes place None → option_map node_of o ≡ get s.nodes place
+found nodes place s o is at = ap (option_map node_of) at ∙ sym (get-numbered nodes place) ∙ ap (λ m. get m place) is
 
 pub returns-then-place-len : goal.returns-then-place-len
 returns-then-place-len c =
