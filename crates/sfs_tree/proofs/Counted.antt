@@ -1,18 +1,16 @@
 -- The stored counts, kept by each change.
-use Rattle.std.proofs.Common.{◌≡◌, ◌≢◌, ℕ, zero, suc, ◌+◌, ◌-◌, ◌^◌, ◌<◌, ◌≤◌, Bool, true, false, cond, ◌&&◌, List, [], ◌∷◌, ◌++◌, length, set, Option, Some, None, IsSome, refl, sym, ap, subst, ◌∙◌, arith, count_by, nat_eq, slice_index}
+use Rattle.std.proofs.Common.{◌≡◌, ℕ, zero, suc, ◌+◌, ◌-◌, ◌^◌, ◌<◌, ◌≤◌, Bool, true, false, cond, ◌&&◌, List, [], ◌∷◌, ◌++◌, length, set, Option, Some, None, refl, sym, ap, subst, ◌∙◌, arith, count_by, nat_eq, slice_index}
 use borrow.Author.Tests.{eqb-true, eq-eqb, eqb-false}
-use Rattle.std.specs.List as list
 use Rattle.std.specs.Ordering.{nat_cmp}
-use Rattle.std.specs.Option.{option_map_or}
 use Rattle.std.proofs.lemmas.List.{get_or-set_same, get_or-set_other, length-append, length-set}
-use Rattle.std.specs.FinMap.{FinMap, get, insert, remove, empty, entries, len, get-empty, len-empty, len-entries}
+use Rattle.std.specs.FinMap.{FinMap, get, insert, remove, empty, entries, len, get-empty, len-empty}
 use Rattle.sfs_tree.specs.declared.counts.Counts.{Counts}
 use Rattle.sfs_tree.specs.Order.{Key, key_cmp}
 use Rattle.sfs_tree.specs.Tree.{Node, count_of, names_it}
 use Rattle.sfs_tree.specs.Buckets.{stands_in}
 use Rattle.sfs_tree.specs.Counts.{is_directory_in, holds_directory_in, count_inside, count_directories, one_if, IsCounted, IsWide, MayRise, MayFall}
 use Rattle.sfs_tree.proofs.Joined.{count-insert}
-use Rattle.sfs_tree.proofs.Counting.{count-remove, count-le-len, len_more, len_less, count_agree, count_some, came, Came, stayed, found, Found, only, none_removed}
+use Rattle.sfs_tree.proofs.Counting.{count-remove, count-le-len, len_more, len_less, count_agree, count_some, came, Came, stayed}
 
 -- a count that is more at one place
 counted_more : (ns : List ℕ) (x k more old new : ℕ) → x < length ns → slice_index ns k ≡ old → new ≡ old + cond (nat_eq x k) more 0 → slice_index (set ns x (slice_index ns x + more)) k ≡ new

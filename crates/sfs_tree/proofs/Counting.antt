@@ -1,9 +1,9 @@
 -- Rows counted by a test: after one comes or goes, where two tests agree, and which row a test finds.
-use Rattle.std.proofs.Common.{◌≡◌, ◌≢◌, ℕ, zero, suc, ◌+◌, ◌<◌, ◌≤◌, Bool, true, false, cond, T, List, [], ◌∷◌, length, Option, Some, None, is_some, IsSome, refl, sym, ap, subst, ◌∙◌, arith, count_by}
+use Rattle.std.proofs.Common.{◌≡◌, ◌≢◌, ℕ, ◌+◌, ◌<◌, ◌≤◌, Bool, true, false, cond, T, List, [], ◌∷◌, Option, Some, None, is_some, refl, sym, ap, subst, ◌∙◌, arith, count_by}
 use Rattle.std.specs.List as list
 use Rattle.std.specs.Ordering.{eq_by_cmp, is_eq}
-use Rattle.std.specs.Cmp.{IsTotalOrder, tied_itself}
-use Rattle.std.specs.FinMap.{FinMap, find, entries, get, insert, remove, len, is_sorted, IsAntisymmetric, same_map, get-insert, get-remove, get-entries, entries_sorted, len-insert, len-remove}
+use Rattle.std.specs.Cmp.{tied_itself}
+use Rattle.std.specs.FinMap.{FinMap, find, entries, get, insert, remove, len, is_sorted, same_map, get-insert, get-remove, get-entries, entries_sorted, len-insert}
 use Rattle.std.specs.FinMap.Entries.{below_all}
 use Rattle.std.proofs.lemmas.List.Sums.{count_by-le-length}
 use Rattle.std.specs.FinMap.{len-entries}

@@ -1,6 +1,7 @@
 pub mod Counted
 pub mod Counting
 pub mod FileBytes
+pub mod Founded
 pub mod Histories
 pub mod Joined
 pub mod JoinedChanged
@@ -12,5 +13,6 @@ pub mod Removed
 pub mod RowsByName
 pub mod RowsRemoved
 pub mod Search
+pub mod SoundTree
 pub mod Stored
 pub mod StoreKept

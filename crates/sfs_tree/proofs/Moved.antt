@@ -1,20 +1,20 @@
 -- A row that moves, and the holder of a directory.
-use Rattle.std.proofs.Common.{◌≡◌, ◌≢◌, ℕ, ◌+◌, ◌*◌, ◌^◌, ◌<◌, ◌≤◌, Bool, true, false, cond, List, Option, Some, None, IsSome, option_map, refl, sym, ap, subst, ◌∙◌, arith, nat_eq, slice_index}
-use borrow.Author.Tests.{eqb-true, eqb-false}
+use Rattle.std.proofs.Common.{◌≡◌, ◌≢◌, ℕ, ◌+◌, ◌<◌, ◌≤◌, Bool, true, false, cond, List, Option, Some, None, IsSome, option_map, refl, sym, ap, subst, ◌∙◌, arith, nat_eq, slice_index}
+use borrow.Author.Tests.{eqb-true}
 use Rattle.std.specs.List as list
 use Rattle.std.specs.Ordering.{eq_by_cmp, nat_cmp}
-use Rattle.std.specs.FinMap.{FinMap, get, insert, remove, entries, len, get-insert, get-remove}
+use Rattle.std.specs.FinMap.{FinMap, get, insert, remove, entries, get-insert, get-remove}
 use Rattle.sfs_tree.specs.declared.counts.Counts.{Counts}
 use Rattle.sfs_tree.specs.Order.{Key, key_cmp}
 use Rattle.sfs_tree.specs.Tree.{Node, count_of, names_it}
 use Rattle.sfs_tree.specs.NodesState.{NodesState}
 use Rattle.sfs_tree.specs.RowsState.{RowsState}
-use Rattle.sfs_tree.specs.Counts.{is_directory_in, IsCounted, IsWide, MayRise, MayFall}
+use Rattle.sfs_tree.specs.Counts.{is_directory_in, IsCounted, IsWide, MayRise}
 use Rattle.sfs_tree.specs.Store.{IsStored}
 use Rattle.sfs_tree.proofs.Joined.{key_cmp_total, key_cmp-IsAntisymmetric, is_equal}
-use Rattle.sfs_tree.proofs.Counted.{MayRise-counted, MayFall-counted}
-use Rattle.sfs_tree.proofs.Counting.{same_rows, other_than, get_other-remove, get_other-insert, none_removed, count-remove, len_less, found, Found, found_none}
-use Rattle.sfs_tree.proofs.StoreKept.{IsStored-removed, IsStored-row, rows_small}
+use Rattle.sfs_tree.proofs.Counted.{MayRise-counted}
+use Rattle.sfs_tree.proofs.Counting.{same_rows, other_than, get_other-insert, count-remove, len_less, found, Found, found_none}
+use Rattle.sfs_tree.proofs.StoreKept.{IsStored-removed, rows_small}
 
 -- a row that comes and another one that goes, in either order
 pub swapped : (rows : FinMap key_cmp ℕ) (k to : Key) (x : ℕ) → k ≢ to → remove (insert rows to x) k ≡ insert (remove rows k) to x

@@ -1,12 +1,12 @@
 -- A store's parts stay tied to one another by each change.
-use Rattle.std.proofs.Common.{◌≡◌, ◌≢◌, ℕ, zero, suc, ◌+◌, ◌*◌, ◌^◌, ◌<◌, ◌≤◌, Bool, true, false, cond, List, length, Option, Some, None, IsSome, ◌⊎◌, inl, inr, refl, sym, ap, subst, ◌∙◌, arith}
+use Rattle.std.proofs.Common.{◌≡◌, ◌≢◌, ℕ, ◌+◌, ◌*◌, ◌^◌, ◌<◌, ◌≤◌, Bool, true, false, cond, List, Option, Some, None, IsSome, ◌⊎◌, inl, inr, refl, sym, ap, subst, ◌∙◌, arith}
 use Rattle.std.specs.Ordering.{nat_cmp, eq_by_cmp, is_eq}
 use Rattle.std.specs.Option.{option_map_or}
 use Rattle.std.specs.Cmp.{nat_cmp_total, tied_itself}
 use Rattle.std.specs.FinMap.{FinMap, get, insert, remove, empty, len, get-empty, len-empty, get-insert, nat_cmp-IsAntisymmetric}
 use Rattle.sfs_tree.specs.declared.counts.Counts.{Counts}
 use Rattle.sfs_tree.specs.Order.{Key, key_cmp}
-use Rattle.sfs_tree.specs.Tree.{Node, is_directory_kind, count_of}
+use Rattle.sfs_tree.specs.Tree.{Node, is_directory_kind}
 use Rattle.sfs_tree.specs.Effect.{Edit, edited, with_edit}
 use Rattle.sfs_tree.specs.NodesState.{NodesState}
 use Rattle.sfs_tree.specs.RowsState.{RowsState}
@@ -15,7 +15,7 @@ use Rattle.sfs_tree.specs.Counts.{is_directory_in, IsCounted, IsWide, MayRise, M
 use Rattle.sfs_tree.specs.Store.{IsStored}
 use Rattle.sfs_tree.proofs.Joined.{is_equal}
 use Rattle.sfs_tree.proofs.Counted.{IsCounted-nodes, MayRise-counted, MayFall-counted}
-use Rattle.sfs_tree.proofs.Counting.{came, Came, stayed, len_more, len_less, get_other-insert}
+use Rattle.sfs_tree.proofs.Counting.{came, Came, stayed, len_more}
 
 none_some : {X : Type 0} {x : X} → ◌≡◌ {A = Option X} None (Some x) → ⊥
 none_some e = cc
@@ -45,7 +45,7 @@ nodes_after nodes k x node = get-insert nat_cmp_total nodes k node x
 pub some_more : (nodes : FinMap nat_cmp Node) (k x : ℕ) (node : Node) → IsSome (get nodes x) → IsSome (get (insert nodes k node) x)
 some_more nodes k x node some = subst IsSome (sym (nodes_after nodes k x node)) (elim (eq_by_cmp nat_cmp x k) as (λ b. IsSome (cond b (Some node) (get nodes x))) [ true ↦ refl | false ↦ some ])
 
-some_before : (nodes : FinMap nat_cmp Node) (k x : ℕ) (node : Node) → IsSome (get (insert nodes k node) x) → (x ≡ k) ⊎ IsSome (get nodes x)
+pub some_before : (nodes : FinMap nat_cmp Node) (k x : ℕ) (node : Node) → IsSome (get (insert nodes k node) x) → (x ≡ k) ⊎ IsSome (get nodes x)
 some_before nodes k x node some =
     elim (eq_by_cmp nat_cmp x k) as (λ b. eq_by_cmp nat_cmp x k ≡ b → IsSome (cond b (Some node) (get nodes x)) → (x ≡ k) ⊎ IsSome (get nodes x)) [
       | true ↦ λ t s. inl (nat_cmp-IsAntisymmetric x k (is_equal _ t))
@@ -187,11 +187,13 @@ has_place n c r s number h is (inl some) = h.within number (subst (λ (s : Store
 has_place n c r s number h is (inr low) = let e : n.places ≡ s.places = ap (λ (s : StoreState). s.places) is in omega arith
 
 -- bytes that change leave all else as it is
-pub IsStored-edited : (n : NodesState) (c : Counts) (r : RowsState) (m : NodesState) (k : ℕ) (edit : Edit) → IsStored n c r → m.nodes ≡ with_edit n.nodes k edit (get n.nodes k) → m.places ≡ n.places → IsSome (get n.nodes k) → IsStored m c r
-IsStored-edited n c r m k edit h nodes places some = by_node (get n.nodes k) refl
+pub IsStored-edited : (n : NodesState) (c : Counts) (r : RowsState) (m : NodesState) (k : ℕ) (edit : Edit) → IsStored n c r → m.nodes ≡ with_edit n.nodes k edit (get n.nodes k) → m.places ≡ n.places → IsStored m c r
+IsStored-edited n c r m k edit h nodes places = by_node (get n.nodes k) refl
   where
     by_node : (o : Option Node) → get n.nodes k ≡ o → IsStored m c r
     by_node (Some node) e =
-        IsStored-edit n c r h m k (record node { bytes = edited edit node.bytes }) (nodes ∙ ap (with_edit n.nodes k edit) e) places some
+        IsStored-edit n c r h m k (record node { bytes = edited edit node.bytes }) (nodes ∙ ap (with_edit n.nodes k edit) e) places (subst IsSome (sym e) refl)
         (ap is_directory_node (this_node n.nodes k (record node { bytes = edited edit node.bytes })) ∙ sym (ap is_directory_node e))
-    by_node None e = absurd (some_none _ e some)
+    by_node None e =
+        let x = h.enough in
+        IsStored-place n c r h m c r (nodes ∙ ap (with_edit n.nodes k edit) e) (omega arith) (omega arith) h.few (omega arith) refl (subst (IsWide c) (sym places) h.wide) h.counted

@@ -1,6 +1,6 @@
 -- The parts of a store, kept by each change.
-use Rattle.std.proofs.Common.{◌≡◌, ◌≢◌, ℕ, zero, suc, ◌+◌, ◌*◌, ◌^◌, ◌<◌, ◌≤◌, Bool, true, false, List, [], ◌∷◌, ◌++◌, length, replicate, Option, None, Some, IsSome, inl, inr, refl, sym, ap, subst, ◌∙◌, arith}
-use Rattle.std.specs.FinMap.{get, empty, get-empty, len-empty}
+use Rattle.std.proofs.Common.{◌≡◌, ℕ, zero, suc, List, [], ◌∷◌, ◌++◌, replicate, Option, None, IsSome, sym, ap, subst, ◌∙◌, arith}
+use Rattle.std.specs.FinMap.{empty, get-empty, len-empty}
 use Rattle.std.proofs.lemmas.List.{append-nil, append_assoc, length-append}
 use Rattle.sfs_tree.specs.Order.{name_cmp}
 use Rattle.sfs_tree.specs.Buckets.{Bucket, joined, IsPlaced, IsBuilt}

@@ -16,5 +16,6 @@ pub mod Shape
 pub mod Sound
 pub mod Store
 pub mod StoreState
+pub mod Step
 pub mod Tree
 pub mod Verdict

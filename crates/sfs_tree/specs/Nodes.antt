@@ -1,7 +1,7 @@
 -- How nodes are stored: each at its number.
-use Rattle.std.specs.Prelude.{◌≡◌, ℕ, suc, ◌<◌, ◌≤◌, List, [], ◌∷◌, Option, Some, None, IsSome}
+use Rattle.std.specs.Prelude.{ℕ, suc, List, [], ◌∷◌, Option, Some, None}
 use Rattle.std.specs.Ordering.{nat_cmp}
-use Rattle.std.specs.FinMap.{FinMap, from_entries, get}
+use Rattle.std.specs.FinMap.{FinMap, from_entries}
 use Rattle.sfs_tree.specs.declared.nodes.NodeData.{NodeData}
 use Rattle.sfs_tree.specs.Tree.{Node}
 

@@ -1,5 +1,5 @@
 -- How a tree is stored: nodes by their numbers, rows in buckets, and what is counted of the rows.
-use Rattle.std.specs.Prelude.{◌≡◌, ℕ, ◌*◌, ◌<◌, ◌≤◌, List, Some, IsSome, true}
+use Rattle.std.specs.Prelude.{◌≡◌, ℕ, ◌*◌, ◌<◌, ◌≤◌, List, Some, IsSome}
 use Rattle.std.specs.FinMap.{get, len}
 use Rattle.sfs_tree.specs.declared.counts.Counts.{Counts}
 use Rattle.sfs_tree.specs.NodesState.{NodesState}

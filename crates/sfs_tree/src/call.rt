@@ -4,9 +4,16 @@ use sfs_base::{Chunk, Kind, Name, NoMemory, NodeId};
 #[derive(Debug, Drop)]
 pub enum Call {
     /// Asks for the child of the row with this name.
-    Look { dir: NodeId, name: Name },
+    Look {
+        dir: NodeId,
+        name: Name,
+    },
     /// Makes an empty node and a row that names it.
-    Make { dir: NodeId, name: Name, kind: Kind },
+    Make {
+        dir: NodeId,
+        name: Name,
+        kind: Kind,
+    },
     /// Makes one more row that names a file.
     Link {
         file: NodeId,
@@ -14,9 +21,15 @@ pub enum Call {
         name: Name,
     },
     /// Removes the row of a file.
-    Unlink { dir: NodeId, name: Name },
+    Unlink {
+        dir: NodeId,
+        name: Name,
+    },
     /// Removes the row of an empty directory.
-    Rmdir { dir: NodeId, name: Name },
+    Rmdir {
+        dir: NodeId,
+        name: Name,
+    },
     /// Gives a row's child another row in place of this one, and of the one that stands there.
     Rename {
         dir: NodeId,
@@ -31,13 +44,26 @@ pub enum Call {
         bytes: Chunk,
     },
     /// Asks for `count` bytes of a file, at most 65,536, from byte `at` on.
-    Read { file: NodeId, at: u64, count: u32 },
+    Read {
+        file: NodeId,
+        at: u64,
+        count: u32,
+    },
     /// Gives a file this size, in bytes.
-    Trunc { file: NodeId, size: u64 },
+    Trunc {
+        file: NodeId,
+        size: u64,
+    },
     /// Asks for a node's kind, link count and size.
-    Stat { node: NodeId },
+    Stat {
+        node: NodeId,
+    },
     /// Asks for the names in a directory.
-    List { dir: NodeId },
+    List {
+        dir: NodeId,
+    },
     /// Brings a node's changes to the disk.
-    Fsync { node: NodeId },
+    Fsync {
+        node: NodeId,
+    },
 }

@@ -16,8 +16,8 @@ mod turns;
 
 pub use call::Call;
 pub use history::{Cursor, Entry, History};
-pub use name_map::{NameMap, NameRow};
 pub use listing::{NameKind, NameRows};
+pub use name_map::{NameMap, NameRow};
 pub use reply::{Code, Reply};
 pub use tree::Tree;
 pub use turns::{Turn, TurnAct, Turns};

@@ -1,7 +1,7 @@
-ghost use Rattle.std.specs.Prelude.{◌≡◌, map, IfOk};
-ghost use Rattle.std.specs.Prelude.{slice_get, option_map};
+ghost use Rattle.std.specs.Prelude.{◌≡◌, map, length, slice_get, option_map};
+ghost use Rattle.sfs_tree.specs.NameKinds.{name_kind};
 
-use sfs_base::{Kind, Name, NoMemory};
+use sfs_base::{Kind, Name};
 use std::marker::Model;
 
 /// A name of a directory, and the kind of its node.
@@ -27,4 +27,13 @@ impl Model for NameRows {
     ghost Value = { List (List ℕ × Kind) };
 
     ghost view = { λ names. map name_kind names.rows.items };
+}
+
+impl NameRows {
+    /// These rows. It takes no memory.
+    pub fn from_rows(rows: Vec<NameKind>) -> NameRows
+        ensures { result ≡ map name_kind rows.items }
+    {
+        NameRows { rows }
+    }
 }

@@ -293,10 +293,9 @@ impl Store {
         self.counts.add(to_directory, child.0, is_directory);
     }
 
-    /// Puts bytes into a node from byte `at` on.
+    /// Puts bytes into a node from byte `at` on, if there is a node of this number.
     pub fn write(&mut self, number: u32, at: usize, written: &[u8]) -> Result<(), NoMemory>
-        requires node { IsSome (finmap.get self.old.nodes number) }
-        requires end { at + length written.now < 2 ^ 32 }
+        requires { at + length written.now < 2 ^ 32 }
         ensures ok { OnOk result (self.new.nodes
             ≡ with_edit self.old.nodes number (Puts at written.now) (finmap.get self.old.nodes number)) }
         ensures err { OnErr result (self.new.nodes ≡ self.old.nodes) }
@@ -307,9 +306,8 @@ impl Store {
         Ok(())
     }
 
-    /// Gives a node this size.
+    /// Gives a node this size, if there is a node of this number.
     pub fn resize(&mut self, number: u32, size: usize) -> Result<(), NoMemory>
-        requires { IsSome (finmap.get self.old.nodes number) }
         ensures ok { OnOk result (self.new.nodes
             ≡ with_edit self.old.nodes number (Resizes size) (finmap.get self.old.nodes number)) }
         ensures err { OnErr result (self.new.nodes ≡ self.old.nodes) }

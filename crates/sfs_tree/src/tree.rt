@@ -1,16 +1,20 @@
-ghost use Rattle.std.specs.Prelude.{◌≡◌, ◌≢◌, ◌⊎◌, ◌+◌, ◌*◌, ◌<◌, ◌≤◌, None, Some, [], length, is_some, nat_le, option_map, IsTrue, IsSome, IfOk, OnOk, OnErr};
+ghost use Rattle.std.specs.Prelude.{◌≡◌, ◌+◌, ◌*◌, ◌<◌, ◌≤◌, ℕ, None, [], length, nat_lt, IsTrue, IsSome, IfOk, OnOk, OnErr};
 ghost use Rattle.std.specs.FinMap as finmap;
 ghost use Rattle.sfs_base.specs.Name.{bucket};
 
 use crate::nodes::NodeData;
 use crate::store::Store;
-use crate::{Call, Code, NameMap, Reply};
-use sfs_base::{CoreId, Kind, Name, NoMemory, NodeId, bucket_of};
+use crate::{Call, Reply};
+use sfs_base::{CoreId, Kind, Name, NoMemory, NodeId};
 use std::alloc::Global;
 use std::marker::Model;
 
-/// How many rows a bucket of a directory holds at most.
-const BUCKET_ROWS: usize = 4096;
+mod bytes;
+mod faults;
+mod links;
+mod looks;
+mod parts;
+mod rename;
 
 /// The tree of one thread: rows from directory and name to child, nodes, and how many nodes each
 /// core has made. A look-up takes time in the logarithm of a bucket's rows, and no call goes over
@@ -31,20 +35,20 @@ impl Model for Tree {
 
     ghost coded = { tree_code };
 
-    ghost use Rattle.sfs_tree.specs.Build.{IsAllowed};
+    ghost use Rattle.sfs_tree.specs.Build.{IsFounded};
 
     ghost view = { λ t. record { rows = t.store.rows; nodes = t.store.nodes; first = t.first; share = t.share; made = t.made.items } };
 
-    ghost invariant = { λ t. IsAllowed t.first t.share t.made.items };
+    ghost invariant = { λ t. IsFounded t.store.nodes t.first t.share t.made.items };
 }
 
 impl Tree {
     ghost use Rattle.sfs_base.specs.declared.numbers.Kind.TheVariants.{Directory};
-    ghost use Rattle.sfs_tree.specs.Tree.{row_of, is_alive, is_directory, bucket_rows, names_of, made_by, next_number};
-    ghost use Rattle.sfs_tree.specs.NameRow.{either, number_of};
+    ghost use Rattle.sfs_tree.specs.Tree.{row_of, is_directory, bucket_rows, made_by};
     ghost use Rattle.sfs_tree.specs.Build.{root_alone, with_node, with_row};
-    ghost use Rattle.sfs_tree.specs.Effect.{Adds, tree_with};
-    ghost use Rattle.sfs_tree.specs.Verdict.{verdict, make_fault, directory_fault, tree_after_call};
+    ghost use Rattle.sfs_tree.specs.Sound.{IsSound};
+    ghost use Rattle.sfs_tree.specs.Step.{IsReadable};
+    ghost use Rattle.sfs_tree.specs.Verdict.{verdict, tree_after_call};
 
     /// The root alone. The first new node has the number `first`, 1 to 16,384; each of the cores may
     /// make `share` nodes, together at most 65,536.
@@ -98,111 +102,59 @@ impl Tree {
         self.store.put_row(dir.0, name, child)
     }
 
-    /// The kind of a node, None exactly where the tree has no such node.
-    pub fn kind(&self, node: NodeId) -> Option<Kind>
-        ensures { result ≡ option_map (λ node. node.kind) (finmap.get self.now.nodes node.0) }
+    /// Each core may make `share` nodes from now on, all cores together at most 65,536. No core has
+    /// made one yet. It takes no memory.
+    pub fn allow(&mut self, share: u32)
+        requires unmade { (core : ℕ) → made_by self.old core ≡ 0 }
+        requires shares { share * length self.old.made ≤ 65536 }
+        ensures { self.new ≡ record (self.old) { share = share } }
     {
-        match self.store.node(node.0) {
-            Some(node) => Some(node.kind),
-            None => None,
+        self.share = share;
+    }
+
+    /// What the call answers, and the tree after it. An fsync leaves the tree as it is.
+    pub fn step(&mut self, core: CoreId, call: &Call) -> Result<Reply, NoMemory>
+        requires core { core.0 < length self.old.made }
+        requires sound { IsSound self.old }
+        requires readable { IsReadable call.now }
+        ensures ok { IfOk result (λ reply. reply ≡ (verdict self.old core.0 call.now).reply) }
+        ensures tree { OnOk result (self.new ≡ tree_after_call self.old core.0 call.now) }
+        ensures err { OnErr result (self.new ≡ self.old) }
+    {
+        self.run(core, call)
+    }
+}
+
+impl Tree {
+    ghost use Rattle.sfs_tree.specs.Sound.{IsSound};
+    ghost use Rattle.sfs_tree.specs.Step.{IsReadable, IsStep};
+
+    // Does the call, by its kind.
+    fn run(&mut self, core: CoreId, call: &Call) -> Result<Reply, NoMemory>
+        requires core { core.0 < length self.old.made }
+        requires sound { IsSound self.old }
+        requires readable { IsReadable call.now }
+        ensures ok { IfOk result (λ reply. IsStep self.old core.0 call.now reply self.new) }
+        ensures err { OnErr result (self.new ≡ self.old) }
+    {
+        match call {
+            Call::Look { dir, name } => Ok(self.look(*dir, name)),
+            Call::Make { dir, name, kind } => self.make(core, *dir, name, *kind),
+            Call::Link { file, dir, name } => self.link(*file, *dir, name),
+            Call::Unlink { dir, name } => Ok(self.unlink(*dir, name)),
+            Call::Rmdir { dir, name } => Ok(self.rmdir(*dir, name)),
+            Call::Rename {
+                dir,
+                name,
+                to_dir,
+                to_name,
+            } => self.rename(*dir, name, *to_dir, to_name),
+            Call::Write { file, at, bytes } => self.write(*file, *at, bytes),
+            Call::Read { file, at, count } => self.read(*file, *at, *count),
+            Call::Trunc { file, size } => self.trunc(*file, *size),
+            Call::Stat { node } => Ok(self.stat(*node)),
+            Call::List { dir } => self.list(*dir),
+            Call::Fsync { node } => Ok(self.fsync(*node)),
         }
-    }
-
-    /// How many rows a directory has.
-    pub fn row_count(&self, dir: NodeId) -> u32
-        ensures { result ≡ finmap.len (names_of dir.0 self.now.rows) }
-    {
-        self.store.inside(dir.0)
-    }
-
-    /// The rows of a directory, as a map of their own. It takes time in the square of their number,
-    /// so it is for directories that are known to be small.
-    pub fn names(&self, dir: NodeId) -> Result<NameMap, NoMemory>
-        ensures { IfOk result (λ names. names ≡ names_of dir.0 self.now.rows) }
-    {
-        let mut names = NameMap::new(self.alloc);
-        for number in 0..8u8 {
-            self.add_bucket(&mut names, dir, number)?;
-        }
-        Ok(names)
-    }
-
-    // Adds the rows of a bucket, whose names are new.
-    fn add_bucket(&self, names: &mut NameMap, dir: NodeId, number: u8) -> Result<(), NoMemory>
-        requires number { number < 8 }
-        requires apart { (name : _) → IsSome (finmap.get (bucket_rows dir.0 number self.now.rows) name)
-            → finmap.get names.old name ≡ None }
-        ensures { OnOk result ((name : _) → finmap.get names.new name
-            ≡ either (finmap.get (bucket_rows dir.0 number self.now.rows) name) (finmap.get names.old name)) }
-    {
-        match self.store.bucket(dir.0, number) {
-            Some(rows) => names.add_rows(self.alloc, rows.rows()),
-            None => Ok(()),
-        }
-    }
-
-    // The number of the node that the core makes next.
-    fn next_node(&self, core: CoreId) -> NodeId
-        requires core { core.0 < length self.now.made }
-        requires share { made_by self.now core.0 < self.now.share }
-        ensures { result.0 ≡ next_number self.now core.0 }
-    {
-        NodeId(self.first + u32::from(core.0) * self.share + self.made[core.0 as usize])
-    }
-
-    // The child of the directory's row with this name.
-    fn child(&self, dir: NodeId, name: &Name) -> Option<NodeId>
-        ensures { number_of result ≡ row_of self.now dir.0 name.now }
-    {
-        self.store.child(dir.0, name)
-    }
-
-    // Why a node can't be made here.
-    fn make_fault(&self, core: CoreId, dir: NodeId, name: &Name) -> Option<Code>
-        requires { core.0 < length self.now.made }
-        ensures { result ≡ make_fault self.now core.0 dir.0 name.now }
-    {
-        if let Some(code) = self.directory_fault(dir) {
-            return Some(code);
-        }
-        if self.child(dir, name).is_some() {
-            Some(Code::Exists)
-        } else if self.is_full(dir, name) {
-            Some(Code::DirFull)
-        } else if self.made[core.0 as usize] >= self.share {
-            Some(Code::NoNodes)
-        } else {
-            None
-        }
-    }
-
-    // Whether the name's bucket has as many rows as it may have.
-    fn is_full(&self, dir: NodeId, name: &Name) -> bool
-        ensures { result ≡ nat_le 4096 (finmap.len (bucket_rows dir.0 (bucket name.now) self.now.rows)) }
-    {
-        match self.store.bucket(dir.0, bucket_of(name)) {
-            Some(rows) => rows.len() >= BUCKET_ROWS,
-            None => false,
-        }
-    }
-
-    // Why a directory can't be used.
-    fn directory_fault(&self, dir: NodeId) -> Option<Code>
-        ensures { result ≡ directory_fault self.now dir.0 }
-    {
-        if !self.is_alive(dir) {
-            return Some(Code::NoEntry);
-        }
-        if self.store.is_directory(dir.0) {
-            None
-        } else {
-            Some(Code::NotDir)
-        }
-    }
-
-    fn is_alive(&self, node: NodeId) -> bool
-        ensures { result ≡ is_alive self.now node.0 }
-    {
-        node.0 == 0 || self.store.named(node.0) != 0
     }
 }

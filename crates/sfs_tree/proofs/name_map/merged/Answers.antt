@@ -1,4 +1,4 @@
-use Rattle.std.proofs.Common.{◌≡◌, ◌++◌, [], ◌∷◌, List, ℕ, ◌≤◌, length, map, drop, refl, sym, ap, ◌∙◌, arith}
+use Rattle.std.proofs.Common.{◌≡◌, ◌++◌, List, ℕ, ◌≤◌, length, map, drop, sym, ap, ◌∙◌, arith}
 use Rattle.std.proofs.lemmas.List.{take_rest, drop_all, append_assoc, append-nil}
 use Rattle.sfs_tree.specs.declared.name_map.NameRow.{NameRow}
 use Rattle.sfs_tree.specs.NameRow.{entry_of, both_lists}

@@ -1,7 +1,6 @@
-use Rattle.std.proofs.Common.{◌≡◌, ◌<◌, ◌≤◌, List, length, map, sym, ap, ◌∙◌, arith}
+use Rattle.std.proofs.Common.{sym, ap, ◌∙◌, arith}
 use Rattle.std.specs.Prelude.{slice_get}
 use Rattle.std.specs.FinMap.{entries}
-use Rattle.sfs_tree.specs.NameRow.{entry_of}
 use Rattle.sfs_tree.proofs.RowsByName.{entries-map_of}
 use Rattle.sfs_tree.proofs.RowsRemoved.{entry_at, entry_past}
 use Rattle.sfs_tree.proofs.name_map.NameMap.at.Goals as goal

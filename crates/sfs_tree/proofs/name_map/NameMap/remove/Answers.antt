@@ -1,4 +1,4 @@
-use Rattle.std.proofs.Common.{◌≡◌, ◌<◌, ◌∙◌, sym, ap, map, length, IsTrue, IsSome, subst, arith, vec_len}
+use Rattle.std.proofs.Common.{◌<◌, ◌∙◌, sym, ap, map, length, IsTrue, IsSome, subst, arith}
 use Rattle.std.specs.FinMap.{remove, from_sorted, is_sorted, find, get}
 use Rattle.sfs_tree.specs.Order.{name_cmp}
 use Rattle.sfs_tree.specs.NameRow.{entry_of, IsPlaceOf}

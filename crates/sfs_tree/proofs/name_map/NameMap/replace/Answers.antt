@@ -1,5 +1,5 @@
-use Rattle.std.proofs.Common.{◌≡◌, ◌<◌, ◌∙◌, sym, ap, map, length, IsTrue, IsSome, subst, arith, vec_len}
-use Rattle.std.specs.FinMap.{insert, from_sorted, is_sorted, find, get}
+use Rattle.std.proofs.Common.{◌<◌, ◌∙◌, sym, ap, map, length, IsSome, subst, arith}
+use Rattle.std.specs.FinMap.{insert, find, get}
 use Rattle.sfs_tree.specs.Order.{name_cmp}
 use Rattle.sfs_tree.specs.NameRow.{entry_of, IsPlaceOf}
 use Rattle.sfs_tree.proofs.RowsByName.{get-map_of}

@@ -1,4 +1,4 @@
-use Rattle.std.proofs.Common.{◌≡◌, ◌<◌, ◌≤◌, ℕ, Bool, true, false, ltb, Option, Some, None, is_some, IsSome, option_map, sym, ap, subst, ◌∙◌, arith, refl}
+use Rattle.std.proofs.Common.{◌≡◌, ◌≤◌, true, false, ltb, Option, Some, None, is_some, IsSome, option_map, sym, ap, subst, ◌∙◌, arith, refl}
 use borrow.Author.Tests.{ltb-true, ltb-false}
 use Rattle.std.specs.FinMap.{get}
 use Rattle.std.proofs.lemmas.List.{get_or_read, get_or_past}

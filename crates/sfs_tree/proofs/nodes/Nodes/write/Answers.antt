@@ -1,12 +1,12 @@
-use Rattle.std.proofs.Common.{◌≡◌, Result, Ok, Err, OnErr, Option, Some, None, IsSome, option_map, ℕ, get_or, length, set, sym, ap, subst, ◌∙◌, arith}
+use Rattle.std.proofs.Common.{◌≡◌, Result, Ok, Err, OnErr, Option, Some, None, option_map, get_or, set, sym, ap, ◌∙◌, arith}
 use Rattle.std.specs.FinMap.{get}
-use Rattle.std.proofs.lemmas.List.{get_or_read}
+use Rattle.std.proofs.lemmas.List.{get_or_read, get_or_past, set-get_or}
 use Rattle.sfs_tree.specs.declared.nodes.NodeData.{NodeData}
 use Rattle.sfs_tree.specs.declared.nodes.Nodes.TheInside.{Inside}
 use Rattle.sfs_tree.specs.NodesState.{NodesState}
 use Rattle.sfs_tree.specs.Nodes.{numbered, node_of}
-use Rattle.sfs_tree.specs.Effect.{Puts, Resizes, with_edit}
-use Rattle.sfs_tree.proofs.Numbered.{numbered_within, numbered_same, numbered_edited, get-numbered}
+use Rattle.sfs_tree.specs.Effect.{Puts, with_edit}
+use Rattle.sfs_tree.proofs.Numbered.{numbered_same, numbered_edited, get-numbered}
 use Rattle.sfs_tree.proofs.nodes.Nodes.write.Goals as goal
 use Rattle.sfs_tree.proofs.nodes.Nodes.write.Goals.{After-index_mut, in-Some+in_ok-write-in-Some, in-None}
 
@@ -14,19 +14,15 @@ on_err : {X E : Type 0} {P : Type 0} (r : Result X E) → P → OnErr r P
 on_err (Ok x) p = tt
 on_err (Err e) p = p
 
-none_not : {X : Type 0} (o : Option X) → o ≡ None → IsSome o → ⊥
-none_not o none some = cc
-
-some : (c : After-index_mut) → IsSome (get (numbered c.self.inside.places.items) c.args.number)
-some c = subst (λ (s : NodesState). IsSome (get s.nodes c.args.number)) (sym c.self.view_is) c.requires.node
-
 -- what lies at the number's place
 there : (c : After-index_mut) (o : Option NodeData) → c.index_mut.result.now ≡ o → get_or c.self.inside.places.items c.args.number None ≡ o
-there c o is = sym (get_or_read c.self.inside.places.items c.args.number c.index_mut.result.now (numbered_within c.self.inside.places.items c.args.number (some c)) c.index_mut.ensures.value None) ∙ is
+there c o is = sym (get_or_read c.self.inside.places.items c.args.number c.index_mut.result.now (omega (arith, c.self.inside.places.ok.0)) c.index_mut.ensures.value None) ∙ is
 
-pub index_mut-requires : goal.index_mut-requires
-index_mut-requires c =
-    omega (arith, c.self.inside.places.ok.0, numbered_within c.self.inside.places.items c.args.number (subst (λ (s : NodesState). IsSome (get s.nodes c.args.number)) (sym c.self.view_is) c.requires.node))
+pub returns-then-place-len-clause-ok : goal.returns-then-place-len-clause-ok
+returns-then-place-len-clause-ok c =
+    let none : get_or c.self.inside.places.items c.args.number None ≡ None = get_or_past c.self.inside.places.items c.args.number None (omega (arith, c.self.inside.places.ok.0)) in
+    let absent : get c.args.self.now.nodes c.args.number ≡ None = ap (λ (s : NodesState). get s.nodes c.args.number) (sym c.self.view_is) ∙ get-numbered c.self.inside.places.items c.args.number ∙ ap (option_map node_of) none in
+    sym (ap (with_edit c.args.self.now.nodes c.args.number (Puts c.args.at c.args.written.now)) absent)
 
 pub returns-in_err-write-in-Some-clause-err : goal.returns-in_err-write-in-Some-clause-err
 returns-in_err-write-in-Some-clause-err c =
@@ -41,5 +37,9 @@ returns-clause-ok c =
           ap (λ (s : Inside). numbered s.places.items) w.self-inside-is
           ∙ numbered_edited c.self.inside.places.items c.args.number w.in-Some.node (there at (Some w.in-Some.node) w.in-Some.is) w.write.new.self (Puts c.args.at c.args.written.now) w.in_ok-write-in-Some.ensures.ok
           ∙ ap (λ (s : NodesState). with_edit s.nodes c.args.number (Puts c.args.at c.args.written.now) (get s.nodes c.args.number)) c.self.view_is
-      | in-None w ↦ absurd (none_not _ (get-numbered c.self.inside.places.items c.args.number ∙ ap (option_map node_of) (there at None w.in-None.is)) (some at))
+      | in-None w ↦
+          let absent : get c.args.self.now.nodes c.args.number ≡ None = ap (λ (s : NodesState). get s.nodes c.args.number) (sym c.self.view_is) ∙ get-numbered c.self.inside.places.items c.args.number ∙ ap (option_map node_of) (there at None w.in-None.is) in
+          let view : numbered c.self.inside.places.items ≡ c.args.self.now.nodes = ap (λ (s : NodesState). s.nodes) c.self.view_is in
+          let still : numbered c.match-index_mut.self-inside.places.items ≡ numbered c.self.inside.places.items = ap (λ (s : Inside). numbered s.places.items) w.self-inside-is ∙ ap numbered (ap (set c.self.inside.places.items c.args.number) c.index_mut.ensures.value ∙ set-get_or c.self.inside.places.items c.args.number c.index_mut.result.now) in
+          still ∙ view ∙ sym (ap (with_edit c.args.self.now.nodes c.args.number (Puts c.args.at c.args.written.now)) absent)
     ]

@@ -1,8 +1,8 @@
-use Rattle.std.proofs.Common.{◌≡◌, ◌+◌, ◌*◌, ◌/◌, ◌<◌, ◌≤◌, length, set, IsSome, sym, ap, subst, ◌∙◌, arith, vec_len}
-use Rattle.std.specs.FinMap.{get, remove, len}
+use Rattle.std.proofs.Common.{◌≡◌, ◌+◌, ◌*◌, ◌<◌, set, IsSome, sym, ap, subst, ◌∙◌, arith, vec_len}
+use Rattle.std.specs.FinMap.{get, remove}
 use Rattle.sfs_base.specs.Name.{bucket}
 use Rattle.sfs_tree.specs.RowsState.{RowsState}
-use Rattle.sfs_tree.specs.Buckets.{Bucket, joined, bucket_at, IsBuilt}
+use Rattle.sfs_tree.specs.Buckets.{joined, bucket_at, IsBuilt}
 use Rattle.sfs_tree.proofs.JoinedChanged.{row_within, row_there, IsPlaced-removed, joined-removed, IsBuilt-set, len-built}
 use Rattle.sfs_tree.proofs.rows.Rows.remove.Goals as goal
 use Rattle.sfs_tree.proofs.rows.Rows.remove.Goals.{After-self, After-remove_at}

@@ -1,4 +1,4 @@
-use Rattle.std.proofs.Common.{◌≡◌, ◌+◌, ◌≤◌, refl, sym, ap, subst, ◌∙◌, arith}
+use Rattle.std.proofs.Common.{◌≡◌, ◌+◌, ap, arith}
 use Rattle.sfs_tree.specs.StoreState.{StoreState}
 use Rattle.sfs_tree.proofs.StoreKept.{IsStored-place, IsStored-wider, IsWide-fewer}
 use Rattle.sfs_tree.proofs.store.Store.add_place.Goals as goal

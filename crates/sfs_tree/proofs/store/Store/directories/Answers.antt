@@ -1,4 +1,4 @@
-use Rattle.std.proofs.Common.{◌≡◌, ◌≤◌, ap, ◌∙◌, slice_index, arith}
+use Rattle.std.proofs.Common.{◌≡◌, ap, ◌∙◌, slice_index, arith}
 use Rattle.sfs_tree.specs.Counts.{holds_directory_in, count_directories}
 use Rattle.sfs_tree.proofs.Counting.{count-le-len}
 use Rattle.sfs_tree.proofs.store.Store.directories.Goals as goal

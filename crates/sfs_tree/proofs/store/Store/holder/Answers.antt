@@ -1,4 +1,4 @@
-use Rattle.std.proofs.Common.{Some, sym, ap, ◌∙◌, subst, ◌≤◌, ◌≡◌, true, ℕ, slice_index, option_map}
+use Rattle.std.proofs.Common.{Some, sym, ap, ◌∙◌, subst, ◌≤◌, ℕ, slice_index, option_map}
 use Rattle.std.specs.List as list
 use Rattle.std.specs.FinMap.{entries}
 use Rattle.sfs_tree.specs.Tree.{count_of, names_it}

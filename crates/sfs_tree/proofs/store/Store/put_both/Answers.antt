@@ -1,10 +1,9 @@
-use Rattle.std.proofs.Common.{◌≡◌, ◌<◌, Option, IsSome, Some, None, false, refl, sym, ap, subst, ◌∙◌, arith}
+use Rattle.std.proofs.Common.{◌≡◌, ◌<◌, IsSome, Some, None, false, refl, sym, ap, subst, ◌∙◌}
 use Rattle.std.specs.FinMap.{get}
 use Rattle.std.specs.Option.{option_map_or}
 use Rattle.sfs_tree.specs.Tree.{Node, is_directory_kind}
 use Rattle.sfs_tree.specs.StoreState.{StoreState}
 use Rattle.sfs_tree.specs.Nodes.{node_of}
-use Rattle.sfs_tree.specs.Counts.{is_directory_in}
 use Rattle.sfs_tree.specs.Store.{IsStored}
 use Rattle.sfs_tree.proofs.StoreKept.{IsStored-row, IsStored-node, may_rise, has_place, this_node}
 use Rattle.sfs_tree.proofs.store.Store.put_both.Goals as goal

@@ -1,10 +1,7 @@
-use Rattle.std.proofs.Common.{IsSome, sym, subst}
-use Rattle.std.specs.FinMap.{get}
-use Rattle.sfs_tree.specs.StoreState.{StoreState}
-use Rattle.sfs_tree.specs.Effect.{Puts, Resizes}
+use Rattle.sfs_tree.specs.Effect.{Resizes}
 use Rattle.sfs_tree.proofs.StoreKept.{IsStored-edited}
 use Rattle.sfs_tree.proofs.store.Store.resize.Goals as goal
 
 pub invariant_of-self-2 : goal.invariant_of-self-2
 invariant_of-self-2 c =
-    IsStored-edited c.self.inside.nodes c.self.inside.counts c.self.inside.rows c.resize.new.self c.args.number (Resizes c.args.size) c.self.invariant c.in_ok-resize.ensures.ok c.resize.ensures.places (subst (λ (s : StoreState). IsSome (get s.nodes c.args.number)) (sym c.self.view_is) c.requires)
+    IsStored-edited c.self.inside.nodes c.self.inside.counts c.self.inside.rows c.resize.new.self c.args.number (Resizes c.args.size) c.self.invariant c.in_ok-resize.ensures.ok c.resize.ensures.places
