@@ -1,6 +1,7 @@
 pub mod Buckets
 pub mod Build
 pub mod Changes
+pub mod Copy
 pub mod Counts
 pub mod Effect
 pub mod History

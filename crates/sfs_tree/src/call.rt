@@ -1,3 +1,5 @@
+ghost use Rattle.std.specs.Prelude.{◌≡◌, IfOk};
+
 use sfs_base::{Chunk, Kind, Name, NoMemory, NodeId};
 
 /// A call on the tree. A node that is not alive, or of the wrong kind, is a refusal and no fault of the caller.
@@ -66,4 +68,76 @@ pub enum Call {
     Fsync {
         node: NodeId,
     },
+}
+
+impl Call {
+    /// An equal call.
+    pub fn copy(&self) -> Result<Call, NoMemory>
+        ensures ok { IfOk result (λ call. call ≡ self.now) }
+    {
+        match self {
+            Call::Look { dir, name } => Ok(Call::Look {
+                dir: *dir,
+                name: name.copy()?,
+            }),
+            Call::Make { dir, name, kind } => Ok(Call::Make {
+                dir: *dir,
+                name: name.copy()?,
+                kind: *kind,
+            }),
+            Call::Link { file, dir, name } => Ok(Call::Link {
+                file: *file,
+                dir: *dir,
+                name: name.copy()?,
+            }),
+            Call::Unlink { dir, name } => Ok(Call::Unlink {
+                dir: *dir,
+                name: name.copy()?,
+            }),
+            Call::Rmdir { dir, name } => Ok(Call::Rmdir {
+                dir: *dir,
+                name: name.copy()?,
+            }),
+            Call::Rename {
+                dir,
+                name,
+                to_dir,
+                to_name,
+            } => copy_rename(*dir, name, *to_dir, to_name),
+            Call::Write { file, at, bytes } => Ok(Call::Write {
+                file: *file,
+                at: *at,
+                bytes: bytes.copy()?,
+            }),
+            Call::Read { file, at, count } => Ok(Call::Read {
+                file: *file,
+                at: *at,
+                count: *count,
+            }),
+            Call::Trunc { file, size } => Ok(Call::Trunc {
+                file: *file,
+                size: *size,
+            }),
+            Call::Stat { node } => Ok(Call::Stat { node: *node }),
+            Call::List { dir } => Ok(Call::List { dir: *dir }),
+            Call::Fsync { node } => Ok(Call::Fsync { node: *node }),
+        }
+    }
+}
+
+// A rename of these rows.
+fn copy_rename(
+    dir: NodeId,
+    name: &Name,
+    to_dir: NodeId,
+    to_name: &Name,
+) -> Result<Call, NoMemory>
+    ensures ok { IfOk result (λ call. call ≡ Call.Rename dir name.now to_dir to_name.now) }
+{
+    Ok(Call::Rename {
+        dir,
+        name: name.copy()?,
+        to_dir,
+        to_name: to_name.copy()?,
+    })
 }

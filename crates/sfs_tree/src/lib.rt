@@ -2,6 +2,7 @@
 #![tactic(auto)]
 
 mod call;
+mod changes;
 mod counts;
 mod file_bytes;
 mod history;
@@ -15,6 +16,7 @@ mod tree;
 mod turns;
 
 pub use call::Call;
+pub use changes::{Act, Change, Changes};
 pub use history::{Cursor, Entry, History};
 pub use listing::{NameKind, NameRows};
 pub use name_map::{NameMap, NameRow};

@@ -1,7 +1,7 @@
-ghost use Rattle.std.specs.Prelude.{◌≡◌, map, length, slice_get, option_map};
+ghost use Rattle.std.specs.Prelude.{◌≡◌, ◌==◌, map, length, slice_get, option_map, IfOk};
 ghost use Rattle.sfs_tree.specs.NameKinds.{name_kind};
 
-use sfs_base::{Kind, Name};
+use sfs_base::{Kind, Name, NoMemory};
 use std::marker::Model;
 
 /// A name of a directory, and the kind of its node.
@@ -29,11 +29,67 @@ impl Model for NameRows {
     ghost view = { λ names. map name_kind names.rows.items };
 }
 
+impl NameKind {
+    /// An equal row.
+    pub fn copy(&self) -> Result<NameKind, NoMemory>
+        ensures ok { IfOk result (λ row. row ≡ self.now) }
+    {
+        Ok(NameKind {
+            name: self.name.copy()?,
+            kind: self.kind,
+        })
+    }
+}
+
 impl NameRows {
     /// These rows. It takes no memory.
     pub fn from_rows(rows: Vec<NameKind>) -> NameRows
         ensures { result ≡ map name_kind rows.items }
     {
         NameRows { rows }
+    }
+
+    /// The rows.
+    pub fn rows(&self) -> &[NameKind]
+        ensures { map name_kind result.now ≡ self.now }
+    {
+        &self.rows
+    }
+
+    /// How many rows there are.
+    pub fn len(&self) -> u64
+        ensures { result ≡ length self.now }
+    {
+        self.rows.len() as u64
+    }
+
+    /// Whether there are none.
+    pub fn is_empty(&self) -> bool
+        ensures { result ≡ (length self.now == 0) }
+    {
+        self.rows.is_empty()
+    }
+
+    /// The row at this place, from 0 on. `None` is past the last.
+    pub fn get(&self, place: u64) -> Option<&NameKind>
+        ensures { option_map (λ row. name_kind row.now) result ≡ slice_get self.now place }
+    {
+        let place = place as usize;
+        if place < self.rows.len() {
+            Some(&self.rows[place])
+        } else {
+            None
+        }
+    }
+
+    /// Equal rows.
+    pub fn copy(&self) -> Result<NameRows, NoMemory>
+        ensures ok { IfOk result (λ rows. rows ≡ self.now) }
+    {
+        let mut rows = Vec::new(*self.rows.allocator());
+        for row in &self.rows {
+            rows.push(row.copy()?)?;
+        }
+        Ok(NameRows { rows })
     }
 }

@@ -1,5 +1,7 @@
+ghost use Rattle.std.specs.Prelude.{◌≡◌, IfOk};
+
 use crate::NameRows;
-use sfs_base::{Chunk, Kind, NodeId, SpaceKind};
+use sfs_base::{Chunk, Kind, NoMemory, NodeId, SpaceKind};
 
 /// Why a call was refused.
 #[derive(Clone, Copy, Debug, PartialEq, Eq)]
@@ -54,4 +56,37 @@ pub enum Reply {
         faults: u64,
     },
     NoMemory,
+}
+
+impl Reply {
+    /// An equal reply.
+    pub fn copy(&self) -> Result<Reply, NoMemory>
+        ensures ok { IfOk result (λ reply. reply ≡ self.now) }
+    {
+        match self {
+            Reply::Ok => Ok(Reply::Ok),
+            Reply::Node { node, kind } => Ok(Reply::Node {
+                node: *node,
+                kind: *kind,
+            }),
+            Reply::Bytes { bytes } => Ok(Reply::Bytes {
+                bytes: bytes.copy()?,
+            }),
+            Reply::Stat { kind, links, size } => Ok(Reply::Stat {
+                kind: *kind,
+                links: *links,
+                size: *size,
+            }),
+            Reply::Names { rows } => Ok(Reply::Names { rows: rows.copy()? }),
+            Reply::Error { code } => Ok(Reply::Error { code: *code }),
+            Reply::DiskFailed => Ok(Reply::DiskFailed),
+            Reply::NoSpace { kind, need, free } => Ok(Reply::NoSpace {
+                kind: *kind,
+                need: *need,
+                free: *free,
+            }),
+            Reply::Stopped { faults } => Ok(Reply::Stopped { faults: *faults }),
+            Reply::NoMemory => Ok(Reply::NoMemory),
+        }
+    }
 }
