@@ -2,10 +2,8 @@
 #![tactic(auto)]
 
 #[cfg(test)]
+mod calls;
+#[cfg(test)]
 mod histories;
-#[cfg(test)]
-mod scripts;
-#[cfg(test)]
-mod texts;
 #[cfg(test)]
 mod trees;
