@@ -22,6 +22,6 @@ abbrev pub IsAnswer : TreeState → Call → Reply → Type 0
 IsAnswer tree call reply = (core : ℕ) → IsStep tree core call reply tree
 
 -- The reply and the tree after it are those of a line of the table, whichever core calls.
-pub record Follows (tree : TreeState) (line : Verdict) (reply : Reply) (after : TreeState) : Type 0 where
+pub record IsLine (tree : TreeState) (line : Verdict) (reply : Reply) (after : TreeState) : Type 0 where
   pub answer : reply ≡ line.reply
   pub result : (core : ℕ) → after ≡ tree_with tree core line.effect line.makes

@@ -80,16 +80,8 @@ impl Call {
                 dir: *dir,
                 name: name.copy()?,
             }),
-            Call::Make { dir, name, kind } => Ok(Call::Make {
-                dir: *dir,
-                name: name.copy()?,
-                kind: *kind,
-            }),
-            Call::Link { file, dir, name } => Ok(Call::Link {
-                file: *file,
-                dir: *dir,
-                name: name.copy()?,
-            }),
+            Call::Make { dir, name, kind } => copy_make(*dir, name, *kind),
+            Call::Link { file, dir, name } => copy_link(*file, *dir, name),
             Call::Unlink { dir, name } => Ok(Call::Unlink {
                 dir: *dir,
                 name: name.copy()?,
@@ -104,11 +96,7 @@ impl Call {
                 to_dir,
                 to_name,
             } => copy_rename(*dir, name, *to_dir, to_name),
-            Call::Write { file, at, bytes } => Ok(Call::Write {
-                file: *file,
-                at: *at,
-                bytes: bytes.copy()?,
-            }),
+            Call::Write { file, at, bytes } => copy_write(*file, *at, bytes),
             Call::Read { file, at, count } => Ok(Call::Read {
                 file: *file,
                 at: *at,
@@ -125,13 +113,32 @@ impl Call {
     }
 }
 
+// A call that makes such a node.
+fn copy_make(dir: NodeId, name: &Name, kind: Kind) -> Result<Call, NoMemory>
+    ensures ok { IfOk result (λ call. call ≡ Call.Make dir name.now kind) }
+{
+    let name = name.copy()?;
+    Ok(Call::Make { dir, name, kind })
+}
+
+// A call that makes such a row.
+fn copy_link(file: NodeId, dir: NodeId, name: &Name) -> Result<Call, NoMemory>
+    ensures ok { IfOk result (λ call. call ≡ Call.Link file dir name.now) }
+{
+    let name = name.copy()?;
+    Ok(Call::Link { file, dir, name })
+}
+
+// A write of these bytes.
+fn copy_write(file: NodeId, at: u64, bytes: &Chunk) -> Result<Call, NoMemory>
+    ensures ok { IfOk result (λ call. call ≡ Call.Write file at bytes.now) }
+{
+    let bytes = bytes.copy()?;
+    Ok(Call::Write { file, at, bytes })
+}
+
 // A rename of these rows.
-fn copy_rename(
-    dir: NodeId,
-    name: &Name,
-    to_dir: NodeId,
-    to_name: &Name,
-) -> Result<Call, NoMemory>
+fn copy_rename(dir: NodeId, name: &Name, to_dir: NodeId, to_name: &Name) -> Result<Call, NoMemory>
     ensures ok { IfOk result (λ call. call ≡ Call.Rename dir name.now to_dir to_name.now) }
 {
     Ok(Call::Rename {

@@ -99,7 +99,7 @@ impl Tree {
     ghost use Rattle.sfs_tree.specs.Verdict.{link_fault, unlink_row, rmdir_row};
     ghost use Rattle.sfs_tree.specs.Tree.{row_of};
     ghost use Rattle.sfs_tree.specs.Sound.{IsSound};
-    ghost use Rattle.sfs_tree.specs.Step.{IsStep, Follows};
+    ghost use Rattle.sfs_tree.specs.Step.{IsStep, IsLine};
 
     pub(super) fn link(&mut self, file: NodeId, dir: NodeId, name: &Name) -> Result<Reply, NoMemory>
         requires { IsSound self.old }
@@ -154,7 +154,7 @@ impl Tree {
     // Takes away the row of a file.
     fn unlink_child(&mut self, dir: NodeId, name: &Name, child: NodeId) -> Reply
         requires { row_of self.old dir.0 name.now ≡ Some child.0 }
-        ensures { Follows self.old (unlink_row self.old dir.0 name.now (Some child.0)) result self.new }
+        ensures { IsLine self.old (unlink_row self.old dir.0 name.now (Some child.0)) result self.new }
     {
         if self.is_directory(child) {
             return refused(Code::NotPermitted);
@@ -180,7 +180,7 @@ impl Tree {
     fn remove_directory(&mut self, dir: NodeId, name: &Name, child: NodeId) -> Reply
         requires sound { IsSound self.old }
         requires row { row_of self.old dir.0 name.now ≡ Some child.0 }
-        ensures { Follows self.old (rmdir_row self.old dir.0 name.now (Some child.0)) result self.new }
+        ensures { IsLine self.old (rmdir_row self.old dir.0 name.now (Some child.0)) result self.new }
     {
         if !self.is_directory(child) {
             return refused(Code::NotDir);

@@ -14,7 +14,7 @@ impl Tree {
     ghost use Rattle.sfs_tree.specs.NameRow.{number_of};
     ghost use Rattle.sfs_tree.specs.Sound.{IsSound};
     ghost use Rattle.sfs_tree.specs.Verdict.{directory_fault, first_of_two, move_row, move_fault, place_fault};
-    ghost use Rattle.sfs_tree.specs.Step.{IsStep, Follows};
+    ghost use Rattle.sfs_tree.specs.Step.{IsStep, IsLine};
 
     pub(super) fn rename(
         &mut self,
@@ -58,7 +58,7 @@ impl Tree {
         requires sound { IsSound self.old }
         requires row { row_of self.old dir.0 name.now ≡ Some child.0 }
         requires directory { is_directory self.old to_dir.0 ≡ true }
-        ensures ok { IfOk result (λ reply. Follows self.old (move_row self.old dir.0 name.now to_dir.0 to_name.now (Some child.0)) reply self.new) }
+        ensures ok { IfOk result (λ reply. IsLine self.old (move_row self.old dir.0 name.now to_dir.0 to_name.now (Some child.0)) reply self.new) }
         ensures err { OnErr result (self.new ≡ self.old) }
     {
         let there = self.child(to_dir, to_name);
