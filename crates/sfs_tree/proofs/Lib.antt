@@ -1,6 +1,8 @@
 pub mod Added
 pub mod Histories
 pub mod Joined
+pub mod KeepsSound
+pub mod RowFacts
 pub mod RowsByName
 pub mod Names
 pub mod Numbered

@@ -2,6 +2,7 @@ pub mod Buckets
 pub mod Build
 pub mod Changes
 pub mod Effect
+pub mod Fits
 pub mod History
 pub mod NameKinds
 pub mod NameRow
