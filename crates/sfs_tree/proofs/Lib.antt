@@ -7,5 +7,6 @@ pub mod RowFacts
 pub mod RowsByName
 pub mod Names
 pub mod Numbered
+pub mod Numbers
 pub mod Search
 pub mod Stored
