@@ -2,6 +2,7 @@ pub mod Added
 pub mod Histories
 pub mod Joined
 pub mod KeepsMoves
+pub mod KeepsNodes
 pub mod KeepsSound
 pub mod RowFacts
 pub mod RowsByName
