@@ -4,6 +4,7 @@ pub mod Joined
 pub mod KeepsMoves
 pub mod KeepsNodes
 pub mod KeepsSound
+pub mod Kept
 pub mod RowFacts
 pub mod RowsByName
 pub mod Names
