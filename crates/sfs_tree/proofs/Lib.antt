@@ -12,3 +12,4 @@ pub mod Numbered
 pub mod Numbers
 pub mod Search
 pub mod Stored
+pub mod Walks
