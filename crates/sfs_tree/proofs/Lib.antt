@@ -1,4 +1,5 @@
 pub mod Added
+pub mod Fitting
 pub mod Histories
 pub mod Joined
 pub mod KeepsMoves
