@@ -12,5 +12,6 @@ pub mod Names
 pub mod Numbered
 pub mod Numbers
 pub mod Search
+pub mod SoundTrees
 pub mod Stored
 pub mod Walks

@@ -6,6 +6,7 @@ pub mod Fits
 pub mod History
 pub mod NameKinds
 pub mod NameRow
+pub mod Laws
 pub mod Names
 pub mod Order
 pub mod Shape

@@ -3,6 +3,7 @@
 
 mod call;
 mod history;
+mod laws;
 mod listing;
 mod name_map;
 
@@ -13,6 +14,7 @@ mod turns;
 
 pub use call::Call;
 pub use history::{Cursor, Entry, History};
+pub use laws::{calls_fit, calls_keep_sound, drawn_number_is_new, drawn_numbers_are_apart, root_alone_is_sound};
 pub use name_map::{NameMap, NameRow};
 pub use listing::{NameKind, NameRows};
 pub use reply::{Code, Reply};
