@@ -1,4 +1,5 @@
 pub mod Added
+pub mod FileHistories
 pub mod Fitting
 pub mod Histories
 pub mod Joined
