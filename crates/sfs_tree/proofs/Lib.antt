@@ -7,6 +7,7 @@ pub mod KeepsMoves
 pub mod KeepsNodes
 pub mod KeepsSound
 pub mod Kept
+pub mod OwnEffects
 pub mod RowFacts
 pub mod RowsByName
 pub mod Names

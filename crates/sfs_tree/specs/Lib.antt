@@ -3,6 +3,7 @@ pub mod Build
 pub mod Changes
 pub mod Effect
 pub mod Fits
+pub mod Footprints
 pub mod History
 pub mod NameKinds
 pub mod NameRow

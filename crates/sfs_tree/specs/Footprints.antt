@@ -1,0 +1,61 @@
+-- What a call touches: what its reply depends on, and what it leaves of each part of the tree.
+use Rattle.std.specs.Prelude.{◌≡◌, ◌⊎◌, ℕ, ◌==◌, Bool, true, false, not, List, Option, Some, None, option_map, if◌then◌else◌}
+use Rattle.std.specs.Ordering.{eq_by_cmp}
+use Rattle.sfs_base.specs.declared.numbers.Kind.{Kind}
+use Rattle.sfs_tree.specs.declared.call.Call.{Call}
+use Rattle.sfs_tree.specs.declared.call.Call.TheVariants as call
+use Rattle.sfs_tree.specs.Order.{key_cmp}
+use Rattle.sfs_tree.specs.Tree.{TreeState, row_of, next_number}
+use Rattle.sfs_tree.specs.Effect.{Effect, Stays, Adds, Removes, Moves, Edits, Puts, Resizes}
+use Rattle.sfs_tree.specs.Verdict.{Verdict, verdict}
+
+-- what a call does where nothing refuses it and something changes
+abbrev pub own_effect : TreeState → ℕ → Call → Option Effect
+own_effect tree core (call.Make directory name kind) = Some (Adds directory.0 name (next_number tree core))
+own_effect tree core (call.Link file directory name) = Some (Adds directory.0 name file.0)
+own_effect tree core (call.Unlink directory name) = option_map (Removes directory.0 name) (row_of tree directory.0 name)
+own_effect tree core (call.Rmdir directory name) = option_map (Removes directory.0 name) (row_of tree directory.0 name)
+own_effect tree core (call.Rename directory name to_directory to_name) =
+    option_map (Moves directory.0 name to_directory.0 to_name) (row_of tree directory.0 name)
+own_effect tree core (call.Write file at bytes) = Some (Edits file.0 (Puts at bytes))
+own_effect tree core (call.Trunc file size) = Some (Edits file.0 (Resizes size))
+own_effect tree core _ = None
+
+-- the kind of the node that a call makes where nothing refuses it
+abbrev pub own_kind : Call → Option Kind
+own_kind (call.Make directory name kind) = Some kind
+own_kind _ = None
+
+-- a verdict by which nothing changes
+pub record DoesNothing (v : Verdict) : Type 0 where
+  pub effect : v.effect ≡ Stays
+  pub makes : v.makes ≡ None
+
+-- a verdict by which this happens, and a node of this kind is made or none
+pub record DoesThis (own : Option Effect) (kind : Option Kind) (v : Verdict) : Type 0 where
+  pub effect : own ≡ Some v.effect
+  pub makes : kind ≡ v.makes
+
+-- a call does nothing, or its own
+abbrev pub DoesItsOwn : TreeState → ℕ → Call → Type 0
+DoesItsOwn tree core c = DoesNothing (verdict tree core c) ⊎ DoesThis (own_effect tree core c) (own_kind c) (verdict tree core c)
+
+-- whether a call is a rename between two directories
+abbrev pub is_rename_between : Call → Bool
+is_rename_between (call.Rename directory name to_directory to_name) = not (directory.0 == to_directory.0)
+is_rename_between _ = false
+
+-- whether two rows have one place
+abbrev pub is_same_place : ℕ → List ℕ → ℕ → List ℕ → Bool
+is_same_place directory name other other_name = eq_by_cmp key_cmp (directory, name) (other, other_name)
+
+-- what a directory has at a name after an effect, from what each had before it
+abbrev pub row_after : (ℕ → List ℕ → Option ℕ) → Effect → ℕ → List ℕ → Option ℕ
+row_after rows Stays at name = rows at name
+row_after rows (Adds directory other child) at name = if is_same_place at name directory other then Some child else rows at name
+row_after rows (Removes directory other child) at name = if is_same_place at name directory other then None else rows at name
+row_after rows (Moves directory other to_directory to_name child) at name =
+    if is_same_place at name to_directory to_name then Some child else
+    if is_same_place at name directory other then None else
+    rows at name
+row_after rows (Edits file edit) at name = rows at name
