@@ -1,7 +1,9 @@
+pub mod Acts
 pub mod Added
 pub mod FileHistories
 pub mod Fitting
 pub mod Histories
+pub mod Holders
 pub mod Joined
 pub mod KeepsMoves
 pub mod KeepsNodes

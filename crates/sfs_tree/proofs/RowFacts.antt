@@ -12,7 +12,8 @@ use Rattle.std.specs.FinMap.Entries.{below_all}
 use Rattle.sfs_tree.specs.Order.{name_cmp, Key, key_cmp}
 use Rattle.sfs_tree.specs.Tree.{TreeState, names_it, count_of, row_of, is_alive, names_of, row_count, holder_of}
 use Rattle.sfs_tree.proofs.Joined.{key_cmp_total, key_cmp-IsAntisymmetric, is_equal, count-cons, none_there}
-use Rattle.sfs_tree.proofs.Names.{both_first, both_second, get-names_where}
+use Rattle.sfs_tree.proofs.Names.{both_first, both_second, get-names_where, len-names_of}
+use Rattle.sfs_tree.specs.Buckets.{stands_in}
 
 -- two rows have one place or not
 pub key_cases : (d e : ℕ) (n m : List ℕ) → ((eq_by_cmp key_cmp (d, n) (e, m) ≡ true) × (d ≡ e) × (n ≡ m)) ⊎ ((eq_by_cmp key_cmp (d, n) (e, m) ≡ false) × (d ≡ e → n ≡ m → ⊥))
@@ -162,6 +163,15 @@ no_rows tree directory none name =
     ∙ get-empty name_cmp name
 
 -- a directory that counts rows has one
+pub has_row : (tree : TreeState) (directory : ℕ) → row_count tree directory ≢ 0 → (name : List ℕ) × (child : ℕ) × (row_of tree directory name ≡ Some child)
+has_row tree directory some = elim (found_or_none (stands_in directory) (entries tree.rows)) [
+  | inl f ↦
+      let both = found_entry (stands_in directory) f.0 (entries tree.rows) (entries_sorted tree.rows) f.1 in
+      (f.0.0.1, f.0.1, subst (λ (d : ℕ). get tree.rows (d, f.0.0.1) ≡ Some f.0.1) (eqb-true _ _ both.1) (get-entries tree.rows f.0.0 ∙ both.0))
+  | inr n ↦ absurd (some (len-names_of directory tree.rows ∙ n.1))
+]
+
+-- a node's holder is the directory of a row that names it, or no row does
 pub holder_found : (tree : TreeState) (node : ℕ) → ((h : ℕ) × (holder_of tree node ≡ Some h) × ((name : List ℕ) × (row_of tree h name ≡ Some node))) ⊎ ((holder_of tree node ≡ None) × (IsNamed tree.rows node → ⊥))
 holder_found tree node = elim (found_or_none (names_it node) (entries tree.rows)) [
   | inl f ↦

@@ -1,11 +1,12 @@
 -- What a call touches: what its reply depends on, and what it leaves of each part of the tree.
-use Rattle.std.specs.Prelude.{◌≡◌, ◌⊎◌, ℕ, ◌==◌, Bool, true, false, not, List, Option, Some, None, option_map, if◌then◌else◌}
+use Rattle.std.specs.Prelude.{◌≡◌, ◌⊎◌, ℕ, ◌==◌, Bool, false, not, ◌&&◌, List, Option, Some, None, option_map, if◌then◌else◌}
+use Rattle.std.specs.Option.{option_map_or}
 use Rattle.std.specs.Ordering.{eq_by_cmp}
 use Rattle.sfs_base.specs.declared.numbers.Kind.{Kind}
 use Rattle.sfs_tree.specs.declared.call.Call.{Call}
 use Rattle.sfs_tree.specs.declared.call.Call.TheVariants as call
 use Rattle.sfs_tree.specs.Order.{key_cmp}
-use Rattle.sfs_tree.specs.Tree.{TreeState, row_of, next_number}
+use Rattle.sfs_tree.specs.Tree.{TreeState, row_of, is_directory, next_number}
 use Rattle.sfs_tree.specs.Effect.{Effect, Stays, Adds, Removes, Moves, Edits, Puts, Resizes}
 use Rattle.sfs_tree.specs.Verdict.{Verdict, verdict}
 
@@ -40,10 +41,11 @@ pub record DoesThis (own : Option Effect) (kind : Option Kind) (v : Verdict) : T
 abbrev pub DoesItsOwn : TreeState → ℕ → Call → Type 0
 DoesItsOwn tree core c = DoesNothing (verdict tree core c) ⊎ DoesThis (own_effect tree core c) (own_kind c) (verdict tree core c)
 
--- whether a call is a rename between two directories
-abbrev pub is_rename_between : Call → Bool
-is_rename_between (call.Rename directory name to_directory to_name) = not (directory.0 == to_directory.0)
-is_rename_between _ = false
+-- whether a call is a rename that moves a directory from one directory to another
+abbrev pub moves_directory_between : TreeState → Call → Bool
+moves_directory_between tree (call.Rename directory name to_directory to_name) =
+    not (directory.0 == to_directory.0) && option_map_or (is_directory tree) (row_of tree directory.0 name) false
+moves_directory_between tree _ = false
 
 -- whether two rows have one place
 abbrev pub is_same_place : ℕ → List ℕ → ℕ → List ℕ → Bool

@@ -1,12 +1,18 @@
 -- The laws of the tree of one thread, each of which a function of the module laws proves.
-use Rattle.std.specs.Prelude.{◌≡◌, ◌≢◌, ℕ, ◌+◌, ◌*◌, ◌<◌, ◌≤◌, List, length, Option, None}
+use Rattle.std.specs.Prelude.{◌≡◌, ◌≢◌, ℕ, ◌+◌, ◌*◌, ◌<◌, ◌≤◌, true, false, List, length, take, Option, None}
 use Rattle.std.specs.FinMap.{get}
 use Rattle.sfs_tree.specs.declared.call.Call.{Call}
-use Rattle.sfs_tree.specs.Tree.{TreeState, made_by, next_number}
+use Rattle.sfs_tree.specs.Tree.{TreeState, row_of, is_directory, names_of, bytes_of, row_count, holder_of, made_by, next_number}
 use Rattle.sfs_tree.specs.Verdict.{verdict, tree_after_call}
 use Rattle.sfs_tree.specs.Build.{root_alone}
 use Rattle.sfs_tree.specs.Sound.{IsSound, IsNumbered}
 use Rattle.sfs_tree.specs.Fits.{Fits}
+use Rattle.sfs_tree.specs.declared.history.Entry.{Entry}
+use Rattle.sfs_tree.specs.Effect.{Effect, tree_with}
+use Rattle.sfs_tree.specs.History.{tree_after, IsLegal}
+use Rattle.sfs_tree.specs.Changes.{rows_at, bytes_at}
+use Rattle.sfs_tree.specs.Footprints.{row_after, moves_directory_between, DoesItsOwn}
+use Rattle.sfs_base.specs.declared.numbers.Kind.{Kind}
 
 -- a sound tree, each node of which has a number that was given
 pub record IsSoundTree (tree : TreeState) : Type 0 where
@@ -36,3 +42,27 @@ drawn_number tree core before = tree.first + core * tree.share + before
 -- Two creations below the share have one number only where they are one creation of one core.
 abbrev pub DrawnApart : Type 0
 DrawnApart = (tree : TreeState) (core other before other_before : ℕ) → before < tree.share → other_before < tree.share → drawn_number tree core before ≡ drawn_number tree other other_before → (core ≡ other) × (before ≡ other_before)
+
+-- Each tree of a legal history from a sound one on is sound.
+abbrev pub HistoriesKeepSound : Type 0
+HistoriesKeepSound = (first : TreeState) (history : List Entry) (count : ℕ) → IsSoundTree first → IsLegal first history → IsSoundTree (tree_after first (take count history))
+
+-- A directory's rows at a stamp are those in the tree after the entries below it.
+abbrev pub RowsAreTheTrees : Type 0
+RowsAreTheTrees = (first : TreeState) (history : List Entry) (directory stamp : ℕ) → IsLegal first history → rows_at first history directory stamp ≡ names_of directory (tree_after first (take stamp history)).rows
+
+-- A file's bytes at a stamp are those in the tree after the entries below it, where the first tree is sound.
+abbrev pub BytesAreTheTrees : Type 0
+BytesAreTheTrees = (first : TreeState) (history : List Entry) (file stamp : ℕ) → IsSoundTree first → IsLegal first history → bytes_at first history file stamp ≡ bytes_of (tree_after first (take stamp history)) file
+
+-- What stands at a place after an effect is what the effect makes of what stood there.
+abbrev pub EffectsAct : Type 0
+EffectsAct = (tree : TreeState) (core : ℕ) (effect : Effect) (makes : Option Kind) (directory : ℕ) (name : List ℕ) → row_of (tree_with tree core effect makes) directory name ≡ row_after (row_of tree) effect directory name
+
+-- Each call does nothing, or its own.
+abbrev pub CallsDoTheirOwn : Type 0
+CallsDoTheirOwn = (tree : TreeState) (core : ℕ) (c : Call) → DoesItsOwn tree core c
+
+-- No call but one that moves a directory from one directory to another changes the holder of a directory that has rows.
+abbrev pub HoldersStay : Type 0
+HoldersStay = (tree : TreeState) (core : ℕ) (c : Call) (node : ℕ) → IsSoundTree tree → core < length tree.made → moves_directory_between tree c ≡ false → is_directory tree node ≡ true → row_count tree node ≢ 0 → holder_of (tree_after_call tree core c) node ≡ holder_of tree node

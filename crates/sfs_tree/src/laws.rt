@@ -1,4 +1,4 @@
-ghost use Rattle.sfs_tree.specs.Laws.{RootIsSound, CallsKeepSound, CallsFit, DrawnIsNew, DrawnApart};
+ghost use Rattle.sfs_tree.specs.Laws.{RootIsSound, CallsKeepSound, CallsFit, DrawnIsNew, DrawnApart, HistoriesKeepSound, RowsAreTheTrees, BytesAreTheTrees, EffectsAct, CallsDoTheirOwn, HoldersStay};
 
 /// The root alone is a sound tree.
 pub fn root_alone_is_sound()
@@ -23,4 +23,34 @@ pub fn drawn_number_is_new()
 /// No two creations have one number.
 pub fn drawn_numbers_are_apart()
     ensures { DrawnApart }
+{}
+
+/// Each tree of a legal history from a sound one on is sound.
+pub fn histories_keep_sound()
+    ensures { HistoriesKeepSound }
+{}
+
+/// A directory's rows at a stamp are those in the tree after the entries below it.
+pub fn rows_are_the_trees()
+    ensures { RowsAreTheTrees }
+{}
+
+/// A file's bytes at a stamp are those in the tree after the entries below it.
+pub fn bytes_are_the_trees()
+    ensures { BytesAreTheTrees }
+{}
+
+/// What stands at a place after an effect is what the effect makes of what stood there.
+pub fn effects_act()
+    ensures { EffectsAct }
+{}
+
+/// Each call does nothing, or its own.
+pub fn calls_do_their_own()
+    ensures { CallsDoTheirOwn }
+{}
+
+/// A directory with rows keeps its holder, but where a directory moves to another one.
+pub fn holders_stay()
+    ensures { HoldersStay }
 {}

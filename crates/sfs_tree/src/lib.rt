@@ -14,7 +14,7 @@ mod turns;
 
 pub use call::Call;
 pub use history::{Cursor, Entry, History};
-pub use laws::{calls_fit, calls_keep_sound, drawn_number_is_new, drawn_numbers_are_apart, root_alone_is_sound};
+pub use laws::{bytes_are_the_trees, calls_do_their_own, calls_fit, calls_keep_sound, drawn_number_is_new, drawn_numbers_are_apart, effects_act, histories_keep_sound, holders_stay, root_alone_is_sound, rows_are_the_trees};
 pub use name_map::{NameMap, NameRow};
 pub use listing::{NameKind, NameRows};
 pub use reply::{Code, Reply};
