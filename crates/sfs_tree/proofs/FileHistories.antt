@@ -14,6 +14,7 @@ use Rattle.sfs_tree.specs.Verdict.{verdict}
 use Rattle.sfs_tree.specs.History.{tree_after, tree_after_entry, MayCome, IsLegalFrom, IsLegal}
 use Rattle.sfs_tree.specs.Changes.{FileChange, edits_by, edits_of, is_edit_below, bytes_at}
 use Rattle.sfs_tree.specs.Fits.{Fits}
+use Rattle.sfs_tree.specs.Parts.{bytes_after}
 use Rattle.sfs_tree.specs.Laws.{IsSoundTree}
 use Rattle.sfs_tree.proofs.KeepsNodes.{node_cases}
 use Rattle.sfs_tree.proofs.SoundTrees.{calls_keep_sound, calls_fit}
@@ -29,15 +30,10 @@ sound_from stamp (suc k) first (entry ∷ history) is legal =
 pub histories_keep_sound : (first : TreeState) (history : List Entry) (count : ℕ) → IsSoundTree first → IsLegal first history → IsSoundTree (tree_after first (take count history))
 histories_keep_sound first history count is legal = sound_from 0 count first history is legal
 
--- a file's bytes after an effect
-abbrev pub bytes_after : ℕ → Effect → List ℕ → List ℕ
-bytes_after f (Edits file edit) bytes = cond (nat_eq file f) (edited edit bytes) bytes
-bytes_after f _ bytes = bytes
-
 none_some : (o : Option Node) → o ≡ None → IsSome o → ⊥
 none_some o none some = cc
 
-pub bytes_with : (tree : TreeState) (core : ℕ) (effect : Effect) (makes : Option Kind) (f : ℕ) → Fits tree core effect makes → bytes_of (tree_with tree core effect makes) f ≡ bytes_after f effect (bytes_of tree f)
+pub bytes_with : (tree : TreeState) (core : ℕ) (effect : Effect) (makes : Option Kind) (f : ℕ) → Fits tree core effect makes → bytes_of (tree_with tree core effect makes) f ≡ bytes_after effect f (bytes_of tree f)
 bytes_with tree core Stays None f fits = refl
 bytes_with tree core (Adds d n c) None f fits = refl
 bytes_with tree core (Removes d n c) None f fits = refl
@@ -75,7 +71,7 @@ abbrev change_made : List ℕ → FileChange → List ℕ
 change_made bytes change = edited change.edit bytes
 
 -- the changes of an effect below a stamp, folded in, give the bytes after it
-folded : (f stamp c : ℕ) (effect : Effect) (bytes : List ℕ) → stamp < c → fold change_made bytes (filter (is_edit_below f c) (edits_by stamp effect)) ≡ bytes_after f effect bytes
+folded : (f stamp c : ℕ) (effect : Effect) (bytes : List ℕ) → stamp < c → fold change_made bytes (filter (is_edit_below f c) (edits_by stamp effect)) ≡ bytes_after effect f bytes
 folded f stamp c Stays bytes lt = refl
 folded f stamp c (Adds d n child) bytes lt = refl
 folded f stamp c (Removes d n child) bytes lt = refl

@@ -10,6 +10,7 @@ pub mod KeepsNodes
 pub mod KeepsSound
 pub mod Kept
 pub mod OwnEffects
+pub mod Parts
 pub mod RowFacts
 pub mod RowsByName
 pub mod Names

@@ -1,8 +1,8 @@
 -- The laws of the tree of one thread, each of which a function of the module laws proves.
-use Rattle.std.specs.Prelude.{◌≡◌, ◌≢◌, ℕ, ◌+◌, ◌*◌, ◌<◌, ◌≤◌, true, false, List, length, take, Option, None}
+use Rattle.std.specs.Prelude.{◌≡◌, ◌≢◌, ℕ, Bool, ◌+◌, ◌*◌, ◌<◌, ◌≤◌, true, false, List, length, take, Option, None}
 use Rattle.std.specs.FinMap.{get}
 use Rattle.sfs_tree.specs.declared.call.Call.{Call}
-use Rattle.sfs_tree.specs.Tree.{TreeState, row_of, is_directory, names_of, bytes_of, row_count, holder_of, made_by, next_number}
+use Rattle.sfs_tree.specs.Tree.{TreeState, row_of, is_directory, names_of, names_where, bytes_of, kind_of, count_of, row_count, holder_of, made_by, next_number}
 use Rattle.sfs_tree.specs.Verdict.{verdict, tree_after_call}
 use Rattle.sfs_tree.specs.Build.{root_alone}
 use Rattle.sfs_tree.specs.Sound.{IsSound, IsNumbered}
@@ -11,6 +11,7 @@ use Rattle.sfs_tree.specs.declared.history.Entry.{Entry}
 use Rattle.sfs_tree.specs.Effect.{Effect, tree_with}
 use Rattle.sfs_tree.specs.History.{tree_after, IsLegal}
 use Rattle.sfs_tree.specs.Changes.{rows_at, bytes_at}
+use Rattle.sfs_tree.specs.Parts.{part_after, links_after, bytes_after, kind_after, count_after}
 use Rattle.sfs_tree.specs.Footprints.{row_after, moves_directory_between, DoesItsOwn}
 use Rattle.sfs_base.specs.declared.numbers.Kind.{Kind}
 
@@ -66,3 +67,22 @@ CallsDoTheirOwn = (tree : TreeState) (core : ℕ) (c : Call) → DoesItsOwn tree
 -- No call but one that moves a directory from one directory to another changes the holder of a directory that has rows.
 abbrev pub HoldersStay : Type 0
 HoldersStay = (tree : TreeState) (core : ℕ) (c : Call) (node : ℕ) → IsSoundTree tree → core < length tree.made → moves_directory_between tree c ≡ false → is_directory tree node ≡ true → row_count tree node ≢ 0 → holder_of (tree_after_call tree core c) node ≡ holder_of tree node
+
+-- What an effect leaves of the part of a directory that has the names which pass a test is made of that part alone; so is it of a
+-- bucket, and of a whole directory.
+abbrev pub PartsAfter : Type 0
+PartsAfter = (tree : TreeState) (core : ℕ) (effect : Effect) (makes : Option Kind) (directory : ℕ) (test : List ℕ → Bool) → names_where directory test (tree_with tree core effect makes).rows ≡ part_after directory test effect (names_where directory test tree.rows)
+
+-- what an effect leaves of a node: how many rows name it, its bytes and its kind
+pub record LeavesNode (tree : TreeState) (core : ℕ) (effect : Effect) (makes : Option Kind) (node : ℕ) : Type 0 where
+  pub links : count_of (tree_with tree core effect makes).rows node ≡ links_after tree effect node (count_of tree.rows node)
+  pub bytes : bytes_of (tree_with tree core effect makes) node ≡ bytes_after effect node (bytes_of tree node)
+  pub kind : kind_of (tree_with tree core effect makes) node ≡ kind_after tree core makes node
+
+-- What an effect that fits leaves of a node is made of what is said of that node alone.
+abbrev pub NodesAfter : Type 0
+NodesAfter = (tree : TreeState) (core : ℕ) (effect : Effect) (makes : Option Kind) (node : ℕ) → Fits tree core effect makes → LeavesNode tree core effect makes node
+
+-- A core's creation counts for that core alone.
+abbrev pub CountsAfter : Type 0
+CountsAfter = (tree : TreeState) (core : ℕ) (effect : Effect) (makes : Option Kind) (other : ℕ) → core < length tree.made → made_by (tree_with tree core effect makes) other ≡ count_after tree core makes other

@@ -10,6 +10,7 @@ pub mod NameRow
 pub mod Laws
 pub mod Names
 pub mod Order
+pub mod Parts
 pub mod Shape
 pub mod Sound
 pub mod Store
