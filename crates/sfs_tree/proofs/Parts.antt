@@ -1,5 +1,5 @@
 -- What an effect leaves of each part of a tree.
-use Rattle.std.proofs.Common.{◌≡◌, ◌≢◌, ℕ, ◌+◌, ◌-◌, ◌<◌, Bool, true, false, cond, ◌&&◌, List, length, set, slice_index, Option, Some, None, IsSome, ◌⊎◌, inl, inr, refl, sym, ap, subst, ◌∙◌, arith, count_by, nat_eq, get_or-set_same, get_or-set_other}
+use Rattle.std.proofs.Common.{◌≡◌, ◌≢◌, ℕ, ◌+◌, ◌-◌, ◌<◌, Bool, true, false, cond, ◌&&◌, List, [], length, set, slice_index, Option, Some, None, IsSome, ◌⊎◌, inl, inr, refl, sym, ap, subst, ◌∙◌, arith, count_by, nat_eq, get_or-set_same, get_or-set_other}
 use borrow.Author.Tests.{eqb-true, eq-eqb, eqb-false}
 use Rattle.std.specs.Option.{option_map_or}
 use Rattle.std.specs.Ordering.{eq_by_cmp}
@@ -94,3 +94,84 @@ put_over rows k x =
     ∙ ap (cond (eq_by_cmp key_cmp q k) (Some x)) (get-remove key_cmp_total rows k q)
     ∙ elim (eq_by_cmp key_cmp q k) as (λ b. cond b (Some x) (cond b None (get rows q)) ≡ cond b (Some x) (get rows q)) [ true ↦ refl | false ↦ refl ]
     ∙ sym (get-insert key_cmp_total rows k x q))
+
+one_more : (b : Bool) (n m : ℕ) → n ≡ m + cond b 1 0 → n ≡ cond b (m + 1) m
+one_more true n m e = e
+one_more false n m e = omega arith
+
+one_less : (b : Bool) (n m : ℕ) → n + cond b 1 0 ≡ m → n ≡ cond b (m - 1) m
+one_less true n m e = omega arith
+one_less false n m e = omega arith
+
+module _ (tree : TreeState) (node p : ℕ) (n : List ℕ) (q : ℕ) (m : List ℕ) (c : ℕ) (f : FitsMoves tree p n q m c) where
+  -- the new place is another one
+  apart : q ≡ p → m ≡ n → ⊥
+  apart same names = f.apart (subst (λ (d : ℕ). row_of tree d m ≡ Some c) (sym same) (subst (λ (k : List ℕ). row_of tree p k ≡ Some c) (sym names) f.row))
+
+  links_moved : (there : Option ℕ) → row_of tree q m ≡ there → count_of (insert (remove tree.rows (p, n)) (q, m) c) node ≡ cond (is_this node there) (count_of tree.rows node - 1) (count_of tree.rows node)
+  links_moved None e =
+      count-insert (remove tree.rows (p, n)) (q, m) c (names_it node) (removed_other tree.rows q p m n apart ∙ e)
+      ∙ count-remove tree.rows (p, n) c node f.row
+  links_moved (Some y) e =
+      let left = remove tree.rows (p, n) in
+      let row : get left (q, m) ≡ Some y = removed_other tree.rows q p m n apart ∙ e in
+      let new : count_of (insert left (q, m) c) node ≡ count_of (remove left (q, m)) node + cond (nat_eq c node) 1 0 = ap (λ r. count_of r node) (sym (put_over left (q, m) c)) ∙ count-insert (remove left (q, m)) (q, m) c (names_it node) (gone left (q, m)) in
+      let replaced = count-remove left (q, m) y node row in
+      let was = count-remove tree.rows (p, n) c node f.row in
+      one_less (nat_eq y node) _ _ (joined _ (count_of (remove left (q, m)) node) (count_of left node) _ _ _ new replaced was)
+    where
+      joined : (a b d e c y : ℕ) → a ≡ b + c → b + y ≡ d → d + c ≡ e → a + y ≡ e
+      joined a b d e c y new replaced was = omega arith
+
+links_left : (tree : TreeState) (core : ℕ) (effect : Effect) (makes : Option Kind) (node : ℕ) → Fits tree core effect makes → count_of (tree_with tree core effect makes).rows node ≡ links_after tree effect node (count_of tree.rows node)
+links_left tree core Stays makes node f = refl
+links_left tree core (Edits file edit) makes node f = refl
+links_left tree core (Adds d n c) None node f = one_more (nat_eq c node) _ _ (count-insert tree.rows (d, n) c (names_it node) f.free)
+links_left tree core (Adds d n c) (Some kind) node f = one_more (nat_eq c node) _ _ (count-insert tree.rows (d, n) c (names_it node) f.free)
+links_left tree core (Removes d n c) None node f = one_less (nat_eq c node) _ _ (count-remove tree.rows (d, n) c node f.row)
+links_left tree core (Removes d n c) (Some kind) node f = absurd f
+links_left tree core (Moves p n q m c) None node f = links_moved tree node p n q m c f (row_of tree q m) refl
+links_left tree core (Moves p n q m c) (Some kind) node f = absurd f
+
+differ : (a b : ℕ) → (a ≡ b → ⊥) → nat_eq a b ≡ false
+differ a b other = elim (nat_eq a b) as (λ t. nat_eq a b ≡ t → t ≡ false) [ true ↦ λ e. absurd (other (eqb-true _ _ e)) | false ↦ λ _. refl ] refl
+
+kind_left : (tree : TreeState) (core : ℕ) (effect : Effect) (makes : Option Kind) (node : ℕ) → Fits tree core effect makes → kind_of (tree_with tree core effect makes) node ≡ kind_after tree core makes node
+kind_left tree core Stays None node f = refl
+kind_left tree core (Adds d n c) None node f = refl
+kind_left tree core (Removes d n c) None node f = refl
+kind_left tree core (Moves p n q m c) None node f = refl
+kind_left tree core Stays (Some kind) node f = absurd f
+kind_left tree core (Removes d n c) (Some kind) node f = absurd f
+kind_left tree core (Moves p n q m c) (Some kind) node f = absurd f
+kind_left tree core (Edits file edit) (Some kind) node f = absurd f
+kind_left tree core (Edits file edit) None node f =
+    elim (get tree.nodes file) as (λ o. get tree.nodes file ≡ o → option_map_or (λ (n : Node). n.kind) (get (with_edit tree.nodes file edit o) node) File ≡ kind_of tree node) [
+      | None ↦ λ e. refl
+      | Some was ↦ λ e. elim (node_cases tree.nodes file (record was { bytes = edited edit was.bytes }) node) [
+        | inl here ↦ ap (λ (o : Option Node). option_map_or (λ (n : Node). n.kind) o File) here.1 ∙ sym (ap (λ (o : Option Node). option_map_or (λ (n : Node). n.kind) o File) (ap (get tree.nodes) here.0 ∙ e))
+        | inr other ↦ ap (λ (o : Option Node). option_map_or (λ (n : Node). n.kind) o File) other.1
+      ]
+    ] refl
+kind_left tree core (Adds d n c) (Some kind) node f =
+    elim (node_cases tree.nodes (next_number tree core) (record { kind = kind; bytes = [] }) node) [
+      | inl here ↦ ap (λ (o : Option Node). option_map_or (λ (n : Node). n.kind) o File) here.1 ∙ sym (ap (λ b. cond b kind (kind_of tree node)) (eq-eqb _ _ here.0))
+      | inr other ↦ ap (λ (o : Option Node). option_map_or (λ (n : Node). n.kind) o File) other.1 ∙ sym (ap (λ b. cond b kind (kind_of tree node)) (differ _ _ other.0))
+    ]
+
+pub nodes_after : NodesAfter
+nodes_after tree core effect makes node f = record {
+  links = links_left tree core effect makes node f;
+  bytes = bytes_with tree core effect makes node f;
+  kind = kind_left tree core effect makes node f;
+}
+
+pub counts_after : CountsAfter
+counts_after tree core effect None other lt = refl
+counts_after tree core effect (Some kind) other lt =
+    elim (nat_eq other core) as (λ b. nat_eq other core ≡ b → slice_index (set tree.made core (made_by tree core + 1)) other ≡ cond b (made_by tree other + 1) (made_by tree other)) [
+      | true ↦ λ t.
+          let same : other ≡ core = eqb-true _ _ t in
+          ap (slice_index (set tree.made core (made_by tree core + 1))) same ∙ get_or-set_same tree.made core (made_by tree core + 1) 0 lt ∙ ap (λ k. slice_index tree.made k + 1) (sym same)
+      | false ↦ λ t. get_or-set_other tree.made core other (made_by tree core + 1) 0 (eqb-false _ _ t)
+    ] refl
