@@ -11,6 +11,7 @@ pub mod KeepsSound
 pub mod Kept
 pub mod OwnEffects
 pub mod Parts
+pub mod Readings
 pub mod RowFacts
 pub mod RowsByName
 pub mod Names

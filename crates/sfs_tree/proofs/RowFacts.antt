@@ -7,7 +7,7 @@ use Rattle.std.specs.declared.cmp.Ordering.{Ordering}
 use Rattle.std.specs.declared.cmp.Ordering.TheVariants.{Less, Equal, Greater}
 use Rattle.std.specs.Cmp.{tied_itself, IsTotalOrder}
 use Rattle.std.specs.Cmp.Lexicographic.{nat_list_cmp_total}
-use Rattle.std.specs.FinMap.{FinMap, find, entries, get, insert, remove, is_sorted, get-entries, get-insert, get-remove, entries_sorted, empty_of_len, get-empty}
+use Rattle.std.specs.FinMap.{FinMap, find, entries, get, insert, remove, is_sorted, get-entries, get-insert, get-remove, entries_sorted, empty_of_len, get-empty, IsAntisymmetric}
 use Rattle.std.specs.FinMap.Entries.{below_all}
 use Rattle.sfs_tree.specs.Order.{name_cmp, Key, key_cmp}
 use Rattle.sfs_tree.specs.Tree.{TreeState, names_it, count_of, row_of, is_alive, names_of, row_count, holder_of}
@@ -49,13 +49,13 @@ reversed Less h = refl
 reversed Equal h = absurd h
 reversed Greater h = absurd h
 
--- a row behind others has another place
-apart : (k q : Key) (x : ℕ) (es : List (Key × ℕ)) → T (below_all key_cmp k es) → find key_cmp q es ≡ Some x → eq_by_cmp key_cmp q k ≡ false
-apart k q x [] below found = absurd (none_is x found)
-apart k q x (e ∷ es) below found =
-    elim (eq_by_cmp key_cmp q e.0) as (λ b. eq_by_cmp key_cmp q e.0 ≡ b → cond b (Some e.1) (find key_cmp q es) ≡ Some x → eq_by_cmp key_cmp q k ≡ false) [
-      | true ↦ λ t f. ap is_eq (key_cmp_total.antisymm q k) ∙ ap (λ (z : Key). is_eq (ordering_reverse (key_cmp k z))) (key_cmp-IsAntisymmetric q e.0 (is_equal _ t)) ∙ reversed (key_cmp k e.0) (both_first _ _ below)
-      | false ↦ λ t f. apart k q x es (both_second _ _ below) f
+-- an entry behind others has another key
+pub behind_apart : {K : Type 0} {R : K → K → Ordering} (o : IsTotalOrder R) → IsAntisymmetric R → (k q : K) (x : ℕ) (es : List (K × ℕ)) → T (below_all R k es) → find R q es ≡ Some x → eq_by_cmp R q k ≡ false
+behind_apart o anti k q x [] below found = absurd (none_is x found)
+behind_apart {K} {R} o anti k q x (e ∷ es) below found =
+    elim (eq_by_cmp R q e.0) as (λ b. eq_by_cmp R q e.0 ≡ b → cond b (Some e.1) (find R q es) ≡ Some x → eq_by_cmp R q k ≡ false) [
+      | true ↦ λ t f. ap is_eq (o.antisymm q k) ∙ ap (λ (z : K). is_eq (ordering_reverse (R k z))) (anti q e.0 (is_equal _ t)) ∙ reversed (R k e.0) (both_first _ _ below)
+      | false ↦ λ t f. behind_apart o anti k q x es (both_second _ _ below) f
     ] refl found
 
 -- an entry that is found by a test is the row at its place
@@ -68,7 +68,7 @@ found_entry test row (e ∷ es) s found =
           subst (λ (r : Key × ℕ). (cond (eq_by_cmp key_cmp r.0 e.0) (Some e.1) (find key_cmp r.0 es) ≡ Some r.1) × (test r ≡ true)) same (ap (λ b. cond b (Some e.1) (find key_cmp e.0 es)) (ap is_eq (tied_itself key_cmp_total e.0)), t)
       | false ↦ λ t f.
           let rest = found_entry test row es (both_second _ _ s) f in
-          (ap (λ b. cond b (Some e.1) (find key_cmp row.0 es)) (apart e.0 row.0 row.1 es (both_first _ _ s) rest.0) ∙ rest.0, rest.1)
+          (ap (λ b. cond b (Some e.1) (find key_cmp row.0 es)) (behind_apart key_cmp_total key_cmp-IsAntisymmetric e.0 row.0 row.1 es (both_first _ _ s) rest.0) ∙ rest.0, rest.1)
     ] refl found
 
 -- a test finds an entry, or it counts none

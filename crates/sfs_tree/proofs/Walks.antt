@@ -139,3 +139,32 @@ module _ (tree : TreeState) (s : IsSound tree) where
       lacks : (l : List ℕ) → lists.list_any (λ a. nat_eq a directory) l ≡ false → Lacks l directory
       lacks [] e = tt
       lacks (a ∷ l) e = (eqb-false _ _ (first_false _ _ e), lacks l (second_false _ _ e))
+
+  list_lacks : (l : List ℕ) (directory : ℕ) → Lacks l directory → lists.list_any (λ a. nat_eq a directory) l ≡ false
+  list_lacks [] directory lacks = refl
+  list_lacks (a ∷ l) directory lacks =
+      elim (nat_eq a directory) as (λ b. nat_eq a directory ≡ b → (b || lists.list_any (λ a. nat_eq a directory) l) ≡ false) [
+        | true ↦ λ t. absurd (lacks.0 (eqb-true _ _ t))
+        | false ↦ λ t. list_lacks l directory lacks.1
+      ] refl
+
+  -- a directory is not its own child's, and does not lie below it
+  above_own : (holder node : ℕ) (l : List ℕ) → Chain (holder_of tree) node l → holder_of tree node ≡ Some holder → (nat_eq holder node || lies_below tree holder node) ≡ false
+  above_own holder node [] chain is = cc
+  above_own holder node (h ∷ l) chain is =
+      let same : h ≡ holder = some_is h holder (sym chain.0 ∙ is) in
+      let rest : Chain (holder_of tree) holder l = subst (λ y. Chain (holder_of tree) y l) same chain.1 in
+      let lacks : Lacks (holder ∷ l) node = no_loop (holder_of tree) node (suc (length l)) (λ k other. same_length (holder_of tree) node (h ∷ l) k chain other) holder l rest (less (length l)) in
+      let walk = walk_meets tree (len tree.rows) holder l rest (subst (λ n. length l ≤ n) (sym (len-entries tree.rows)) (chain_within (entries tree.rows) holder l rest)) in
+      ap (λ k. nat_eq holder node || lists.list_any (λ a. nat_eq a node) k) walk ∙ list_lacks (holder ∷ l) node lacks
+    where
+      some_is : (a b : ℕ) → Some a ≡ Some b → a ≡ b
+      some_is a b e = cc
+
+      less : (n : ℕ) → n < suc n
+      less n = omega arith
+
+  pub not_below_own : (holder node : ℕ) (name : List ℕ) → row_of tree holder name ≡ Some node → is_directory tree node ≡ true → (nat_eq holder node || lies_below tree holder node) ≡ false
+  not_below_own holder node name row kind =
+      let way = s.climbs holder name node row kind in
+      above_own holder node way.0 (above_chain way.1 kind) (holder_is node holder name row kind)

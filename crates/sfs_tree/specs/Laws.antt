@@ -2,7 +2,7 @@
 use Rattle.std.specs.Prelude.{◌≡◌, ◌≢◌, ℕ, Bool, ◌+◌, ◌*◌, ◌<◌, ◌≤◌, true, false, List, length, take, Option, None}
 use Rattle.std.specs.FinMap.{get}
 use Rattle.sfs_tree.specs.declared.call.Call.{Call}
-use Rattle.sfs_tree.specs.Tree.{TreeState, row_of, is_directory, names_of, names_where, bytes_of, kind_of, count_of, row_count, holder_of, made_by, next_number}
+use Rattle.sfs_tree.specs.Tree.{TreeState, row_of, is_directory, names_of, names_where, bucket_rows, bytes_of, kind_of, count_of, row_count, holder_of, made_by, next_number}
 use Rattle.sfs_tree.specs.Verdict.{verdict, tree_after_call}
 use Rattle.sfs_tree.specs.Build.{root_alone}
 use Rattle.sfs_tree.specs.Sound.{IsSound, IsNumbered}
@@ -11,6 +11,7 @@ use Rattle.sfs_tree.specs.declared.history.Entry.{Entry}
 use Rattle.sfs_tree.specs.Effect.{Effect, tree_with}
 use Rattle.sfs_tree.specs.History.{tree_after, IsLegal}
 use Rattle.sfs_tree.specs.Changes.{rows_at, bytes_at}
+use Rattle.sfs_tree.specs.Readings.{Agree}
 use Rattle.sfs_tree.specs.Parts.{part_after, links_after, bytes_after, kind_after, count_after}
 use Rattle.sfs_tree.specs.Footprints.{row_after, moves_directory_between, DoesItsOwn}
 use Rattle.sfs_base.specs.declared.numbers.Kind.{Kind}
@@ -86,3 +87,11 @@ NodesAfter = (tree : TreeState) (core : ℕ) (effect : Effect) (makes : Option K
 -- A core's creation counts for that core alone.
 abbrev pub CountsAfter : Type 0
 CountsAfter = (tree : TreeState) (core : ℕ) (effect : Effect) (makes : Option Kind) (other : ℕ) → core < length tree.made → made_by (tree_with tree core effect makes) other ≡ count_after tree core makes other
+
+-- A call has one reply and one effect in two sound trees that agree on what it reads.
+abbrev pub ReadingsDecide : Type 0
+ReadingsDecide = (tree other : TreeState) (core : ℕ) (c : Call) → IsSoundTree tree → IsSoundTree other → Agree tree other core c → verdict tree core c ≡ verdict other core c
+
+-- Two trees with the same eight buckets of a directory have the same rows in it.
+abbrev pub BucketsMakeRows : Type 0
+BucketsMakeRows = (tree other : TreeState) (directory : ℕ) → ((number : ℕ) → number < 8 → bucket_rows directory number tree.rows ≡ bucket_rows directory number other.rows) → names_of directory tree.rows ≡ names_of directory other.rows

@@ -11,6 +11,7 @@ pub mod Laws
 pub mod Names
 pub mod Order
 pub mod Parts
+pub mod Readings
 pub mod Shape
 pub mod Sound
 pub mod Store
