@@ -16,7 +16,7 @@ use Rattle.sfs_tree.specs.Laws.{IsSoundTree, HoldersStay}
 use Rattle.sfs_tree.proofs.RowFacts.{IsNamed, alive_named, holder_found, has_row, added_cases, added_there, added_other, removed_cases, removed_other, is_here, same_some, some_not_none}
 use Rattle.sfs_tree.proofs.KeepsNodes.{directory_node, KeepKinds-new, KeepKinds-edit}
 use Rattle.sfs_tree.proofs.Walks.{holder_is}
-use Rattle.sfs_tree.proofs.OwnEffects.{does_its_own}
+use Rattle.sfs_tree.proofs.OwnEffects.{of_one, of_child, of_what_it_does}
 use Rattle.sfs_tree.proofs.SoundTrees.{calls_keep_sound, calls_fit}
 
 -- a row of a directory that names a node
@@ -127,16 +127,6 @@ module _ (tree : TreeState) (core : ℕ) (s : IsSound tree) (node : ℕ) (kind :
       not_both : {b : Bool} → b ≡ true → b ≡ false → ⊥
       not_both t f = cc
 
-this_one : (tree : TreeState) (own effect : Effect) → Some own ≡ Some effect → StaysWithin tree own → StaysWithin tree effect
-this_one tree own effect e h = subst (StaysWithin tree) (some_is own effect e) h
-  where
-    some_is : (a b : Effect) → Some a ≡ Some b → a ≡ b
-    some_is a b e = cc
-
-of_child : (tree : TreeState) (own : ℕ → Effect) (child : Option ℕ) (effect : Effect) → option_map own child ≡ Some effect → ((x : ℕ) → child ≡ Some x → StaysWithin tree (own x)) → StaysWithin tree effect
-of_child tree own None effect e h = cc
-of_child tree own (Some x) effect e h = this_one tree (own x) effect e (h x refl)
-
 within_or_file : (tree : TreeState) (p q : ℕ) (child : Option ℕ) → (not (nat_eq p q) && option_map_or (is_directory tree) child false) ≡ false → (x : ℕ) → child ≡ Some x → (p ≡ q) ⊎ (is_directory tree x ≡ false)
 within_or_file tree p q child stays x is =
     elim (nat_eq p q) as (λ b. nat_eq p q ≡ b → (not b && option_map_or (is_directory tree) child false) ≡ false → (p ≡ q) ⊎ (is_directory tree x ≡ false)) [
@@ -151,13 +141,13 @@ within tree core (call.Read f at count) effect stays own = cc
 within tree core (call.Stat d) effect stays own = cc
 within tree core (call.List d) effect stays own = cc
 within tree core (call.Fsync d) effect stays own = cc
-within tree core (call.Make d n k) effect stays own = this_one tree (Adds d.0 n (next_number tree core)) effect own tt
-within tree core (call.Link f d n) effect stays own = this_one tree (Adds d.0 n f.0) effect own tt
-within tree core (call.Write f at bytes) effect stays own = this_one tree (Edits f.0 (Puts at bytes)) effect own tt
-within tree core (call.Trunc f size) effect stays own = this_one tree (Edits f.0 (Resizes size)) effect own tt
-within tree core (call.Unlink d n) effect stays own = of_child tree (Removes d.0 n) (row_of tree d.0 n) effect own (λ x e. tt)
-within tree core (call.Rmdir d n) effect stays own = of_child tree (Removes d.0 n) (row_of tree d.0 n) effect own (λ x e. tt)
-within tree core (call.Rename p n q m) effect stays own = of_child tree (Moves p.0 n q.0 m) (row_of tree p.0 n) effect own (within_or_file tree p.0 q.0 (row_of tree p.0 n) stays)
+within tree core (call.Make d n k) effect stays own = of_one (StaysWithin tree) (Adds d.0 n (next_number tree core)) effect own tt
+within tree core (call.Link f d n) effect stays own = of_one (StaysWithin tree) (Adds d.0 n f.0) effect own tt
+within tree core (call.Write f at bytes) effect stays own = of_one (StaysWithin tree) (Edits f.0 (Puts at bytes)) effect own tt
+within tree core (call.Trunc f size) effect stays own = of_one (StaysWithin tree) (Edits f.0 (Resizes size)) effect own tt
+within tree core (call.Unlink d n) effect stays own = of_child (StaysWithin tree) (Removes d.0 n) (row_of tree d.0 n) effect own (λ x e. tt)
+within tree core (call.Rmdir d n) effect stays own = of_child (StaysWithin tree) (Removes d.0 n) (row_of tree d.0 n) effect own (λ x e. tt)
+within tree core (call.Rename p n q m) effect stays own = of_child (StaysWithin tree) (Moves p.0 n q.0 m) (row_of tree p.0 n) effect own (within_or_file tree p.0 q.0 (row_of tree p.0 n) stays)
 
 pub holders_stay : HoldersStay
 holders_stay tree core c node is lt stays kind rows =
@@ -165,10 +155,7 @@ holders_stay tree core c node is lt stays kind rows =
     let fits = calls_fit tree core c is lt in
     let effect = (verdict tree core c).effect in
     let makes = (verdict tree core c).makes in
-    let within_it : StaysWithin tree (verdict tree core c).effect = elim (does_its_own tree core c) [
-      | inl quiet ↦ subst (StaysWithin tree) (sym quiet.effect) tt
-      | inr own ↦ within tree core c (verdict tree core c).effect stays own.effect
-    ] in
+    let within_it : StaysWithin tree (verdict tree core c).effect = of_what_it_does (StaysWithin tree) tree core c tt (λ effect own. within tree core c effect stays own) in
     same_holder tree _ node is.sound (calls_keep_sound tree core c is lt).sound kind (directory_stays tree core effect makes node fits (directory_node tree node kind) ∙ kind)
     (names_up tree core is.sound node kind row.0 row.1 row.2 effect makes fits within_it)
     (names_back tree core is.sound node kind row.0 row.1 row.2 effect makes fits within_it)

@@ -7,6 +7,7 @@ pub mod Holders
 pub mod Joined
 pub mod KeepsMoves
 pub mod KeepsNodes
+pub mod KeepsRest
 pub mod KeepsSound
 pub mod Kept
 pub mod OwnEffects

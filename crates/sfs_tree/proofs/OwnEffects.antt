@@ -81,3 +81,20 @@ module _ (tree : TreeState) (core : ℕ) where
   does_its_own (call.Stat node) = asked (node_fault tree node.0) (reply.Stat (kind_of tree node.0) (links_of tree node.0) (size_of tree node.0))
   does_its_own (call.List directory) = asked (directory_fault tree directory.0) (reply.Names (with_kinds tree (names_of directory.0 tree.rows)))
   does_its_own (call.Fsync node) = asked (node_fault tree node.0) reply.Ok
+
+-- what holds of nothing and of a call's own effect holds of what it does
+pub of_one : (P : Effect → Type 0) (own effect : Effect) → Some own ≡ Some effect → P own → P effect
+of_one P own effect e h = subst P (some_is own effect e) h
+  where
+    some_is : (a b : Effect) → Some a ≡ Some b → a ≡ b
+    some_is a b e = cc
+
+pub of_child : (P : Effect → Type 0) (own : ℕ → Effect) (child : Option ℕ) (effect : Effect) → option_map own child ≡ Some effect → ((x : ℕ) → child ≡ Some x → P (own x)) → P effect
+of_child P own None effect e h = cc
+of_child P own (Some x) effect e h = of_one P (own x) effect e (h x refl)
+
+pub of_what_it_does : (P : Effect → Type 0) (tree : TreeState) (core : ℕ) (c : Call) → P Stays → ((effect : Effect) → own_effect tree core c ≡ Some effect → P effect) → P (verdict tree core c).effect
+of_what_it_does P tree core c nothing own = elim (does_its_own tree core c) [
+  | inl quiet ↦ subst P (sym quiet.effect) nothing
+  | inr this ↦ own (verdict tree core c).effect this.effect
+]

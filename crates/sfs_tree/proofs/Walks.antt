@@ -7,6 +7,7 @@ use Rattle.sfs_tree.specs.Order.{Key}
 use Rattle.sfs_tree.specs.Tree.{TreeState, row_of, is_directory, names_it, holder_of, and_above, walk_up, lies_below}
 use Rattle.sfs_tree.specs.Sound.{Above, at_root, below, IsSound}
 use Rattle.sfs_tree.specs.Fits.{Lacks}
+use Rattle.sfs_tree.specs.Laws.{WalksMeetThoseAbove}
 use Rattle.sfs_tree.proofs.RowFacts.{IsNamed, holder_found}
 
 -- the steps of a function from a number on, up to where it has none
@@ -168,3 +169,6 @@ module _ (tree : TreeState) (s : IsSound tree) where
   not_below_own holder node name row kind =
       let way = s.climbs holder name node row kind in
       above_own holder node way.0 (above_chain way.1 kind) (holder_is node holder name row kind)
+
+pub walks_meet_those_above : WalksMeetThoseAbove
+walks_meet_those_above tree node above is kind way = walk_is tree is.sound way kind

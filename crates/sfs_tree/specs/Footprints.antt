@@ -1,14 +1,16 @@
 -- What a call touches: what its reply depends on, and what it leaves of each part of the tree.
-use Rattle.std.specs.Prelude.{◌≡◌, ◌⊎◌, ℕ, ◌==◌, Bool, false, not, ◌&&◌, List, Option, Some, None, option_map, if◌then◌else◌}
+use Rattle.std.specs.Prelude.{◌≡◌, ◌≢◌, ◌⊎◌, ℕ, ◌==◌, Bool, false, not, ◌&&◌, ◌||◌, List, Option, Some, None, IsSome, option_map, if◌then◌else◌}
 use Rattle.std.specs.Option.{option_map_or}
 use Rattle.std.specs.Ordering.{eq_by_cmp}
 use Rattle.sfs_base.specs.declared.numbers.Kind.{Kind}
 use Rattle.sfs_tree.specs.declared.call.Call.{Call}
 use Rattle.sfs_tree.specs.declared.call.Call.TheVariants as call
 use Rattle.sfs_tree.specs.Order.{key_cmp}
-use Rattle.sfs_tree.specs.Tree.{TreeState, row_of, is_directory, next_number}
+use Rattle.sfs_tree.specs.Tree.{TreeState, row_of, is_directory, next_number, names_where, bytes_of, count_of, kind_of, made_by}
+use Rattle.sfs_tree.specs.Parts.{is_in_part, is_this}
+use Rattle.std.specs.FinMap.{get}
 use Rattle.sfs_tree.specs.Effect.{Effect, Stays, Adds, Removes, Moves, Edits, Puts, Resizes}
-use Rattle.sfs_tree.specs.Verdict.{Verdict, verdict}
+use Rattle.sfs_tree.specs.Verdict.{Verdict, verdict, tree_after_call}
 
 -- what a call does where nothing refuses it and something changes
 abbrev pub own_effect : TreeState → ℕ → Call → Option Effect
@@ -61,3 +63,38 @@ row_after rows (Moves directory other to_directory to_name child) at name =
     if is_same_place at name directory other then None else
     rows at name
 row_after rows (Edits file edit) at name = rows at name
+
+-- whether a call may change the part of a directory that has the names which pass a test
+abbrev pub touches_part : Call → ℕ → (List ℕ → Bool) → Bool
+touches_part (call.Make at name kind) directory test = is_in_part directory test at.0 name
+touches_part (call.Link file at name) directory test = is_in_part directory test at.0 name
+touches_part (call.Unlink at name) directory test = is_in_part directory test at.0 name
+touches_part (call.Rmdir at name) directory test = is_in_part directory test at.0 name
+touches_part (call.Rename at name to_directory to_name) directory test =
+    is_in_part directory test at.0 name || is_in_part directory test to_directory.0 to_name
+touches_part _ directory test = false
+
+-- whether a call may change a file's bytes
+abbrev pub touches_bytes : Call → ℕ → Bool
+touches_bytes (call.Write file at bytes) node = file.0 == node
+touches_bytes (call.Trunc file size) node = file.0 == node
+touches_bytes _ node = false
+
+-- whether a call may change how many rows name a node
+abbrev pub touches_links : TreeState → ℕ → Call → ℕ → Bool
+touches_links tree core (call.Make directory name kind) node = next_number tree core == node
+touches_links tree core (call.Link file directory name) node = file.0 == node
+touches_links tree core (call.Unlink directory name) node = is_this node (row_of tree directory.0 name)
+touches_links tree core (call.Rmdir directory name) node = is_this node (row_of tree directory.0 name)
+touches_links tree core (call.Rename directory name to_directory to_name) node = is_this node (row_of tree to_directory.0 to_name)
+touches_links tree core _ node = false
+
+-- What a call does not touch it keeps: the rows of other parts of directories, the bytes of other files, how many rows name other
+-- nodes, the kinds of the nodes that are there, and how many nodes other cores have made; and this core too, unless it makes one.
+pub record KeepsRest (tree : TreeState) (core : ℕ) (c : Call) : Type 0 where
+  pub rows : (directory : ℕ) (test : List ℕ → Bool) → touches_part c directory test ≡ false → names_where directory test (tree_after_call tree core c).rows ≡ names_where directory test tree.rows
+  pub bytes : (node : ℕ) → touches_bytes c node ≡ false → bytes_of (tree_after_call tree core c) node ≡ bytes_of tree node
+  pub links : (node : ℕ) → touches_links tree core c node ≡ false → count_of (tree_after_call tree core c).rows node ≡ count_of tree.rows node
+  pub kinds : (node : ℕ) → IsSome (get tree.nodes node) → kind_of (tree_after_call tree core c) node ≡ kind_of tree node
+  pub others : (other : ℕ) → other ≢ core → made_by (tree_after_call tree core c) other ≡ made_by tree other
+  pub own : own_kind c ≡ None → made_by (tree_after_call tree core c) core ≡ made_by tree core

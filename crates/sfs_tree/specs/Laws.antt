@@ -1,11 +1,11 @@
 -- The laws of the tree of one thread, each of which a function of the module laws proves.
 use Rattle.std.specs.Prelude.{◌≡◌, ◌≢◌, ℕ, Bool, ◌+◌, ◌*◌, ◌<◌, ◌≤◌, true, false, List, length, take, Option, None}
-use Rattle.std.specs.FinMap.{get}
+use Rattle.std.specs.FinMap.{get, len}
 use Rattle.sfs_tree.specs.declared.call.Call.{Call}
-use Rattle.sfs_tree.specs.Tree.{TreeState, row_of, is_directory, names_of, names_where, bucket_rows, bytes_of, kind_of, count_of, row_count, holder_of, made_by, next_number}
+use Rattle.sfs_tree.specs.Tree.{TreeState, row_of, is_directory, names_of, names_where, bucket_rows, bytes_of, kind_of, count_of, row_count, holder_of, walk_up, made_by, next_number}
 use Rattle.sfs_tree.specs.Verdict.{verdict, tree_after_call}
 use Rattle.sfs_tree.specs.Build.{root_alone}
-use Rattle.sfs_tree.specs.Sound.{IsSound, IsNumbered}
+use Rattle.sfs_tree.specs.Sound.{Above, IsSound, IsNumbered}
 use Rattle.sfs_tree.specs.Fits.{Fits}
 use Rattle.sfs_tree.specs.declared.history.Entry.{Entry}
 use Rattle.sfs_tree.specs.Effect.{Effect, tree_with}
@@ -13,7 +13,7 @@ use Rattle.sfs_tree.specs.History.{tree_after, IsLegal}
 use Rattle.sfs_tree.specs.Changes.{rows_at, bytes_at}
 use Rattle.sfs_tree.specs.Readings.{Agree}
 use Rattle.sfs_tree.specs.Parts.{part_after, links_after, bytes_after, kind_after, count_after}
-use Rattle.sfs_tree.specs.Footprints.{row_after, moves_directory_between, DoesItsOwn}
+use Rattle.sfs_tree.specs.Footprints.{row_after, moves_directory_between, DoesItsOwn, KeepsRest}
 use Rattle.sfs_base.specs.declared.numbers.Kind.{Kind}
 
 -- a sound tree, each node of which has a number that was given
@@ -95,3 +95,11 @@ ReadingsDecide = (tree other : TreeState) (core : ℕ) (c : Call) → IsSoundTre
 -- Two trees with the same eight buckets of a directory have the same rows in it.
 abbrev pub BucketsMakeRows : Type 0
 BucketsMakeRows = (tree other : TreeState) (directory : ℕ) → ((number : ℕ) → number < 8 → bucket_rows directory number tree.rows ≡ bucket_rows directory number other.rows) → names_of directory tree.rows ≡ names_of directory other.rows
+
+-- Each call keeps what it does not touch.
+abbrev pub CallsKeepTheRest : Type 0
+CallsKeepTheRest = (tree : TreeState) (core : ℕ) (c : Call) → IsSoundTree tree → core < length tree.made → KeepsRest tree core c
+
+-- A walk up from a directory of a sound tree meets the directories above it.
+abbrev pub WalksMeetThoseAbove : Type 0
+WalksMeetThoseAbove = (tree : TreeState) (node : ℕ) (above : List ℕ) → IsSoundTree tree → is_directory tree node ≡ true → Above tree node above → walk_up (len tree.rows) tree node ≡ above

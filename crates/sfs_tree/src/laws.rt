@@ -1,4 +1,4 @@
-ghost use Rattle.sfs_tree.specs.Laws.{RootIsSound, CallsKeepSound, CallsFit, DrawnIsNew, DrawnApart, HistoriesKeepSound, RowsAreTheTrees, BytesAreTheTrees, EffectsAct, CallsDoTheirOwn, HoldersStay};
+ghost use Rattle.sfs_tree.specs.Laws.{RootIsSound, CallsKeepSound, CallsFit, DrawnIsNew, DrawnApart, HistoriesKeepSound, RowsAreTheTrees, BytesAreTheTrees, EffectsAct, CallsDoTheirOwn, HoldersStay, PartsAfter, NodesAfter, CountsAfter, ReadingsDecide, BucketsMakeRows, CallsKeepTheRest, WalksMeetThoseAbove};
 
 /// The root alone is a sound tree.
 pub fn root_alone_is_sound()
@@ -53,4 +53,39 @@ pub fn calls_do_their_own()
 /// A directory with rows keeps its holder, but where a directory moves to another one.
 pub fn holders_stay()
     ensures { HoldersStay }
+{}
+
+/// What an effect leaves of a part of a directory is made of that part alone.
+pub fn parts_after()
+    ensures { PartsAfter }
+{}
+
+/// What an effect that fits leaves of a node is made of what is said of that node alone.
+pub fn nodes_after()
+    ensures { NodesAfter }
+{}
+
+/// A core's creation counts for that core alone.
+pub fn counts_after()
+    ensures { CountsAfter }
+{}
+
+/// A call has one reply and one effect in two sound trees that agree on what it reads.
+pub fn readings_decide()
+    ensures { ReadingsDecide }
+{}
+
+/// A directory's eight buckets make its rows.
+pub fn buckets_make_rows()
+    ensures { BucketsMakeRows }
+{}
+
+/// Each call keeps what it does not touch.
+pub fn calls_keep_the_rest()
+    ensures { CallsKeepTheRest }
+{}
+
+/// A walk up from a directory meets the directories above it.
+pub fn walks_meet_those_above()
+    ensures { WalksMeetThoseAbove }
 {}
