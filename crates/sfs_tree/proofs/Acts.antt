@@ -1,11 +1,9 @@
 -- Rows after an effect.
-use Rattle.std.proofs.Common.{◌≡◌, ℕ, cond, List, Option, Some, None, refl, sym, ap, ◌∙◌}
-use Rattle.std.specs.FinMap.{get, insert, remove, get-insert, get-remove}
+use Rattle.std.proofs.Common.{cond, Some, refl, ap, ◌∙◌}
+use Rattle.std.specs.FinMap.{remove, get-insert, get-remove}
 use Rattle.std.specs.Ordering.{eq_by_cmp}
-use Rattle.sfs_base.specs.declared.numbers.Kind.{Kind}
 use Rattle.sfs_tree.specs.Order.{key_cmp}
-use Rattle.sfs_tree.specs.Tree.{TreeState, row_of}
-use Rattle.sfs_tree.specs.Effect.{Effect, Stays, Adds, Removes, Moves, Edits, tree_with}
+use Rattle.sfs_tree.specs.Effect.{Stays, Adds, Removes, Moves, Edits}
 use Rattle.sfs_tree.specs.Laws.{EffectsAct}
 use Rattle.sfs_tree.proofs.Joined.{key_cmp_total}
 

@@ -1,17 +1,17 @@
 -- Trees along a legal history: they stay sound, and a file's bytes at a stamp are those of the tree there.
-use Rattle.std.proofs.Common.{◌≡◌, ℕ, zero, suc, ◌+◌, ◌<◌, ◌≤◌, Bool, true, false, cond, ◌&&◌, List, [], ◌∷◌, ◌++◌, length, take, Option, Some, None, IsSome, ◌⊎◌, inl, inr, refl, sym, ap, subst, ◌∙◌, arith, nat_lt, nat_eq}
-use borrow.Author.Tests.{eqb-true, eq-eqb, eqb-false, ltb-true, lt-ltb}
+use Rattle.std.proofs.Common.{◌≡◌, ℕ, zero, suc, ◌+◌, ◌<◌, ◌≤◌, true, false, cond, ◌&&◌, List, [], ◌∷◌, ◌++◌, take, Option, Some, None, IsSome, inl, inr, refl, sym, ap, subst, ◌∙◌, arith, nat_lt, nat_eq}
+use borrow.Author.Tests.{eqb-true, eq-eqb, ltb-true, lt-ltb}
 use Rattle.std.specs.Prelude.{filter, fold}
 use Rattle.std.specs.Option.{option_map_or}
-use Rattle.std.specs.FinMap.{get, insert}
+use Rattle.std.specs.FinMap.{get}
 use Rattle.std.proofs.lemmas.List.Sums.{fold-append}
 use Rattle.std.proofs.lemmas.List.Elements.{filter-append}
 use Rattle.sfs_base.specs.declared.numbers.Kind.{Kind}
 use Rattle.sfs_tree.specs.declared.history.Entry.{Entry}
 use Rattle.sfs_tree.specs.Tree.{TreeState, Node, bytes_of, next_number}
-use Rattle.sfs_tree.specs.Effect.{Effect, Stays, Adds, Removes, Moves, Edits, Edit, edited, with_edit, tree_with}
+use Rattle.sfs_tree.specs.Effect.{Effect, Stays, Adds, Removes, Moves, Edits, edited, with_edit, tree_with}
 use Rattle.sfs_tree.specs.Verdict.{verdict}
-use Rattle.sfs_tree.specs.History.{tree_after, tree_after_entry, MayCome, IsLegalFrom, IsLegal}
+use Rattle.sfs_tree.specs.History.{tree_after, tree_after_entry, IsLegalFrom, IsLegal}
 use Rattle.sfs_tree.specs.Changes.{FileChange, edits_by, edits_of, is_edit_below, bytes_at}
 use Rattle.sfs_tree.specs.Fits.{Fits}
 use Rattle.sfs_tree.specs.Parts.{bytes_after}

@@ -1,5 +1,5 @@
 -- Where no condition of the table holds, what a call does fits.
-use Rattle.std.proofs.Common.{◌≡◌, ◌≢◌, ℕ, ◌+◌, ◌<◌, ◌≤◌, Bool, true, false, cond, not, ◌||◌, ◌&&◌, List, [], ◌∷◌, length, take, drop, Option, Some, None, is_some, IsSome, ◌⊎◌, inl, inr, refl, sym, ap, subst, ◌∙◌, arith, nat_eq, nat_lt}
+use Rattle.std.proofs.Common.{◌≡◌, ◌≢◌, ℕ, ◌+◌, ◌<◌, Bool, true, false, cond, not, ◌||◌, ◌&&◌, List, ◌∷◌, length, take, drop, Option, Some, None, is_some, IsSome, inl, inr, refl, sym, ap, subst, ◌∙◌, nat_eq, nat_lt}
 use borrow.Author.Tests.{eqb-true, eqb-false, eq-eqb, leb-false}
 use Rattle.std.specs.FinMap.{get}
 use Rattle.sfs_base.specs.declared.numbers.Kind.{Kind}
@@ -9,12 +9,12 @@ use Rattle.sfs_tree.specs.declared.reply.Code.{Code}
 use Rattle.sfs_tree.specs.declared.reply.Code.TheVariants.{NotDir, IsDir, NotEmpty, FileTooBig}
 use Rattle.sfs_tree.specs.declared.reply.Reply.{Reply}
 use Rattle.sfs_tree.specs.declared.reply.Reply.TheVariants as reply
-use Rattle.sfs_tree.specs.Tree.{TreeState, row_of, is_alive, is_directory, row_count, made_by, lies_below, kind_of, links_of, bytes_of, names_of}
+use Rattle.sfs_tree.specs.Tree.{TreeState, row_of, is_alive, is_directory, row_count, lies_below, kind_of, links_of, bytes_of, names_of}
 use Rattle.sfs_tree.specs.Names.{with_kinds}
-use Rattle.sfs_tree.specs.Effect.{Effect, Stays, Adds, Removes, Moves, Edits, Puts, Resizes}
-use Rattle.sfs_tree.specs.Verdict.{LARGEST_FILE, Verdict, refused, answered, done, or_else, first_of_two, directory_fault, file_fault, make_fault, link_fault, node_fault, size_of, unlink_row, rmdir_row, place_fault, move_fault, names_child, move_row, verdict, make_node, look_row, write_bytes, trunc_file}
+use Rattle.sfs_tree.specs.Effect.{Effect, Adds, Removes, Moves, Edits, Puts, Resizes}
+use Rattle.sfs_tree.specs.Verdict.{LARGEST_FILE, Verdict, refused, answered, done, or_else, first_of_two, directory_fault, file_fault, make_fault, link_fault, node_fault, size_of, unlink_row, rmdir_row, place_fault, move_fault, names_child, move_row, verdict, make_node, look_row, write_bytes}
 use Rattle.sfs_tree.specs.Sound.{Above, IsSound, IsNumbered}
-use Rattle.sfs_tree.specs.Fits.{Fits, FitsTree, FitsMakes, FitsAdds, FitsRemoves, FitsMoves, FitsEdits, MayHold, HasNoRows, Lacks}
+use Rattle.sfs_tree.specs.Fits.{Fits, FitsTree, FitsEdits, MayHold, HasNoRows, Lacks}
 use Rattle.sfs_tree.proofs.RowFacts.{alive_named, no_rows}
 use Rattle.sfs_tree.proofs.KeepsSound.{way_up}
 use Rattle.sfs_tree.proofs.Numbers.{fresh_number}
@@ -86,11 +86,13 @@ live_file tree file none =
 -- a live file is not the root, and a node
 pub file_node : (tree : TreeState) → IsSound tree → (file : ℕ) → IsFile tree file → (file ≢ 0) × IsSome (get tree.nodes file)
 file_node tree s file f =
-    let no_root : file ≢ 0 = λ root. true_not_false (subst (λ (x : ℕ). is_directory tree x ≡ true) (sym root) s.root) f.kind in
-    (no_root, elim (alive_named tree file f.alive) [
-      | inl root ↦ absurd (no_root root)
-      | inr named ↦ s.node named.directory named.name file named.row
-    ])
+    let no_root : file ≢ 0 = λ root. true_not_false (subst (λ (x : ℕ). is_directory tree x ≡ true) (sym root) s.root) f.kind in (
+      no_root,
+      elim (alive_named tree file f.alive) [
+        | inl root ↦ absurd (no_root root)
+        | inr named ↦ s.node named.directory named.name file named.row
+      ],
+    )
 
 bare_when : (tree : TreeState) (node : ℕ) → (is_directory tree node && not (nat_eq (row_count tree node) 0)) ≡ false → is_directory tree node ≡ true → HasNoRows tree node
 bare_when tree node none kind = no_rows tree node (eqb-true _ _ (not_false _ (and_second (is_directory tree node) _ none kind)))

@@ -1,5 +1,5 @@
 -- The holder of a directory with rows stays, but where a directory moves to another one.
-use Rattle.std.proofs.Common.{◌≡◌, ◌≢◌, ℕ, Bool, true, false, not, ◌&&◌, List, [], Option, Some, None, option_map, IsSome, ◌⊎◌, inl, inr, refl, sym, ap, subst, ◌∙◌, nat_eq}
+use Rattle.std.proofs.Common.{◌≡◌, ◌≢◌, ℕ, Bool, true, false, not, ◌&&◌, List, [], Option, Some, None, IsSome, ◌⊎◌, inl, inr, refl, sym, ap, subst, ◌∙◌, nat_eq}
 use borrow.Author.Tests.{eqb-true}
 use Rattle.std.specs.Option.{option_map_or}
 use Rattle.std.specs.FinMap.{get, insert, remove}
@@ -12,8 +12,8 @@ use Rattle.sfs_tree.specs.Verdict.{verdict}
 use Rattle.sfs_tree.specs.Sound.{IsSound}
 use Rattle.sfs_tree.specs.Fits.{Fits}
 use Rattle.sfs_tree.specs.Footprints.{own_effect, moves_directory_between}
-use Rattle.sfs_tree.specs.Laws.{IsSoundTree, HoldersStay}
-use Rattle.sfs_tree.proofs.RowFacts.{IsNamed, alive_named, holder_found, has_row, added_cases, added_there, added_other, removed_cases, removed_other, is_here, same_some, some_not_none}
+use Rattle.sfs_tree.specs.Laws.{HoldersStay}
+use Rattle.sfs_tree.proofs.RowFacts.{alive_named, holder_found, has_row, added_cases, added_there, added_other, removed_cases, removed_other, is_here, same_some, some_not_none}
 use Rattle.sfs_tree.proofs.KeepsNodes.{directory_node, KeepKinds-new, KeepKinds-edit}
 use Rattle.sfs_tree.proofs.Walks.{holder_is}
 use Rattle.sfs_tree.proofs.OwnEffects.{of_one, of_child, of_what_it_does}

@@ -1,11 +1,11 @@
 -- What moves in a sound tree keeps it sound.
-use Rattle.std.proofs.Common.{◌≡◌, ◌≢◌, ℕ, true, false, List, [], ◌∷◌, Option, Some, None, IsSome, ◌⊎◌, inl, inr, refl, sym, ap, subst, ◌∙◌, nat_eq}
+use Rattle.std.proofs.Common.{◌≡◌, ℕ, true, false, List, [], ◌∷◌, Some, ◌⊎◌, inl, inr, refl, sym, ap, subst, ◌∙◌, nat_eq}
 use borrow.Author.Tests.{eqb-true, eqb-false}
-use Rattle.std.specs.FinMap.{FinMap, get, insert, remove}
+use Rattle.std.specs.FinMap.{insert, remove}
 use Rattle.sfs_tree.specs.Tree.{TreeState, row_of, is_alive, is_directory}
 use Rattle.sfs_tree.specs.Sound.{Above, at_root, below, IsSound}
 use Rattle.sfs_tree.specs.Fits.{Lacks, FitsMoves}
-use Rattle.sfs_tree.proofs.RowFacts.{IsNamed, alive_named, root_alive, named_alive, added_cases, added_there, added_other, removed_cases, removed_other, is_here, same_some, some_not_none}
+use Rattle.sfs_tree.proofs.RowFacts.{alive_named, root_alive, named_alive, added_cases, added_there, added_other, removed_cases, removed_other, is_here, same_some, some_not_none}
 use Rattle.sfs_tree.proofs.KeepsSound.{with_rows}
 
 -- a child moves from one row to another

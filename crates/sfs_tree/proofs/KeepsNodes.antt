@@ -1,19 +1,14 @@
 -- Nodes that are made, and bytes that change, keep a tree sound and its nodes numbered.
-use Rattle.std.proofs.Common.{◌≡◌, ◌≢◌, ℕ, suc, ◌+◌, ◌*◌, ◌<◌, ◌≤◌, Bool, true, false, cond, List, length, get_or, set, slice_index, Option, Some, None, is_some, IsSome, ◌⊎◌, inl, inr, refl, sym, ap, subst, ◌∙◌, arith, nat_eq, length-set, get_or-set_same, get_or-set_other}
-use borrow.Author.Tests.{eqb-true, eqb-false, eq-eqb}
+use Rattle.std.proofs.Common.{◌≡◌, ◌≢◌, ℕ, true, false, cond, List, Option, Some, None, IsSome, ◌⊎◌, inl, inr, refl, sym, ap, subst, ◌∙◌, nat_eq}
+use borrow.Author.Tests.{eqb-true, eqb-false}
 use Rattle.std.specs.Option.{option_map_or}
-use Rattle.std.specs.Ordering.{nat_cmp, eq_by_cmp}
+use Rattle.std.specs.Ordering.{nat_cmp}
 use Rattle.std.specs.Cmp.{nat_cmp_total, unsigned_ties}
 use Rattle.std.specs.FinMap.{FinMap, get, insert, get-insert}
-use Rattle.sfs_base.specs.declared.numbers.Kind.{Kind}
-use Rattle.sfs_tree.specs.Tree.{TreeState, Node, row_of, is_directory, is_directory_kind, made_by, next_number}
-use Rattle.sfs_tree.specs.Effect.{Effect, Stays, Adds, Removes, Moves, Edits, Edit, edited, with_edit, tree_with, made_after, nodes_after, edited_nodes}
-use Rattle.sfs_tree.specs.Sound.{Above, at_root, below, IsSound, IsMade, IsNumbered}
-use Rattle.sfs_tree.specs.Fits.{Fits, FitsAdds, FitsMakes}
-use Rattle.sfs_tree.proofs.RowFacts.{alive_named, some_not_none}
-use Rattle.sfs_tree.proofs.KeepsSound.{above_up, IsSound-adds, IsSound-removes}
-use Rattle.sfs_tree.proofs.KeepsMoves.{IsSound-moves}
-use Rattle.sfs_tree.proofs.Numbers.{fresh_number}
+use Rattle.sfs_tree.specs.Tree.{TreeState, Node, is_directory, is_directory_kind}
+use Rattle.sfs_tree.specs.Effect.{Edit, edited, with_edit}
+use Rattle.sfs_tree.specs.Sound.{IsSound}
+use Rattle.sfs_tree.proofs.KeepsSound.{above_up}
 
 -- what is found once a node came: it, or what was there
 pub node_cases : (nodes : FinMap nat_cmp Node) (k : ℕ) (v : Node) (x : ℕ) → ((x ≡ k) × (get (insert nodes k v) x ≡ Some v)) ⊎ ((x ≢ k) × (get (insert nodes k v) x ≡ get nodes x))

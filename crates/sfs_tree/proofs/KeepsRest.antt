@@ -1,5 +1,5 @@
 -- What a call does not touch it keeps.
-use Rattle.std.proofs.Common.{◌≡◌, ◌≢◌, ℕ, ◌+◌, ◌-◌, Bool, true, false, cond, ◌&&◌, ◌||◌, List, length, Option, Some, None, option_map, IsSome, ◌⊎◌, inl, inr, refl, sym, ap, ap₂, subst, ◌∙◌, nat_eq}
+use Rattle.std.proofs.Common.{◌≡◌, ◌≢◌, ℕ, ◌+◌, ◌-◌, Bool, true, false, cond, ◌||◌, List, Option, Some, None, IsSome, inl, inr, refl, sym, ap, ap₂, ◌∙◌, nat_eq}
 use borrow.Author.Tests.{eqb-true}
 use Rattle.std.specs.FinMap.{FinMap, get, insert, remove}
 use Rattle.sfs_base.specs.declared.numbers.Kind.{Kind}
@@ -10,9 +10,9 @@ use Rattle.sfs_tree.specs.Tree.{TreeState, Node, row_of, names_where, bytes_of, 
 use Rattle.sfs_tree.specs.Effect.{Effect, Stays, Adds, Removes, Moves, Edits, Puts, Resizes, edited}
 use Rattle.sfs_tree.specs.Verdict.{verdict}
 use Rattle.sfs_tree.specs.Fits.{Fits}
-use Rattle.sfs_tree.specs.Parts.{is_in_part, part_after, part_with, part_without, is_this, links_after, bytes_after, kind_after, count_after}
-use Rattle.sfs_tree.specs.Footprints.{own_effect, own_kind, touches_part, touches_bytes, touches_links, KeepsRest}
-use Rattle.sfs_tree.specs.Laws.{IsSoundTree, CallsKeepTheRest}
+use Rattle.sfs_tree.specs.Parts.{part_after, is_this, links_after, bytes_after, kind_after, count_after}
+use Rattle.sfs_tree.specs.Footprints.{own_effect, own_kind, touches_part, touches_bytes, touches_links}
+use Rattle.sfs_tree.specs.Laws.{CallsKeepTheRest}
 use Rattle.sfs_tree.proofs.OwnEffects.{does_its_own, of_one, of_child, of_what_it_does}
 use Rattle.sfs_tree.proofs.Parts.{parts_after, nodes_after, counts_after}
 use Rattle.sfs_tree.proofs.SoundTrees.{calls_fit}

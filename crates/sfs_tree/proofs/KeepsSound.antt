@@ -1,12 +1,11 @@
 -- What fits a sound tree keeps it sound.
-use Rattle.std.proofs.Common.{◌≡◌, ◌≢◌, ℕ, Bool, true, false, cond, List, [], ◌∷◌, Option, Some, None, is_some, IsSome, ◌⊎◌, inl, inr, refl, sym, ap, subst, ◌∙◌, nat_eq}
-use borrow.Author.Tests.{eqb-true, eqb-false}
+use Rattle.std.proofs.Common.{◌≡◌, ◌≢◌, ℕ, Bool, true, false, List, [], ◌∷◌, Some, IsSome, inl, inr, sym, ap, subst, ◌∙◌}
 use Rattle.std.specs.FinMap.{FinMap, get, insert, remove}
 use Rattle.sfs_tree.specs.Order.{key_cmp}
 use Rattle.sfs_tree.specs.Tree.{TreeState, row_of, is_alive, is_directory}
 use Rattle.sfs_tree.specs.Sound.{Above, at_root, below, IsSound}
-use Rattle.sfs_tree.specs.Fits.{MayHold, HasNoRows, IsUnnamed, Lacks, FitsAdds, FitsRemoves, FitsMoves}
-use Rattle.sfs_tree.proofs.RowFacts.{IsNamed, alive_named, root_alive, named_alive, added_cases, added_there, added_other, removed_cases, removed_other, is_here, same_some, some_not_none}
+use Rattle.sfs_tree.specs.Fits.{FitsAdds, FitsRemoves}
+use Rattle.sfs_tree.proofs.RowFacts.{alive_named, root_alive, named_alive, added_cases, added_there, added_other, removed_cases, removed_other, is_here, same_some, some_not_none}
 
 -- a tree with other rows
 abbrev pub with_rows : TreeState → FinMap key_cmp ℕ → TreeState
@@ -118,8 +117,10 @@ module _ (tree : TreeState) (s : IsSound tree) (e : ℕ) (m : List ℕ) (c : ℕ
         (both.0, alive_removed d (holder_stays d n x old) both.1);
     climbs = λ d n x row kind.
         let cases = removed_cases tree.rows d e n m x row in
-        let way = s.climbs d n x cases.1 kind in
-        (way.0, above_removed way.1 (λ same.
-        let places = s.once d e n m x cases.1 (f.row ∙ ap Some (sym same)) kind in
-        cases.0 places.0 places.1));
+        let way = s.climbs d n x cases.1 kind in (
+          way.0,
+          above_removed way.1 (λ same.
+              let places = s.once d e n m x cases.1 (f.row ∙ ap Some (sym same)) kind in
+              cases.0 places.0 places.1),
+        );
   }

@@ -1,14 +1,13 @@
 -- An effect that fits keeps a tree sound and its nodes numbered.
-use Rattle.std.proofs.Common.{◌≡◌, ◌≢◌, ℕ, suc, ◌+◌, ◌*◌, ◌<◌, ◌≤◌, Bool, true, false, cond, List, [], length, set, slice_index, Option, Some, None, is_some, IsSome, ◌⊎◌, inl, inr, refl, sym, ap, subst, ◌∙◌, arith, nat_eq, length-set, get_or-set_same, get_or-set_other}
+use Rattle.std.proofs.Common.{◌≡◌, ◌≢◌, ℕ, ◌+◌, ◌*◌, ◌<◌, ◌≤◌, true, false, [], length, set, slice_index, Option, Some, None, IsSome, ◌⊎◌, inl, inr, refl, sym, ap, subst, ◌∙◌, arith, nat_eq, length-set, get_or-set_same, get_or-set_other}
 use borrow.Author.Tests.{eqb-true, eqb-false}
 use Rattle.std.specs.Ordering.{nat_cmp}
 use Rattle.std.specs.FinMap.{FinMap, get, insert}
 use Rattle.sfs_base.specs.declared.numbers.Kind.{Kind}
-use Rattle.sfs_tree.specs.Tree.{TreeState, Node, row_of, is_directory, made_by, next_number}
+use Rattle.sfs_tree.specs.Tree.{TreeState, Node, made_by, next_number}
 use Rattle.sfs_tree.specs.Effect.{Effect, Stays, Adds, Removes, Moves, Edits, Edit, edited, with_edit, tree_with}
-use Rattle.sfs_tree.specs.Sound.{Above, IsSound, IsMade, IsNumbered}
-use Rattle.sfs_tree.specs.Fits.{Fits, FitsAdds, FitsMakes, MayHold}
-use Rattle.sfs_tree.proofs.RowFacts.{some_not_none}
+use Rattle.sfs_tree.specs.Sound.{IsSound, IsMade, IsNumbered}
+use Rattle.sfs_tree.specs.Fits.{Fits}
 use Rattle.sfs_tree.proofs.KeepsSound.{IsSound-adds, IsSound-removes}
 use Rattle.sfs_tree.proofs.KeepsMoves.{IsSound-moves}
 use Rattle.sfs_tree.proofs.KeepsNodes.{with_nodes, KeepKinds, KeepKinds-new, KeepKinds-edit, IsSound-nodes, node_cases, directory_node}

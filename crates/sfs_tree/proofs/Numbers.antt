@@ -1,16 +1,10 @@
 -- The numbers of nodes: which are given, and that the next one is new.
-use Rattle.std.proofs.Common.{◌≡◌, ◌≢◌, ℕ, suc, ◌+◌, ◌*◌, ◌<◌, ◌≤◌, Bool, true, false, cond, List, length, get_or, set, slice_index, Option, Some, None, is_some, IsSome, ◌⊎◌, inl, inr, refl, sym, ap, subst, ◌∙◌, arith, nat_eq, length-set, lt_of_lt_of_le, get_or-set_same, get_or-set_other}
+use Rattle.std.proofs.Common.{◌≡◌, ℕ, ◌+◌, ◌*◌, ◌<◌, ◌≤◌, length, slice_index, None, inl, inr, sym, ap, arith, lt_of_lt_of_le}
 use Rattle.std.proofs.lemmas.Nat.{mul-add-lt}
 use Rattle.sfs_tree.proofs.Joined.{none_there}
-use borrow.Author.Tests.{eqb-true, eqb-false, eq-eqb}
-use Rattle.std.specs.Ordering.{nat_cmp, eq_by_cmp}
-use Rattle.std.specs.Cmp.{nat_cmp_total, unsigned_ties}
-use Rattle.std.specs.FinMap.{FinMap, get, insert, get-insert}
-use Rattle.sfs_base.specs.declared.numbers.Kind.{Kind}
-use Rattle.sfs_tree.specs.Tree.{TreeState, Node, row_of, is_directory, made_by, next_number}
-use Rattle.sfs_tree.specs.Effect.{Effect, Stays, Adds, Removes, Moves, Edits, Edit, edited, with_edit, tree_with}
-use Rattle.sfs_tree.specs.Sound.{IsMade, IsNumbered}
-use Rattle.sfs_tree.specs.Fits.{Fits, FitsMakes}
+use Rattle.std.specs.FinMap.{get}
+use Rattle.sfs_tree.specs.Tree.{TreeState, made_by, next_number}
+use Rattle.sfs_tree.specs.Sound.{IsNumbered}
 
 below_next : (share a b x y : ℕ) → a < b → x < share → a * share + x ≡ b * share + y → ⊥
 below_next share a b x y lt small same = let h = mul-add-lt a share x b lt small in omega arith

@@ -1,5 +1,5 @@
 -- A call does nothing, or its own.
-use Rattle.std.proofs.Common.{◌≡◌, ℕ, ◌+◌, Bool, true, false, cond, not, List, length, take, drop, Option, Some, None, option_map, ◌⊎◌, inl, inr, refl, sym, ap, subst, ◌∙◌, nat_eq, nat_lt}
+use Rattle.std.proofs.Common.{◌≡◌, ℕ, ◌+◌, Bool, true, false, cond, not, List, length, take, drop, Option, Some, None, option_map, ◌⊎◌, inl, inr, refl, sym, subst, nat_eq, nat_lt}
 use Rattle.sfs_base.specs.declared.numbers.Kind.{Kind}
 use Rattle.sfs_tree.specs.declared.call.Call.{Call}
 use Rattle.sfs_tree.specs.declared.call.Call.TheVariants as call
@@ -8,10 +8,10 @@ use Rattle.sfs_tree.specs.declared.reply.Code.TheVariants.{NotDir, NotEmpty, Fil
 use Rattle.sfs_tree.specs.declared.reply.Reply.{Reply}
 use Rattle.sfs_tree.specs.declared.reply.Reply.TheVariants as reply
 use Rattle.sfs_tree.specs.Names.{with_kinds}
-use Rattle.sfs_tree.specs.Tree.{TreeState, row_of, is_directory, row_count, next_number, kind_of, links_of, bytes_of, names_of}
+use Rattle.sfs_tree.specs.Tree.{TreeState, row_of, is_directory, row_count, kind_of, links_of, bytes_of, names_of}
 use Rattle.sfs_tree.specs.Effect.{Effect, Stays, Adds, Removes, Moves, Edits, Puts, Resizes}
 use Rattle.sfs_tree.specs.Verdict.{LARGEST_FILE, Verdict, refused, answered, done, or_else, first_of_two, directory_fault, file_fault, node_fault, size_of, make_fault, link_fault, unlink_row, rmdir_row, move_fault, names_child, move_row, verdict, make_node, look_row, write_bytes, trunc_file}
-use Rattle.sfs_tree.specs.Footprints.{own_effect, own_kind, DoesNothing, DoesThis, DoesItsOwn}
+use Rattle.sfs_tree.specs.Footprints.{own_effect, DoesNothing, DoesThis, DoesItsOwn}
 
 abbrev DoesOr : Option Effect → Option Kind → Verdict → Type 0
 DoesOr own kind v = DoesNothing v ⊎ DoesThis own kind v

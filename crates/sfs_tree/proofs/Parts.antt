@@ -1,5 +1,5 @@
 -- What an effect leaves of each part of a tree.
-use Rattle.std.proofs.Common.{◌≡◌, ◌≢◌, ℕ, ◌+◌, ◌-◌, ◌<◌, Bool, true, false, cond, ◌&&◌, List, [], length, set, slice_index, Option, Some, None, IsSome, ◌⊎◌, inl, inr, refl, sym, ap, subst, ◌∙◌, arith, count_by, nat_eq, get_or-set_same, get_or-set_other}
+use Rattle.std.proofs.Common.{◌≡◌, ℕ, ◌+◌, ◌-◌, Bool, true, false, cond, ◌&&◌, List, [], set, slice_index, Option, Some, None, inl, inr, refl, sym, ap, subst, ◌∙◌, arith, nat_eq, get_or-set_same, get_or-set_other}
 use borrow.Author.Tests.{eqb-true, eq-eqb, eqb-false}
 use Rattle.std.specs.Option.{option_map_or}
 use Rattle.std.specs.Ordering.{eq_by_cmp}
@@ -11,11 +11,11 @@ use Rattle.sfs_tree.specs.Order.{name_cmp, Key, key_cmp}
 use Rattle.sfs_tree.specs.Tree.{TreeState, Node, row_of, names_it, count_of, names_where, kind_of, made_by, next_number}
 use Rattle.sfs_tree.specs.Effect.{Effect, Stays, Adds, Removes, Moves, Edits, edited, with_edit, tree_with}
 use Rattle.sfs_tree.specs.Fits.{Fits, FitsMoves}
-use Rattle.sfs_tree.specs.Parts.{is_in_part, part_with, part_without, is_this, links_after, kind_after}
-use Rattle.sfs_tree.specs.Laws.{PartsAfter, LeavesNode, NodesAfter, CountsAfter}
+use Rattle.sfs_tree.specs.Parts.{part_with, part_without, is_this, links_after, kind_after}
+use Rattle.sfs_tree.specs.Laws.{PartsAfter, NodesAfter, CountsAfter}
 use Rattle.sfs_tree.proofs.Joined.{key_cmp_total, key_cmp-IsAntisymmetric, same_key, name_cmp-IsAntisymmetric, is_equal, count-insert}
 use Rattle.sfs_tree.proofs.Names.{get-names_where, not_same}
-use Rattle.sfs_tree.proofs.RowFacts.{key_cases, is_here, removed_other, some_not_none}
+use Rattle.sfs_tree.proofs.RowFacts.{removed_other}
 use Rattle.sfs_tree.proofs.KeepsNodes.{node_cases}
 use Rattle.sfs_tree.proofs.FileHistories.{bytes_with}
 

@@ -1,27 +1,23 @@
 -- Trees that agree on what a call reads have one verdict.
-use Rattle.std.proofs.Common.{◌≡◌, ◌≢◌, ℕ, suc, ◌+◌, ◌*◌, ◌<◌, Bool, true, false, cond, not, ◌||◌, ◌&&◌, T, List, [], ◌∷◌, map, length, take, drop, Option, Some, None, is_some, option_map, ◌⊎◌, inl, inr, refl, sym, ap, ap₂, subst, ◌∙◌, arith, count_by, filter_map, nat_eq, nat_le, nat_lt}
-use borrow.Author.Tests.{eqb-true, eqb-false, eq-eqb}
-use Rattle.std.specs.List as lists
+use Rattle.std.proofs.Common.{◌≡◌, ℕ, ◌+◌, ◌*◌, Bool, true, false, cond, not, ◌||◌, ◌&&◌, T, List, [], ◌∷◌, map, length, take, drop, Option, Some, None, is_some, refl, sym, ap, ap₂, subst, ◌∙◌, arith, count_by, filter_map, nat_eq, nat_le}
+use borrow.Author.Tests.{eqb-true, eqb-false}
 use Rattle.std.specs.Option.{option_map_or}
 use Rattle.std.specs.List.{cons_option}
 use Rattle.std.specs.Ordering.{is_eq}
 use Rattle.std.specs.Cmp.{tied_itself}
 use Rattle.std.specs.Cmp.Lexicographic.{nat_list_cmp_total}
-use Rattle.std.specs.FinMap.{FinMap, find, entries, get, len, is_sorted, same_map, get-entries, entries_sorted}
+use Rattle.std.specs.FinMap.{find, entries, get, len, is_sorted, same_map, get-entries, entries_sorted}
 use Rattle.sfs_base.specs.declared.numbers.Kind.{Kind}
 use Rattle.sfs_base.specs.Name.{bucket}
-use Rattle.sfs_tree.specs.declared.call.Call.{Call}
 use Rattle.sfs_tree.specs.declared.call.Call.TheVariants as call
-use Rattle.sfs_tree.specs.declared.reply.Code.{Code}
 use Rattle.sfs_tree.specs.declared.reply.Code.TheVariants.{NoEntry, NotDir, IsDir, NotPermitted, NotEmpty, Exists, DirFull, NoNodes, TooManyLinks, Invalid}
-use Rattle.sfs_tree.specs.declared.reply.Reply.{Reply}
 use Rattle.sfs_tree.specs.declared.reply.Reply.TheVariants as reply
 use Rattle.sfs_tree.specs.Order.{Key, name_cmp}
 use Rattle.sfs_tree.specs.Names.{with_kinds}
-use Rattle.sfs_tree.specs.Tree.{TreeState, Node, row_of, is_alive, is_directory, is_directory_kind, kind_of, bytes_of, count_of, row_count, links_of, lies_below, names_of, bucket_rows, made_by, next_number, holds_directory, name_row}
-use Rattle.sfs_tree.specs.Effect.{Effect, Stays, Adds, Removes, Moves, Edits, Puts, Resizes}
-use Rattle.sfs_tree.specs.Verdict.{BUCKET_ROWS, MOST_LINKS, LARGEST_FILE, Verdict, refused, answered, done, or_else, first_of_two, directory_fault, file_fault, node_fault, size_of, is_full, make_fault, link_fault, unlink_row, rmdir_row, place_fault, move_fault, names_child, move_row, verdict, make_node, look_row, write_bytes, trunc_file}
-use Rattle.sfs_tree.specs.Readings.{SameKind, SameNode, SameBucket, SameRows, SameCount, SameKindsIn, SamePlace, SameNumbers, SameMove, SameStat, Agree}
+use Rattle.sfs_tree.specs.Tree.{TreeState, Node, row_of, is_alive, is_directory, is_directory_kind, kind_of, bytes_of, count_of, row_count, links_of, lies_below, names_of, made_by, next_number, holds_directory, name_row}
+use Rattle.sfs_tree.specs.Effect.{Adds, Removes, Moves}
+use Rattle.sfs_tree.specs.Verdict.{BUCKET_ROWS, MOST_LINKS, Verdict, refused, answered, done, or_else, first_of_two, directory_fault, file_fault, node_fault, size_of, is_full, make_fault, link_fault, unlink_row, rmdir_row, place_fault, names_child, move_row, look_row, write_bytes, trunc_file}
+use Rattle.sfs_tree.specs.Readings.{SameKind, SameNode, SameBucket, SameRows, SameCount, SameKindsIn, SamePlace, SameNumbers, SameMove, SameStat}
 use Rattle.sfs_tree.specs.Laws.{IsSoundTree, ReadingsDecide, BucketsMakeRows}
 use Rattle.sfs_tree.proofs.Joined.{name_cmp-IsAntisymmetric, bucket_small, count-cons}
 use Rattle.sfs_tree.proofs.Names.{get-own_bucket, get-names_where, entries-names_where, both_first, both_second}

@@ -1,16 +1,14 @@
 -- Trees that stay sound from the root alone on.
-use Rattle.std.proofs.Common.{◌≡◌, ℕ, zero, suc, ◌+◌, ◌<◌, ◌≤◌, true, false, cond, List, [], length, replicate, get_or, slice_index, Option, Some, None, IsSome, ◌⊎◌, inl, inr, refl, sym, ap, subst, ◌∙◌, arith}
+use Rattle.std.proofs.Common.{◌≡◌, ℕ, ◌+◌, ◌<◌, false, List, [], Option, Some, None, IsSome, inl, inr, refl, sym, ap, subst, ◌∙◌, arith}
 use Rattle.std.specs.Option.{option_map_or}
 use Rattle.std.specs.Ordering.{nat_cmp}
 use Rattle.std.proofs.lemmas.List.{get_or-replicate, length-replicate}
-use Rattle.std.specs.FinMap.{get, insert, empty, get-empty}
+use Rattle.std.specs.FinMap.{get, empty, get-empty}
 use Rattle.sfs_base.specs.declared.numbers.Kind.TheVariants.{Directory}
-use Rattle.sfs_tree.specs.declared.call.Call.{Call}
 use Rattle.sfs_tree.specs.Order.{key_cmp}
-use Rattle.sfs_tree.specs.Tree.{TreeState, Node, row_of, is_directory, is_directory_kind, made_by, next_number}
-use Rattle.sfs_tree.specs.Build.{root_alone}
-use Rattle.sfs_tree.specs.Verdict.{verdict, tree_after_call}
-use Rattle.sfs_tree.specs.Laws.{IsSoundTree, RootIsSound, CallsKeepSound, CallsFit, DrawnIsNew, DrawnApart}
+use Rattle.sfs_tree.specs.Tree.{Node, is_directory_kind}
+use Rattle.sfs_tree.specs.Verdict.{verdict}
+use Rattle.sfs_tree.specs.Laws.{RootIsSound, CallsKeepSound, CallsFit, DrawnIsNew, DrawnApart}
 use Rattle.sfs_tree.proofs.KeepsNodes.{node_cases}
 use Rattle.sfs_tree.proofs.Kept.{IsSound-kept, IsNumbered-kept}
 use Rattle.sfs_tree.proofs.Fitting.{verdict_fits}

@@ -1,6 +1,6 @@
 -- The walk up from a directory meets the directories above it.
-use Rattle.std.proofs.Common.{◌≡◌, ◌≢◌, ℕ, zero, suc, ◌<◌, ◌≤◌, Bool, true, false, cond, ◌||◌, List, [], ◌∷◌, length, Option, Some, None, option_map, ◌⊎◌, inl, inr, refl, sym, ap, subst, ◌∙◌, arith, nat_eq}
-use borrow.Author.Tests.{eqb-true, eqb-false, eq-eqb}
+use Rattle.std.proofs.Common.{◌≡◌, ◌≢◌, ℕ, zero, suc, ◌<◌, ◌≤◌, Bool, true, false, cond, ◌||◌, List, [], ◌∷◌, length, Option, Some, None, option_map, inl, inr, refl, sym, ap, subst, ◌∙◌, arith, nat_eq}
+use borrow.Author.Tests.{eqb-true, eqb-false}
 use Rattle.std.specs.List as lists
 use Rattle.std.specs.FinMap.{entries, len, len-entries}
 use Rattle.sfs_tree.specs.Order.{Key}
@@ -8,7 +8,7 @@ use Rattle.sfs_tree.specs.Tree.{TreeState, row_of, is_directory, names_it, holde
 use Rattle.sfs_tree.specs.Sound.{Above, at_root, below, IsSound}
 use Rattle.sfs_tree.specs.Fits.{Lacks}
 use Rattle.sfs_tree.specs.Laws.{WalksMeetThoseAbove}
-use Rattle.sfs_tree.proofs.RowFacts.{IsNamed, holder_found}
+use Rattle.sfs_tree.proofs.RowFacts.{holder_found}
 
 -- the steps of a function from a number on, up to where it has none
 abbrev Chain : (ℕ → Option ℕ) → ℕ → List ℕ → Type 0

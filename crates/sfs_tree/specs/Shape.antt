@@ -1,5 +1,5 @@
 -- The shape of a tree: what a walk from the root meets, without node numbers.
-use Rattle.std.specs.Prelude.{ℕ, zero, suc, ◌==◌, List, [], ◌∷◌, ◌++◌, map, length, fold, filter, not, Option, Some, None, if◌then◌else◌}
+use Rattle.std.specs.Prelude.{ℕ, zero, suc, ◌==◌, List, [], ◌∷◌, ◌++◌, map, fold, filter, not, Option, None, if◌then◌else◌}
 use Rattle.std.specs.List.{list_any, flat_map, position}
 use Rattle.std.specs.FinMap.{entries, len}
 use Rattle.sfs_base.specs.declared.numbers.Kind.{Kind}
