@@ -15,6 +15,7 @@ pub mod Parts
 pub mod Readings
 pub mod RowFacts
 pub mod RowsByName
+pub mod Merged
 pub mod Names
 pub mod Numbered
 pub mod Numbers

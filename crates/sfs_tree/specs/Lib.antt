@@ -8,6 +8,8 @@ pub mod History
 pub mod NameKinds
 pub mod NameRow
 pub mod Laws
+pub mod Merged
+pub mod Kept
 pub mod Names
 pub mod Order
 pub mod Parts

@@ -4,6 +4,7 @@
 mod call;
 mod history;
 mod laws;
+mod merge;
 mod listing;
 mod name_map;
 mod reply;
