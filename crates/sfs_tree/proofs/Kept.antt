@@ -8,6 +8,7 @@ use Rattle.sfs_tree.specs.Tree.{TreeState, Node, made_by, next_number}
 use Rattle.sfs_tree.specs.Effect.{Effect, Stays, Adds, Removes, Moves, Edits, Edit, edited, with_edit, tree_with}
 use Rattle.sfs_tree.specs.Sound.{IsSound, IsMade, IsNumbered}
 use Rattle.sfs_tree.specs.Fits.{Fits}
+use Rattle.sfs_tree.specs.Laws.{FittingKeepsSound}
 use Rattle.sfs_tree.proofs.KeepsSound.{IsSound-adds, IsSound-removes}
 use Rattle.sfs_tree.proofs.KeepsMoves.{IsSound-moves}
 use Rattle.sfs_tree.proofs.KeepsNodes.{with_nodes, KeepKinds, KeepKinds-new, KeepKinds-edit, IsSound-nodes, node_cases, directory_node}
@@ -118,3 +119,6 @@ IsNumbered-kept tree core (Edits file edit) (Some kind) n lt f = absurd f
 IsNumbered-kept tree core (Adds d m c) (Some kind) n lt f =
     let next = IsNumbered-next tree core (record { kind = kind; bytes = [] }) n lt f.within in
     record { known = next.known; within = next.within }
+
+pub fitting_keeps_sound : FittingKeepsSound
+fitting_keeps_sound = IsSound-kept

@@ -16,6 +16,7 @@ pub mod Readings
 pub mod RowFacts
 pub mod RowsByName
 pub mod Merged
+pub mod MergedCores
 pub mod Names
 pub mod Numbered
 pub mod Numbers

@@ -46,7 +46,7 @@ module _ (test : Entry → Bool) where
       one_left n e = omega arith
 
   -- what is found passes, and what holds of all holds of it
-  found_is : (P : Entry → Type 0) (es : List Entry) (e : Entry) → All P es → find test es ≡ Some e → P e × (test e ≡ true)
+  pub found_is : (P : Entry → Type 0) (es : List Entry) (e : Entry) → All P es → find test es ≡ Some e → P e × (test e ≡ true)
   found_is P [] e all found = cc
   found_is P (x ∷ es) e all found =
       elim (test x) as (λ b. test x ≡ b → cond b (Some x) (find test es) ≡ Some e → P e × (test e ≡ true)) [
@@ -64,7 +64,7 @@ module _ (test : Entry → Bool) where
       less lt = omega arith
 
   -- one is found where one is counted
-  one_found : (es : List Entry) → count_by test es ≡ 1 → IsSome (find test es)
+  pub one_found : (es : List Entry) → count_by test es ≡ 1 → IsSome (find test es)
   one_found [] one = cc
   one_found (x ∷ es) one =
       elim (test x) as (λ b. test x ≡ b → IsSome (cond b (Some x) (find test es))) [

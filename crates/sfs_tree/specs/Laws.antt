@@ -1,5 +1,5 @@
 -- The laws of the tree of one thread, each of which a function of the module laws proves.
-use Rattle.std.specs.Prelude.{◌≡◌, ◌≢◌, ℕ, Bool, ◌+◌, ◌*◌, ◌<◌, ◌≤◌, true, false, List, length, take, Option, None}
+use Rattle.std.specs.Prelude.{◌≡◌, ◌≢◌, ℕ, Bool, ◌+◌, ◌*◌, ◌<◌, ◌≤◌, true, false, List, length, take, Option, None, Vec}
 use Rattle.std.specs.FinMap.{get, len}
 use Rattle.sfs_tree.specs.declared.call.Call.{Call}
 use Rattle.sfs_tree.specs.Tree.{TreeState, row_of, is_directory, names_of, names_where, bucket_rows, bytes_of, kind_of, count_of, row_count, holder_of, walk_up, made_by, next_number}
@@ -11,6 +11,8 @@ use Rattle.sfs_tree.specs.declared.history.Entry.{Entry}
 use Rattle.sfs_tree.specs.Effect.{Effect, tree_with}
 use Rattle.sfs_tree.specs.History.{tree_after, IsLegal}
 use Rattle.sfs_tree.specs.Changes.{rows_at, bytes_at}
+use Rattle.std.specs.declared.alloc.Global.{Global}
+use Rattle.sfs_tree.specs.Merged.{AreCoresOf, MakeTheHistory}
 use Rattle.sfs_tree.specs.Readings.{Agree}
 use Rattle.sfs_tree.specs.Parts.{part_after, links_after, bytes_after, kind_after, count_after}
 use Rattle.sfs_tree.specs.Footprints.{row_after, moves_directory_between, DoesItsOwn, KeepsRest}
@@ -103,3 +105,11 @@ CallsKeepTheRest = (tree : TreeState) (core : ℕ) (c : Call) → IsSoundTree tr
 -- A walk up from a directory of a sound tree meets the directories above it.
 abbrev pub WalksMeetThoseAbove : Type 0
 WalksMeetThoseAbove = (tree : TreeState) (node : ℕ) (above : List ℕ) → IsSoundTree tree → is_directory tree node ≡ true → Above tree node above → walk_up (len tree.rows) tree node ≡ above
+
+-- What fits a sound tree keeps it sound.
+abbrev pub FittingKeepsSound : Type 0
+FittingKeepsSound = (tree : TreeState) (core : ℕ) (effect : Effect) (makes : Option Kind) → IsSound tree → Fits tree core effect makes → IsSound (tree_with tree core effect makes)
+
+-- The lists of the cores make the history.
+abbrev pub CoresMakeTheHistory : Type 0
+CoresMakeTheHistory = (parts : List (Vec Entry Global)) (history : List Entry) → AreCoresOf parts history → MakeTheHistory parts history

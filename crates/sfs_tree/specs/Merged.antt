@@ -1,5 +1,5 @@
 -- The entries of a history that is kept in several lists.
-use Rattle.std.specs.Prelude.{◌≡◌, ℕ, zero, suc, ◌^◌, ◌<◌, ◌==◌, Bool, List, [], ◌∷◌, ◌++◌, length, Option, Vec, All, count_by}
+use Rattle.std.specs.Prelude.{◌≡◌, ℕ, zero, suc, ◌^◌, ◌<◌, ◌==◌, Bool, List, [], ◌∷◌, ◌++◌, length, Option, Some, Vec, All, count_by, filter, slice_get}
 use Rattle.std.specs.List.{find, cons_option}
 use Rattle.std.specs.declared.alloc.Global.{Global}
 use Rattle.sfs_tree.specs.declared.history.Entry.{Entry}
@@ -31,3 +31,20 @@ pub record EachOnce (entries : List Entry) : Type 0 where
   pub below : All (λ entry. entry.stamp.0 < length entries) entries
   pub once : (stamp : ℕ) → stamp < length entries → count_by (has_stamp stamp) entries ≡ 1
   pub few : length entries < 2 ^ 64
+
+-- whether an entry is this core's
+abbrev pub is_core : ℕ → Entry → Bool
+is_core core entry = entry.core.0 == core
+
+-- The lists are those of the cores of a history: at a core's place stand its own entries, in their order, and each entry's stamp is
+-- its place in the history.
+pub record AreCoresOf (parts : List (Vec Entry Global)) (history : List Entry) : Type 0 where
+  pub stamped : (place : ℕ) (entry : Entry) → slice_get history place ≡ Some entry → entry.stamp.0 ≡ place
+  pub cores : (place : ℕ) (entry : Entry) → slice_get history place ≡ Some entry → entry.core.0 < length parts
+  pub own : (core : ℕ) (part : Vec Entry Global) → slice_get parts core ≡ Some part → part.items ≡ filter (is_core core) history
+  pub few : length history < 2 ^ 64
+
+-- The lists of the cores of a history have each stamp once, and by their stamps they make the history.
+pub record MakeTheHistory (parts : List (Vec Entry Global)) (history : List Entry) : Type 0 where
+  pub once : EachOnce (entries_in parts)
+  pub merged : by_stamps (entries_in parts) ≡ history

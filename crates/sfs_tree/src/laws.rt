@@ -1,4 +1,4 @@
-ghost use Rattle.sfs_tree.specs.Laws.{RootIsSound, CallsKeepSound, CallsFit, DrawnIsNew, DrawnApart, HistoriesKeepSound, RowsAreTheTrees, BytesAreTheTrees, EffectsAct, CallsDoTheirOwn, HoldersStay, PartsAfter, NodesAfter, CountsAfter, ReadingsDecide, BucketsMakeRows, CallsKeepTheRest, WalksMeetThoseAbove};
+ghost use Rattle.sfs_tree.specs.Laws.{RootIsSound, CallsKeepSound, CallsFit, DrawnIsNew, DrawnApart, HistoriesKeepSound, RowsAreTheTrees, BytesAreTheTrees, EffectsAct, CallsDoTheirOwn, HoldersStay, PartsAfter, NodesAfter, CountsAfter, ReadingsDecide, BucketsMakeRows, CallsKeepTheRest, WalksMeetThoseAbove, FittingKeepsSound, CoresMakeTheHistory};
 
 /// The root alone is a sound tree.
 pub fn root_alone_is_sound()
@@ -88,4 +88,14 @@ pub fn calls_keep_the_rest()
 /// A walk up from a directory meets the directories above it.
 pub fn walks_meet_those_above()
     ensures { WalksMeetThoseAbove }
+{}
+
+/// What fits a sound tree keeps it sound.
+pub fn fitting_keeps_sound()
+    ensures { FittingKeepsSound }
+{}
+
+/// The lists of the cores of a history make it, each stamp once.
+pub fn cores_make_the_history()
+    ensures { CoresMakeTheHistory }
 {}
