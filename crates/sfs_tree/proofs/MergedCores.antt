@@ -1,11 +1,11 @@
 -- The lists of the cores of a history make it again.
-use Rattle.std.proofs.Common.{◌≡◌, ◌≢◌, ℕ, zero, suc, ◌+◌, ◌<◌, ◌≤◌, ◌^◌, Bool, true, false, cond, ◌&&◌, ◌||◌, List, [], ◌∷◌, ◌++◌, length, get_or, Option, Some, None, is_some, IsSome, Vec, All, filter, refl, sym, ap, ap₂, subst, ◌∙◌, arith, count_by, nat_eq, slice_get, ltb}
-use borrow.Author.Tests.{eqb-true, eq-eqb, eqb-false, ltb-true, ltb-false}
+use Rattle.std.proofs.Common.{◌≡◌, ◌≢◌, ℕ, zero, suc, ◌+◌, ◌<◌, ◌≤◌, ◌^◌, Bool, true, false, cond, ◌&&◌, ◌||◌, List, [], ◌∷◌, ◌++◌, length, Option, Some, None, IsSome, Vec, All, filter, refl, sym, ap, ap₂, subst, ◌∙◌, arith, count_by, nat_eq, slice_get, ltb}
+use borrow.Author.Tests.{eqb-true, eqb-false, ltb-true, ltb-false}
 use Rattle.std.proofs.lemmas.List.Sums.{sum_by-append}
 use Rattle.std.proofs.lemmas.Option.{slice_get_past, slice_get_within}
 use Rattle.std.specs.declared.alloc.Global.{Global}
 use Rattle.sfs_tree.specs.declared.history.Entry.{Entry}
-use Rattle.sfs_tree.specs.Merged.{entries_in, has_stamp, entry_with, by_stamps, EachOnce, is_core, AreCoresOf, MakeTheHistory}
+use Rattle.sfs_tree.specs.Merged.{entries_in, has_stamp, entry_with, by_stamps, EachOnce, is_core, AreCoresOf}
 use Rattle.sfs_tree.specs.Laws.{CoresMakeTheHistory}
 use Rattle.sfs_tree.proofs.Joined.{count-cons}
 use Rattle.sfs_tree.proofs.Merged.{found_is, one_found, length-by_stamps, get-by_stamps}

@@ -10,6 +10,7 @@ use Rattle.std.specs.FinMap.{find, entries, get, len, is_sorted, same_map, get-e
 use Rattle.sfs_base.specs.declared.numbers.Kind.{Kind}
 use Rattle.sfs_base.specs.Name.{bucket}
 use Rattle.sfs_tree.specs.declared.call.Call.TheVariants as call
+use Rattle.sfs_tree.specs.declared.reply.Code.{Code}
 use Rattle.sfs_tree.specs.declared.reply.Code.TheVariants.{NoEntry, NotDir, IsDir, NotPermitted, NotEmpty, Exists, DirFull, NoNodes, TooManyLinks, Invalid}
 use Rattle.sfs_tree.specs.declared.reply.Reply.TheVariants as reply
 use Rattle.sfs_tree.specs.Order.{Key, name_cmp}
@@ -72,10 +73,21 @@ module _ (tree other : TreeState) where
   unlink_same d n kinds None e = refl
   unlink_same d n kinds (Some child) e = ap (λ k. cond k (refused NotPermitted) (done (Removes d n child))) (same_directory child (kinds child e))
 
-  rmdir_same : (directory : ℕ) (name : List ℕ) → ((child : ℕ) → row_of tree directory name ≡ Some child → SameKind tree other child) → ((child : ℕ) → row_of tree directory name ≡ Some child → SameCount tree other child) → (o : Option ℕ) → row_of tree directory name ≡ o → rmdir_row tree directory name o ≡ rmdir_row other directory name o
+  -- a directory's count matters, and that of no file
+  same_bare : (node : ℕ) → SameKind tree other node → (is_directory tree node ≡ true → SameCount tree other node) → (is_directory tree node && not (nat_eq (row_count tree node) 0)) ≡ (is_directory other node && not (nat_eq (row_count other node) 0))
+  same_bare node kind count =
+      elim (is_directory tree node) as (λ b. is_directory tree node ≡ b → (b && not (nat_eq (row_count tree node) 0)) ≡ (is_directory other node && not (nat_eq (row_count other node) 0))) [
+        | true ↦ λ k. ap (λ r. not (nat_eq r 0)) (count k) ∙ ap (λ b. b && not (nat_eq (row_count other node) 0)) (sym k ∙ same_directory node kind)
+        | false ↦ λ k. ap (λ b. b && not (nat_eq (row_count other node) 0)) (sym k ∙ same_directory node kind)
+      ] refl
+
+  rmdir_same : (directory : ℕ) (name : List ℕ) → ((child : ℕ) → row_of tree directory name ≡ Some child → SameKind tree other child) → ((child : ℕ) → row_of tree directory name ≡ Some child → is_directory tree child ≡ true → SameCount tree other child) → (o : Option ℕ) → row_of tree directory name ≡ o → rmdir_row tree directory name o ≡ rmdir_row other directory name o
   rmdir_same d n kinds counts None e = refl
   rmdir_same d n kinds counts (Some child) e =
-      ap₂ (λ k r. cond (not k) (refused NotDir) (cond (not (nat_eq r 0)) (refused NotEmpty) (done (Removes d n child)))) (same_directory child (kinds child e)) (counts child e)
+      elim (is_directory tree child) as (λ b. is_directory tree child ≡ b → cond (not b) (refused NotDir) (cond (not (nat_eq (row_count tree child) 0)) (refused NotEmpty) (done (Removes d n child))) ≡ rmdir_row other d n (Some child)) [
+        | true ↦ λ k. ap₂ (λ b r. cond (not b) (refused NotDir) (cond (not (nat_eq r 0)) (refused NotEmpty) (done (Removes d n child)))) (sym k ∙ same_directory child (kinds child e)) (counts child e k)
+        | false ↦ λ k. ap (λ b. cond (not b) (refused NotDir) (cond (not (nat_eq (row_count other child) 0)) (refused NotEmpty) (done (Removes d n child)))) (sym k ∙ same_directory child (kinds child e))
+      ] refl
 
   make_same : (core directory : ℕ) (name : List ℕ) → SamePlace tree other directory name → SameNumbers tree other core → make_fault tree core directory name ≡ make_fault other core directory name
   make_same core d n same numbers =
@@ -87,19 +99,29 @@ module _ (tree other : TreeState) where
   same_next core numbers =
       ap₂ (λ f s. f + core * s + made_by tree core) numbers.first numbers.share ∙ ap (λ m. other.first + core * other.share + m) numbers.made
 
-  link_same : (file directory : ℕ) (name : List ℕ) → SamePlace tree other directory name → SameNode tree other file → count_of tree.rows file ≡ count_of other.rows file → link_fault tree file directory name ≡ link_fault other file directory name
+  link_same : (file directory : ℕ) (name : List ℕ) → SamePlace tree other directory name → SameNode tree other file → (is_directory tree file ≡ false → count_of tree.rows file ≡ count_of other.rows file) → link_fault tree file directory name ≡ link_fault other file directory name
   link_same f d n same node links =
-      ap₂ (λ a k. cond (not a) (Some NoEntry) (cond k (Some NotPermitted) (first_of_two (directory_fault tree d) (cond (is_some (row_of tree d n)) (Some Exists) (cond (nat_le MOST_LINKS (count_of tree.rows f)) (Some TooManyLinks) (cond (is_full tree d n) (Some DirFull) None)))))) node.alive (same_directory f node.kind)
-      ∙ ap (λ r. cond (not (is_alive other f)) (Some NoEntry) (cond (is_directory other f) (Some NotPermitted) r)) (
-      ap₂ first_of_two (same_directory_fault d same.node)
-      (ap₂ (λ o c. cond (is_some o) (Some Exists) (cond (nat_le MOST_LINKS c) (Some TooManyLinks) (cond (is_full tree d n) (Some DirFull) None))) (same_row d n same.rows) links
-      ∙ ap (λ b. cond (is_some (row_of other d n)) (Some Exists) (cond (nat_le MOST_LINKS (count_of other.rows f)) (Some TooManyLinks) (cond b (Some DirFull) None))) (same_full d n same.rows)))
+      ap (λ a. cond (not a) (Some NoEntry) (cond (is_directory tree f) (Some NotPermitted) (linked tree))) node.alive
+      ∙ ap (cond (not (is_alive other f)) (Some NoEntry)) (
+      elim (is_directory tree f) as (λ b. is_directory tree f ≡ b → cond b (Some NotPermitted) (linked tree) ≡ cond (is_directory other f) (Some NotPermitted) (linked other)) [
+        | true ↦ λ k. ap (λ b. cond b (Some NotPermitted) (linked other)) (sym k ∙ same_directory f node.kind)
+        | false ↦ λ k. same_linked (links k) ∙ ap (λ b. cond b (Some NotPermitted) (linked other)) (sym k ∙ same_directory f node.kind)
+      ] refl)
+    where
+      linked : TreeState → Option Code
+      linked t = first_of_two (directory_fault t d) (cond (is_some (row_of t d n)) (Some Exists) (cond (nat_le MOST_LINKS (count_of t.rows f)) (Some TooManyLinks) (cond (is_full t d n) (Some DirFull) None)))
 
-  place_same : (child to_directory : ℕ) (to_name : List ℕ) (o : Option ℕ) → SameBucket tree other to_directory to_name → is_directory tree child ≡ is_directory other child → ((there : ℕ) → o ≡ Some there → SameKind tree other there) → ((there : ℕ) → o ≡ Some there → SameCount tree other there) → place_fault tree child to_directory to_name o ≡ place_fault other child to_directory to_name o
+      same_linked : count_of tree.rows f ≡ count_of other.rows f → linked tree ≡ linked other
+      same_linked count =
+          ap₂ first_of_two (same_directory_fault d same.node)
+          (ap₂ (λ o c. cond (is_some o) (Some Exists) (cond (nat_le MOST_LINKS c) (Some TooManyLinks) (cond (is_full tree d n) (Some DirFull) None))) (same_row d n same.rows) count
+          ∙ ap (λ b. cond (is_some (row_of other d n)) (Some Exists) (cond (nat_le MOST_LINKS (count_of other.rows f)) (Some TooManyLinks) (cond b (Some DirFull) None))) (same_full d n same.rows))
+
+  place_same : (child to_directory : ℕ) (to_name : List ℕ) (o : Option ℕ) → SameBucket tree other to_directory to_name → is_directory tree child ≡ is_directory other child → ((there : ℕ) → o ≡ Some there → SameKind tree other there) → ((there : ℕ) → o ≡ Some there → is_directory tree there ≡ true → SameCount tree other there) → place_fault tree child to_directory to_name o ≡ place_fault other child to_directory to_name o
   place_same child q m None rows kind kinds counts = ap (λ b. cond b (Some DirFull) None) (same_full q m rows)
   place_same child q m (Some there) rows kind kinds counts =
-      ap₂ (λ k t. cond (k && not t) (Some NotDir) (cond (not k && t) (Some IsDir) (cond (t && not (nat_eq (row_count tree there) 0)) (Some NotEmpty) None))) kind (same_directory there (kinds there refl))
-      ∙ ap (λ r. cond (is_directory other child && not (is_directory other there)) (Some NotDir) (cond (not (is_directory other child) && is_directory other there) (Some IsDir) (cond (is_directory other there && not (nat_eq r 0)) (Some NotEmpty) None))) (counts there refl)
+      ap₂ (λ k t. cond (k && not t) (Some NotDir) (cond (not k && t) (Some IsDir) (cond (is_directory tree there && not (nat_eq (row_count tree there) 0)) (Some NotEmpty) None))) kind (same_directory there (kinds there refl))
+      ∙ ap (λ r. cond (is_directory other child && not (is_directory other there)) (Some NotDir) (cond (not (is_directory other child) && is_directory other there) (Some IsDir) (cond r (Some NotEmpty) None))) (same_bare there (kinds there refl) (counts there refl))
 
   move_same : IsSoundTree tree → IsSoundTree other → (directory : ℕ) (name : List ℕ) (to_directory : ℕ) (to_name : List ℕ) → SameMove tree other directory name to_directory to_name → (o : Option ℕ) → row_of tree directory name ≡ o → move_row tree directory name to_directory to_name o ≡ move_row other directory name to_directory to_name o
   move_same s t d n q m same None e = refl

@@ -42,14 +42,14 @@ pub record SameNumbers (tree other : TreeState) (core : ℕ) : Type 0 where
   pub made : made_by tree core ≡ made_by other core
 
 -- what a rename reads: both places; the child's kind and, where it is a directory that changes its directory, whether the new one lies
--- below it; of what stands at the new place, the kind and how many rows it has
+-- below it; of what stands at the new place, the kind and, of a directory, how many rows it has
 pub record SameMove (tree other : TreeState) (directory : ℕ) (name : List ℕ) (to_directory : ℕ) (to_name : List ℕ) : Type 0 where
   pub from : SamePlace tree other directory name
   pub to : SamePlace tree other to_directory to_name
   pub child : (child : ℕ) → row_of tree directory name ≡ Some child → SameKind tree other child
   pub below : (child : ℕ) → row_of tree directory name ≡ Some child → is_directory tree child ≡ true → directory ≢ to_directory → lies_below tree to_directory child ≡ lies_below other to_directory child
   pub kind : (there : ℕ) → row_of tree to_directory to_name ≡ Some there → SameKind tree other there
-  pub rows : (there : ℕ) → row_of tree to_directory to_name ≡ Some there → SameCount tree other there
+  pub rows : (there : ℕ) → row_of tree to_directory to_name ≡ Some there → is_directory tree there ≡ true → SameCount tree other there
 
 -- what is asked of a node: of a file its links and its bytes, of a directory its rows and what they name
 pub record SameStat (tree other : TreeState) (node : ℕ) : Type 0 where
@@ -63,11 +63,11 @@ pub record SameStat (tree other : TreeState) (node : ℕ) : Type 0 where
 abbrev pub Agree : TreeState → TreeState → ℕ → Call → Type 0
 Agree tree other core (call.Look directory name) = SamePlace tree other directory.0 name × ((child : ℕ) → row_of tree directory.0 name ≡ Some child → SameKind tree other child)
 Agree tree other core (call.Make directory name kind) = SamePlace tree other directory.0 name × SameNumbers tree other core
-Agree tree other core (call.Link file directory name) = SamePlace tree other directory.0 name × SameNode tree other file.0 × (count_of tree.rows file.0 ≡ count_of other.rows file.0)
+Agree tree other core (call.Link file directory name) = SamePlace tree other directory.0 name × SameNode tree other file.0 × (is_directory tree file.0 ≡ false → count_of tree.rows file.0 ≡ count_of other.rows file.0)
 Agree tree other core (call.Unlink directory name) = SamePlace tree other directory.0 name × ((child : ℕ) → row_of tree directory.0 name ≡ Some child → SameKind tree other child)
 Agree tree other core (call.Rmdir directory name) =
     SamePlace tree other directory.0 name × ((child : ℕ) → row_of tree directory.0 name ≡ Some child → SameKind tree other child)
-    × ((child : ℕ) → row_of tree directory.0 name ≡ Some child → SameCount tree other child)
+    × ((child : ℕ) → row_of tree directory.0 name ≡ Some child → is_directory tree child ≡ true → SameCount tree other child)
 Agree tree other core (call.Rename directory name to_directory to_name) = SameMove tree other directory.0 name to_directory.0 to_name
 Agree tree other core (call.Write file at bytes) = SameNode tree other file.0
 Agree tree other core (call.Read file at count) = SameNode tree other file.0 × (bytes_of tree file.0 ≡ bytes_of other file.0)

@@ -71,7 +71,9 @@ impl History {
         ensures { result ≡ [] }
     {
         History {
-            kept: Kept::One { entries: Vec::new(alloc) },
+            kept: Kept::One {
+                entries: Vec::new(alloc),
+            },
         }
     }
 
@@ -79,7 +81,9 @@ impl History {
     pub fn from_entries(entries: Vec<Entry>) -> History
         ensures { result ≡ entries.items }
     {
-        History { kept: Kept::One { entries } }
+        History {
+            kept: Kept::One { entries },
+        }
     }
 
     /// The history of these lists of entries, one for each core, say. Together they have each stamp
@@ -88,7 +92,9 @@ impl History {
         requires { EachOnce (entries_in parts.items) }
         ensures { result ≡ by_stamps (entries_in parts.items) }
     {
-        History { kept: Kept::Parts { parts } }
+        History {
+            kept: Kept::Parts { parts },
+        }
     }
 
     /// How many calls there are.

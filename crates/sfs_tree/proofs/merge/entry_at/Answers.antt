@@ -1,4 +1,4 @@
-use Rattle.std.proofs.Common.{◌≡◌, ◌<◌, length, get_or, slice_get, Some, refl, sym, ap, subst, ◌∙◌, ltb-true}
+use Rattle.std.proofs.Common.{slice_get, refl, sym, ap, ◌∙◌, ltb-true}
 use Rattle.std.proofs.lemmas.Option.{slice_get_read}
 use Rattle.sfs_tree.proofs.Merged.{entry_found}
 use Rattle.sfs_tree.proofs.merge.entry_at.Goals as goal

@@ -1,5 +1,5 @@
 use Rattle.std.proofs.Common.{◌+◌, ◌<◌, ◌^◌, slice_get, OnSome, sym, ap, subst, ◌∙◌}
-use Rattle.sfs_tree.specs.Merged.{entries_in, by_stamps, entry_with}
+use Rattle.sfs_tree.specs.Merged.{entries_in, entry_with}
 use Rattle.sfs_tree.specs.Kept.{entries_of, IsWhole}
 use Rattle.sfs_tree.proofs.Merged.{get-by_stamps, room_for_next}
 use Rattle.sfs_tree.proofs.history.History.entry_at.Goals as goal
