@@ -6,14 +6,14 @@ use Rattle.std.specs.FinMap.{get, insert, remove}
 use Rattle.sfs_base.specs.declared.numbers.Kind.{Kind}
 use Rattle.sfs_tree.specs.declared.call.Call.{Call}
 use Rattle.sfs_tree.specs.declared.call.Call.TheVariants as call
-use Rattle.sfs_tree.specs.Tree.{TreeState, row_of, is_directory, holder_of, next_number}
+use Rattle.sfs_tree.specs.Tree.{TreeState, row_of, is_directory, row_count, holder_of, next_number}
 use Rattle.sfs_tree.specs.Effect.{Effect, Stays, Adds, Removes, Moves, Edits, Puts, Resizes, tree_with}
-use Rattle.sfs_tree.specs.Verdict.{verdict}
-use Rattle.sfs_tree.specs.Sound.{IsSound}
+use Rattle.sfs_tree.specs.Verdict.{verdict, tree_after_call}
+use Rattle.sfs_tree.specs.Sound.{Above, at_root, below, IsSound}
 use Rattle.sfs_tree.specs.Fits.{Fits}
 use Rattle.sfs_tree.specs.Footprints.{own_effect, moves_directory_between}
-use Rattle.sfs_tree.specs.Laws.{HoldersStay}
-use Rattle.sfs_tree.proofs.RowFacts.{alive_named, holder_found, has_row, added_cases, added_there, added_other, removed_cases, removed_other, is_here, same_some, some_not_none}
+use Rattle.sfs_tree.specs.Laws.{HoldersStay, WaysStay}
+use Rattle.sfs_tree.proofs.RowFacts.{alive_named, holder_found, has_row, counts_row, added_cases, added_there, added_other, removed_cases, removed_other, is_here, same_some, some_not_none}
 use Rattle.sfs_tree.proofs.KeepsNodes.{directory_node, KeepKinds-new, KeepKinds-edit}
 use Rattle.sfs_tree.proofs.Walks.{holder_is}
 use Rattle.sfs_tree.proofs.OwnEffects.{of_one, of_child, of_what_it_does}
@@ -159,3 +159,23 @@ holders_stay tree core c node is lt stays kind rows =
     same_holder tree _ node is.sound (calls_keep_sound tree core c is lt).sound kind (directory_stays tree core effect makes node fits (directory_node tree node kind) ∙ kind)
     (names_up tree core is.sound node kind row.0 row.1 row.2 effect makes fits within_it)
     (names_back tree core is.sound node kind row.0 row.1 row.2 effect makes fits within_it)
+
+-- the way up is the same, though a row on it may have another name
+way_kept : (tree next : TreeState) → IsSound tree → IsSound next → ((d : ℕ) → is_directory tree d ≡ true → row_count tree d ≢ 0 → holder_of next d ≡ holder_of tree d) → {node : ℕ} {above : List ℕ} → Above tree node above → is_directory tree node ≡ true → row_count tree node ≢ 0 → Above next node above
+way_kept tree next s t same at_root kind rows = at_root
+way_kept tree next s t same (below node holder name above row rest) kind rows =
+    let up = way_kept tree next s t same rest (s.holds holder name node row).0 (counts_row tree holder name node row) in
+    elim (holder_found next node) [
+      | inl f ↦ below node holder f.2.0 above (subst (λ (d : ℕ). row_of next d f.2.0 ≡ Some node) (some_is f.0 (sym f.1 ∙ same node kind rows ∙ holder_is tree s node holder name row kind)) f.2.1) up
+      | inr none ↦ absurd (none_is (sym none.0 ∙ same node kind rows ∙ holder_is tree s node holder name row kind))
+    ]
+  where
+    some_is : (a : ℕ) → Some a ≡ Some holder → a ≡ holder
+    some_is a e = cc
+
+    none_is : None ≡ Some holder → ⊥
+    none_is e = cc
+
+pub ways_stay : WaysStay
+ways_stay tree core c node above is lt stays kind rows way =
+    way_kept tree (tree_after_call tree core c) is.sound (calls_keep_sound tree core c is lt).sound (λ d k r. holders_stay tree core c d is lt stays k r) way kind rows

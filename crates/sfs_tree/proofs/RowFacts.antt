@@ -170,6 +170,10 @@ has_row tree directory some = elim (found_or_none (stands_in directory) (entries
   | inr n ↦ absurd (some (len-names_of directory tree.rows ∙ n.1))
 ]
 
+-- a directory with a row counts some
+pub counts_row : (tree : TreeState) (directory : ℕ) (name : List ℕ) (child : ℕ) → row_of tree directory name ≡ Some child → row_count tree directory ≢ 0
+counts_row tree directory name child row none = some_not_none (row_of tree directory name) child row (no_rows tree directory none name)
+
 -- a node's holder is the directory of a row that names it, or no row does
 pub holder_found : (tree : TreeState) (node : ℕ) → ((h : ℕ) × (holder_of tree node ≡ Some h) × ((name : List ℕ) × (row_of tree h name ≡ Some node))) ⊎ ((holder_of tree node ≡ None) × (IsNamed tree.rows node → ⊥))
 holder_found tree node = elim (found_or_none (names_it node) (entries tree.rows)) [

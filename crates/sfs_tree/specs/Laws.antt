@@ -71,6 +71,10 @@ CallsDoTheirOwn = (tree : TreeState) (core : ℕ) (c : Call) → DoesItsOwn tree
 abbrev pub HoldersStay : Type 0
 HoldersStay = (tree : TreeState) (core : ℕ) (c : Call) (node : ℕ) → IsSoundTree tree → core < length tree.made → moves_directory_between tree c ≡ false → is_directory tree node ≡ true → row_count tree node ≢ 0 → holder_of (tree_after_call tree core c) node ≡ holder_of tree node
 
+-- Nor does any other call change the directories above one that has rows.
+abbrev pub WaysStay : Type 0
+WaysStay = (tree : TreeState) (core : ℕ) (c : Call) (node : ℕ) (above : List ℕ) → IsSoundTree tree → core < length tree.made → moves_directory_between tree c ≡ false → is_directory tree node ≡ true → row_count tree node ≢ 0 → Above tree node above → Above (tree_after_call tree core c) node above
+
 -- What an effect leaves of the part of a directory that has the names which pass a test is made of that part alone; so is it of a
 -- bucket, and of a whole directory.
 abbrev pub PartsAfter : Type 0

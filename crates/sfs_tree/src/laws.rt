@@ -3,7 +3,7 @@ ghost use Rattle.sfs_tree.specs.Laws.{RootIsSound, CallsKeepSound, HistoriesKeep
 ghost use Rattle.sfs_tree.specs.Laws.{DrawnIsNew, DrawnApart};
 ghost use Rattle.sfs_tree.specs.Laws.{EffectsAct, PartsAfter, NodesAfter, CountsAfter};
 ghost use Rattle.sfs_tree.specs.Laws.{CallsDoTheirOwn, CallsKeepTheRest, ReadingsDecide, BucketsMakeRows};
-ghost use Rattle.sfs_tree.specs.Laws.{HoldersStay, WalksMeetThoseAbove};
+ghost use Rattle.sfs_tree.specs.Laws.{HoldersStay, WaysStay, WalksMeetThoseAbove};
 ghost use Rattle.sfs_tree.specs.Laws.{RowsAreTheTrees, BytesAreTheTrees, CoresMakeTheHistory};
 
 /// The root alone is a sound tree.
@@ -84,6 +84,11 @@ pub fn buckets_make_rows()
 /// A directory with rows keeps its holder, but where a directory moves to another one.
 pub fn holders_stay()
     ensures { HoldersStay }
+{}
+
+/// The directories above a directory with rows stay, but where a directory moves to another one.
+pub fn ways_stay()
+    ensures { WaysStay }
 {}
 
 /// A walk up from a directory meets the directories above it.

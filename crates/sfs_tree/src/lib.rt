@@ -19,7 +19,7 @@ pub use laws::{
     calls_keep_the_rest, cores_make_the_history, counts_after, drawn_number_is_new,
     drawn_numbers_are_apart, effects_act, fitting_keeps_sound, histories_keep_sound, holders_stay,
     nodes_after, parts_after, readings_decide, root_alone_is_sound, rows_are_the_trees,
-    walks_meet_those_above,
+    walks_meet_those_above, ways_stay,
 };
 pub use listing::{NameKind, NameRows};
 pub use name_map::{NameMap, NameRow};
