@@ -1,5 +1,7 @@
 pub mod Acts
 pub mod Added
+pub mod ByStamps
+pub mod CoreLists
 pub mod FileHistories
 pub mod Fitting
 pub mod Histories
@@ -10,16 +12,14 @@ pub mod KeepsNodes
 pub mod KeepsRest
 pub mod KeepsSound
 pub mod Kept
+pub mod Names
+pub mod Numbered
+pub mod Numbers
 pub mod OwnEffects
 pub mod Parts
 pub mod Readings
 pub mod RowFacts
 pub mod RowsByName
-pub mod Merged
-pub mod MergedCores
-pub mod Names
-pub mod Numbered
-pub mod Numbers
 pub mod Search
 pub mod SoundTrees
 pub mod Stored

@@ -5,11 +5,11 @@ pub mod Effect
 pub mod Fits
 pub mod Footprints
 pub mod History
-pub mod NameKinds
-pub mod NameRow
+pub mod Kept
 pub mod Laws
 pub mod Merged
-pub mod Kept
+pub mod NameKinds
+pub mod NameRow
 pub mod Names
 pub mod Order
 pub mod Parts

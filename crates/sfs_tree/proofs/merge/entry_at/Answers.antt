@@ -1,6 +1,6 @@
 use Rattle.std.proofs.Common.{slice_get, refl, sym, ap, ◌∙◌, ltb-true}
 use Rattle.std.proofs.lemmas.Option.{slice_get_read}
-use Rattle.sfs_tree.proofs.Merged.{entry_found}
+use Rattle.sfs_tree.proofs.ByStamps.{entry_found}
 use Rattle.sfs_tree.proofs.merge.entry_at.Goals as goal
 
 pub returns-then-entry-stamp-clause-entry : goal.returns-then-entry-stamp-clause-entry

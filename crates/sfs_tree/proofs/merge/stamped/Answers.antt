@@ -2,7 +2,7 @@ use Rattle.std.proofs.Common.{sym, ap, ◌∙◌}
 use Rattle.std.specs.List.{find}
 use Rattle.std.specs.Option.{option_copied}
 use Rattle.sfs_tree.specs.Merged.{has_stamp}
-use Rattle.sfs_tree.proofs.Merged.{here_found, here_none}
+use Rattle.sfs_tree.proofs.ByStamps.{here_found, here_none}
 use Rattle.sfs_tree.proofs.merge.stamped.Goals as goal
 
 pub returns-in-Some : goal.returns-in-Some

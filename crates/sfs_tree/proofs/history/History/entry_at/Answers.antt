@@ -1,7 +1,7 @@
 use Rattle.std.proofs.Common.{◌+◌, ◌<◌, ◌^◌, slice_get, OnSome, sym, ap, subst, ◌∙◌}
 use Rattle.sfs_tree.specs.Merged.{entries_in, entry_with}
 use Rattle.sfs_tree.specs.Kept.{entries_of, IsWhole}
-use Rattle.sfs_tree.proofs.Merged.{get-by_stamps, room_for_next}
+use Rattle.sfs_tree.proofs.ByStamps.{get-by_stamps, room_for_next}
 use Rattle.sfs_tree.proofs.history.History.entry_at.Goals as goal
 
 pub returns-in-Parts-clause-entry : goal.returns-in-Parts-clause-entry

@@ -1,7 +1,7 @@
 use Rattle.std.proofs.Common.{length, sym, ap, subst, ◌∙◌}
 use Rattle.sfs_tree.specs.Merged.{entries_in}
 use Rattle.sfs_tree.specs.Kept.{entries_of, IsWhole}
-use Rattle.sfs_tree.proofs.Merged.{length-by_stamps}
+use Rattle.sfs_tree.proofs.ByStamps.{length-by_stamps}
 use Rattle.sfs_tree.proofs.history.History.len.Goals as goal
 
 pub returns-in-Parts : goal.returns-in-Parts

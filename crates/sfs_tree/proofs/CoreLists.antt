@@ -8,7 +8,7 @@ use Rattle.sfs_tree.specs.declared.history.Entry.{Entry}
 use Rattle.sfs_tree.specs.Merged.{entries_in, has_stamp, entry_with, by_stamps, EachOnce, is_core, AreCoresOf}
 use Rattle.sfs_tree.specs.Laws.{CoresMakeTheHistory}
 use Rattle.sfs_tree.proofs.Joined.{count-cons}
-use Rattle.sfs_tree.proofs.Merged.{found_is, one_found, length-by_stamps, get-by_stamps}
+use Rattle.sfs_tree.proofs.ByStamps.{found_is, one_found, length-by_stamps, get-by_stamps}
 
 -- what holds of each entry of a list
 abbrev Each : (Entry → Type 0) → List Entry → Type 0
