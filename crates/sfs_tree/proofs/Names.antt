@@ -15,11 +15,11 @@ use Rattle.sfs_tree.specs.Tree.{name_row, names_where, names_of, bucket_rows}
 use Rattle.sfs_tree.specs.Buckets.{Bucket, bucket_at, joined, stands_in, IsPlaced}
 use Rattle.sfs_tree.proofs.Joined.{same_key, name_cmp-IsAntisymmetric, is_equal, none_there, get-joined, bucket_small, count-cons}
 
-both_first : (a b : Bool) → T (a && b) → T a
+pub both_first : (a b : Bool) → T (a && b) → T a
 both_first true b p = tt
 both_first false b p = p
 
-both_second : (a b : Bool) → T (a && b) → T b
+pub both_second : (a b : Bool) → T (a && b) → T b
 both_second true b p = p
 both_second false b p = absurd p
 

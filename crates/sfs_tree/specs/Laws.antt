@@ -1,0 +1,119 @@
+-- The laws of the tree of one thread, each of which a function of the module laws proves.
+use Rattle.std.specs.Prelude.{◌≡◌, ◌≢◌, ℕ, Bool, ◌+◌, ◌*◌, ◌<◌, ◌≤◌, true, false, List, length, take, Option, None, Vec}
+use Rattle.std.specs.FinMap.{get, len}
+use Rattle.sfs_tree.specs.declared.call.Call.{Call}
+use Rattle.sfs_tree.specs.Tree.{TreeState, row_of, is_directory, names_of, names_where, bucket_rows, bytes_of, kind_of, count_of, row_count, holder_of, walk_up, made_by, next_number}
+use Rattle.sfs_tree.specs.Verdict.{verdict, tree_after_call}
+use Rattle.sfs_tree.specs.Build.{root_alone}
+use Rattle.sfs_tree.specs.Sound.{Above, IsSound, IsNumbered}
+use Rattle.sfs_tree.specs.Fits.{Fits}
+use Rattle.sfs_tree.specs.declared.history.Entry.{Entry}
+use Rattle.sfs_tree.specs.Effect.{Effect, tree_with}
+use Rattle.sfs_tree.specs.History.{tree_after, IsLegal}
+use Rattle.sfs_tree.specs.Changes.{rows_at, bytes_at}
+use Rattle.std.specs.declared.alloc.Global.{Global}
+use Rattle.sfs_tree.specs.Merged.{AreCoresOf, MakeTheHistory}
+use Rattle.sfs_tree.specs.Readings.{Agree}
+use Rattle.sfs_tree.specs.Parts.{part_after, links_after, bytes_after, kind_after, count_after}
+use Rattle.sfs_tree.specs.Footprints.{row_after, moves_directory_between, DoesItsOwn, KeepsRest}
+use Rattle.sfs_base.specs.declared.numbers.Kind.{Kind}
+
+-- a sound tree, each node of which has a number that was given
+pub record IsSoundTree (tree : TreeState) : Type 0 where
+  pub sound : IsSound tree
+  pub numbered : IsNumbered tree
+
+-- The root alone is sound, where the first new number is not the root's.
+abbrev pub RootIsSound : Type 0
+RootIsSound = (first share cores : ℕ) → 1 ≤ first → IsSoundTree (root_alone first share cores)
+
+-- A call of a core keeps a sound tree sound.
+abbrev pub CallsKeepSound : Type 0
+CallsKeepSound = (tree : TreeState) (core : ℕ) (c : Call) → IsSoundTree tree → core < length tree.made → IsSoundTree (tree_after_call tree core c)
+
+-- What a call does to a sound tree fits it: an effect comes only where no condition of the table holds.
+abbrev pub CallsFit : Type 0
+CallsFit = (tree : TreeState) (core : ℕ) (c : Call) → IsSoundTree tree → core < length tree.made → Fits tree core (verdict tree core c).effect (verdict tree core c).makes
+
+-- A number that a core draws next is no node's.
+abbrev pub DrawnIsNew : Type 0
+DrawnIsNew = (tree : TreeState) (core : ℕ) → IsSoundTree tree → core < length tree.made → made_by tree core < tree.share → get tree.nodes (next_number tree core) ≡ None
+
+-- the number that a core gives to its creation with this count before it
+abbrev pub drawn_number : TreeState → ℕ → ℕ → ℕ
+drawn_number tree core before = tree.first + core * tree.share + before
+
+-- Two creations below the share have one number only where they are one creation of one core.
+abbrev pub DrawnApart : Type 0
+DrawnApart = (tree : TreeState) (core other before other_before : ℕ) → before < tree.share → other_before < tree.share → drawn_number tree core before ≡ drawn_number tree other other_before → (core ≡ other) × (before ≡ other_before)
+
+-- Each tree of a legal history from a sound one on is sound.
+abbrev pub HistoriesKeepSound : Type 0
+HistoriesKeepSound = (first : TreeState) (history : List Entry) (count : ℕ) → IsSoundTree first → IsLegal first history → IsSoundTree (tree_after first (take count history))
+
+-- A directory's rows at a stamp are those in the tree after the entries below it.
+abbrev pub RowsAreTheTrees : Type 0
+RowsAreTheTrees = (first : TreeState) (history : List Entry) (directory stamp : ℕ) → IsLegal first history → rows_at first history directory stamp ≡ names_of directory (tree_after first (take stamp history)).rows
+
+-- A file's bytes at a stamp are those in the tree after the entries below it, where the first tree is sound.
+abbrev pub BytesAreTheTrees : Type 0
+BytesAreTheTrees = (first : TreeState) (history : List Entry) (file stamp : ℕ) → IsSoundTree first → IsLegal first history → bytes_at first history file stamp ≡ bytes_of (tree_after first (take stamp history)) file
+
+-- What stands at a place after an effect is what the effect makes of what stood there.
+abbrev pub EffectsAct : Type 0
+EffectsAct = (tree : TreeState) (core : ℕ) (effect : Effect) (makes : Option Kind) (directory : ℕ) (name : List ℕ) → row_of (tree_with tree core effect makes) directory name ≡ row_after (row_of tree) effect directory name
+
+-- Each call does nothing, or its own.
+abbrev pub CallsDoTheirOwn : Type 0
+CallsDoTheirOwn = (tree : TreeState) (core : ℕ) (c : Call) → DoesItsOwn tree core c
+
+-- No call but one that moves a directory from one directory to another changes the holder of a directory that has rows.
+abbrev pub HoldersStay : Type 0
+HoldersStay = (tree : TreeState) (core : ℕ) (c : Call) (node : ℕ) → IsSoundTree tree → core < length tree.made → moves_directory_between tree c ≡ false → is_directory tree node ≡ true → row_count tree node ≢ 0 → holder_of (tree_after_call tree core c) node ≡ holder_of tree node
+
+-- Nor does any other call change the directories above one that has rows.
+abbrev pub WaysStay : Type 0
+WaysStay = (tree : TreeState) (core : ℕ) (c : Call) (node : ℕ) (above : List ℕ) → IsSoundTree tree → core < length tree.made → moves_directory_between tree c ≡ false → is_directory tree node ≡ true → row_count tree node ≢ 0 → Above tree node above → Above (tree_after_call tree core c) node above
+
+-- What an effect leaves of the part of a directory that has the names which pass a test is made of that part alone; so is it of a
+-- bucket, and of a whole directory.
+abbrev pub PartsAfter : Type 0
+PartsAfter = (tree : TreeState) (core : ℕ) (effect : Effect) (makes : Option Kind) (directory : ℕ) (test : List ℕ → Bool) → names_where directory test (tree_with tree core effect makes).rows ≡ part_after directory test effect (names_where directory test tree.rows)
+
+-- what an effect leaves of a node: how many rows name it, its bytes and its kind
+pub record LeavesNode (tree : TreeState) (core : ℕ) (effect : Effect) (makes : Option Kind) (node : ℕ) : Type 0 where
+  pub links : count_of (tree_with tree core effect makes).rows node ≡ links_after tree effect node (count_of tree.rows node)
+  pub bytes : bytes_of (tree_with tree core effect makes) node ≡ bytes_after effect node (bytes_of tree node)
+  pub kind : kind_of (tree_with tree core effect makes) node ≡ kind_after tree core makes node
+
+-- What an effect that fits leaves of a node is made of what is said of that node alone.
+abbrev pub NodesAfter : Type 0
+NodesAfter = (tree : TreeState) (core : ℕ) (effect : Effect) (makes : Option Kind) (node : ℕ) → Fits tree core effect makes → LeavesNode tree core effect makes node
+
+-- A core's creation counts for that core alone.
+abbrev pub CountsAfter : Type 0
+CountsAfter = (tree : TreeState) (core : ℕ) (effect : Effect) (makes : Option Kind) (other : ℕ) → core < length tree.made → made_by (tree_with tree core effect makes) other ≡ count_after tree core makes other
+
+-- A call has one reply and one effect in two sound trees that agree on what it reads.
+abbrev pub ReadingsDecide : Type 0
+ReadingsDecide = (tree other : TreeState) (core : ℕ) (c : Call) → IsSoundTree tree → IsSoundTree other → Agree tree other core c → verdict tree core c ≡ verdict other core c
+
+-- Two trees with the same eight buckets of a directory have the same rows in it.
+abbrev pub BucketsMakeRows : Type 0
+BucketsMakeRows = (tree other : TreeState) (directory : ℕ) → ((number : ℕ) → number < 8 → bucket_rows directory number tree.rows ≡ bucket_rows directory number other.rows) → names_of directory tree.rows ≡ names_of directory other.rows
+
+-- Each call keeps what it does not touch.
+abbrev pub CallsKeepTheRest : Type 0
+CallsKeepTheRest = (tree : TreeState) (core : ℕ) (c : Call) → IsSoundTree tree → core < length tree.made → KeepsRest tree core c
+
+-- A walk up from a directory of a sound tree meets the directories above it.
+abbrev pub WalksMeetThoseAbove : Type 0
+WalksMeetThoseAbove = (tree : TreeState) (node : ℕ) (above : List ℕ) → IsSoundTree tree → is_directory tree node ≡ true → Above tree node above → walk_up (len tree.rows) tree node ≡ above
+
+-- What fits a sound tree keeps it sound.
+abbrev pub FittingKeepsSound : Type 0
+FittingKeepsSound = (tree : TreeState) (core : ℕ) (effect : Effect) (makes : Option Kind) → IsSound tree → Fits tree core effect makes → IsSound (tree_with tree core effect makes)
+
+-- The lists of the cores make the history.
+abbrev pub CoresMakeTheHistory : Type 0
+CoresMakeTheHistory = (parts : List (Vec Entry Global)) (history : List Entry) → AreCoresOf parts history → MakeTheHistory parts history

@@ -1,0 +1,112 @@
+// What is proved of the definitions: each function's contract is a law.
+ghost use Rattle.sfs_tree.specs.Laws.{RootIsSound, CallsKeepSound, HistoriesKeepSound, CallsFit, FittingKeepsSound};
+ghost use Rattle.sfs_tree.specs.Laws.{DrawnIsNew, DrawnApart};
+ghost use Rattle.sfs_tree.specs.Laws.{EffectsAct, PartsAfter, NodesAfter, CountsAfter};
+ghost use Rattle.sfs_tree.specs.Laws.{CallsDoTheirOwn, CallsKeepTheRest, ReadingsDecide, BucketsMakeRows};
+ghost use Rattle.sfs_tree.specs.Laws.{HoldersStay, WaysStay, WalksMeetThoseAbove};
+ghost use Rattle.sfs_tree.specs.Laws.{RowsAreTheTrees, BytesAreTheTrees, CoresMakeTheHistory};
+
+/// The root alone is a sound tree.
+pub fn root_alone_is_sound()
+    ensures { RootIsSound }
+{}
+
+/// Each call keeps a sound tree sound.
+pub fn calls_keep_sound()
+    ensures { CallsKeepSound }
+{}
+
+/// Each tree of a legal history from a sound one on is sound.
+pub fn histories_keep_sound()
+    ensures { HistoriesKeepSound }
+{}
+
+/// What a call does fits a sound tree.
+pub fn calls_fit()
+    ensures { CallsFit }
+{}
+
+/// What fits a sound tree keeps it sound.
+pub fn fitting_keeps_sound()
+    ensures { FittingKeepsSound }
+{}
+
+/// A core's next number is no node's.
+pub fn drawn_number_is_new()
+    ensures { DrawnIsNew }
+{}
+
+/// No two creations have one number.
+pub fn drawn_numbers_are_apart()
+    ensures { DrawnApart }
+{}
+
+/// What stands at a place after an effect is what the effect makes of what stood there.
+pub fn effects_act()
+    ensures { EffectsAct }
+{}
+
+/// What an effect leaves of a part of a directory is made of that part alone.
+pub fn parts_after()
+    ensures { PartsAfter }
+{}
+
+/// What an effect that fits leaves of a node is made of what is said of that node alone.
+pub fn nodes_after()
+    ensures { NodesAfter }
+{}
+
+/// A core's creation counts for that core alone.
+pub fn counts_after()
+    ensures { CountsAfter }
+{}
+
+/// Each call does nothing, or its own.
+pub fn calls_do_their_own()
+    ensures { CallsDoTheirOwn }
+{}
+
+/// Each call keeps what it does not touch.
+pub fn calls_keep_the_rest()
+    ensures { CallsKeepTheRest }
+{}
+
+/// A call has one reply and one effect in two sound trees that agree on what it reads.
+pub fn readings_decide()
+    ensures { ReadingsDecide }
+{}
+
+/// A directory's eight buckets make its rows.
+pub fn buckets_make_rows()
+    ensures { BucketsMakeRows }
+{}
+
+/// A directory with rows keeps its holder, but where a directory moves to another one.
+pub fn holders_stay()
+    ensures { HoldersStay }
+{}
+
+/// The directories above a directory with rows stay, but where a directory moves to another one.
+pub fn ways_stay()
+    ensures { WaysStay }
+{}
+
+/// A walk up from a directory meets the directories above it.
+pub fn walks_meet_those_above()
+    ensures { WalksMeetThoseAbove }
+{}
+
+/// A directory's rows at a stamp are those in the tree after the entries below it.
+pub fn rows_are_the_trees()
+    ensures { RowsAreTheTrees }
+{}
+
+/// A file's bytes at a stamp are those in the tree after the entries below it.
+pub fn bytes_are_the_trees()
+    ensures { BytesAreTheTrees }
+{}
+
+/// The lists of the cores of a history make it, each stamp once.
+pub fn cores_make_the_history()
+    ensures { CoresMakeTheHistory }
+{}
