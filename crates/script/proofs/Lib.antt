@@ -1,3 +1,3 @@
-pub mod LineLemmas
-pub mod NameLemmas
-pub mod TextLemmas
+mod LineLemmas
+mod NumberLemmas
+mod PathLemmas

@@ -1,5 +1,9 @@
-pub mod Calls
 pub mod Commands
 pub mod Faults
+pub mod Follows
 pub mod Lines
+pub mod Paths
+pub mod Phases
 pub mod Texts
+pub mod Walks
+pub mod Words

@@ -1,13 +1,14 @@
-//! The script of a run: its lines read as commands, and the history of a run written as text.
+//! The script of a run: its lines read as commands, the calls that a worker makes for them, and the history written as text.
 #![tactic(auto)]
 
-mod command;
+mod commands;
 mod fault;
-mod lines;
-mod reader;
-mod writer;
+mod phases;
+mod parts;
+mod paths;
+mod verbs;
+mod words;
 
-pub use command::Command;
+pub use commands::{Command, Line, NamePath};
 pub use fault::ScriptFault;
-pub use reader::{LONGEST_SCRIPT, read};
-pub use writer::text;
+pub use phases::{Phase, Script};

@@ -28,3 +28,14 @@ impl Model for NameRows {
 
     ghost view = { λ names. map name_kind names.rows.items };
 }
+
+impl NameRows {
+    ghost use Rattle.sfs_tree.specs.NameKinds.{name_kind};
+
+    /// The names with the kinds of their nodes.
+    pub fn rows(&self) -> &[NameKind]
+        ensures { map name_kind result.now ≡ self.now }
+    {
+        &self.rows
+    }
+}
