@@ -1,3 +1,4 @@
-mod LineLemmas
-mod NumberLemmas
-mod PathLemmas
+pub mod LineLemmas
+pub mod NumberLemmas
+pub mod PathLemmas
+pub mod PhaseLemmas

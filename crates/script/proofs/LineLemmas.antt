@@ -1,5 +1,5 @@
 -- The first line and the first part of some bytes.
-use Rattle.std.proofs.Common.{◌≡◌, ℕ, zero, suc, ◌<◌, Bool, true, false, cond, List, [], ◌∷◌, ◌++◌, length, take, drop, get_or, Some, None, Result, Ok, Err, refl, sym, ap, ◌∙◌, arith, nat_eq, ltb, position, append_assoc}
+use Rattle.std.proofs.Common.{◌≡◌, ℕ, zero, suc, ◌<◌, ◌≤◌, Bool, true, false, cond, List, [], ◌∷◌, ◌++◌, length, take, drop, get_or, Some, None, Result, Ok, Err, refl, sym, ap, ◌∙◌, arith, nat_eq, ltb, position, append_assoc}
 use borrow.Author.Tests.{ltb-false}
 use Rattle.std.specs.List.{position_or_len}
 use Rattle.std.proofs.Common.{◌-◌}
@@ -71,3 +71,16 @@ split_line bytes back i e = drop_one bytes i ∙ ap (drop 1) (sym e) ∙ sym (ta
 
 pub split_open : (bytes front back : List ℕ) → front ≡ take (length bytes) bytes → back ≡ drop (length bytes) bytes → bytes ∷ [] ≡ front ∷ lines back
 split_open bytes front back f b = ap (λ l. l ∷ []) (sym (f ∙ take-length bytes)) ∙ ap (λ r. front ∷ lines r) (sym (b ∙ drop-length bytes))
+
+-- there is a first part
+parts_some : (separator : ℕ) (bytes : List ℕ) → 0 < length (parts separator bytes)
+parts_some s [] = omega arith
+parts_some s (b ∷ bs) = elim (nat_eq b s) as (λ t. 0 < length (cond t ([] ∷ parts s bs) (first_longer b (parts s bs)))) [ true ↦ omega arith | false ↦ longer b (parts s bs) ]
+  where
+    longer : (b : ℕ) (later : List (List ℕ)) → 0 < length (first_longer b later)
+    longer b [] = omega arith
+    longer b (l ∷ ls) = omega arith
+
+-- how many words there are, where one stands before others
+pub parts_more : (separator : ℕ) (bytes : List ℕ) (words : List (List ℕ)) (word : List ℕ) → words ≡ word ∷ parts separator bytes → 2 ≤ length words
+parts_more separator bytes words word e = let some = parts_some separator bytes in omega (arith, ap length e)

@@ -1,5 +1,6 @@
 -- The command of a line.
-use Rattle.std.specs.Prelude.{ℕ, ◌^◌, ◌-◌, ◌==◌, List, [], ◌∷◌, codes, bytes_eq, option_map, option_and_then, Option, Some, None, if◌then◌else◌}
+use Rattle.std.specs.Prelude.{ℕ, ◌^◌, ◌-◌, ◌==◌, List, [], ◌∷◌, codes, bytes_eq, option_map, Option, Some, None, if◌then◌else◌}
+use Rattle.std.specs.Option.{option_zip}
 use Rattle.script.specs.declared.commands.Command.{Command}
 use Rattle.script.specs.declared.commands.Command.TheVariants as command
 use Rattle.script.specs.declared.commands.Line.{Line}
@@ -28,12 +29,6 @@ verb_of word =
     if bytes_eq word (codes "fsync") then Some Fsync else
     None
 
--- two arguments, where both are read
-abbrev pub both : {A B C : Type 0} → (A → B → C) → Option A → Option B → Option C
-both make (Some first) (Some second) = Some (make first second)
-both make (Some first) None = None
-both make None second = None
-
 -- a number below 2 ^ 64
 abbrev pub offset_of : List ℕ → Option ℕ
 offset_of word = number_up_to (2 ^ 64 - 1) word
@@ -42,49 +37,59 @@ offset_of word = number_up_to (2 ^ 64 - 1) word
 abbrev pub count_of : List ℕ → Option ℕ
 count_of word = number_up_to 65536 word
 
--- a command with one argument
-abbrev pub one : {A : Type 0} → (A → Command) → (List ℕ → Option A) → List (List ℕ) → Option Command
-one make read (word ∷ []) = option_map make (read word)
-one make read _ = None
+-- three values, where all are there
+abbrev pub all_three : {A B C : Type 0} → Option A → Option B → Option C → Option (A × B × C)
+all_three (Some first) (Some second) (Some third) = Some (first, second, third)
+all_three (Some first) (Some second) None = None
+all_three (Some first) None third = None
+all_three None second third = None
 
--- a command with two arguments
-abbrev pub two : {A B : Type 0} → (A → B → Command) → (List ℕ → Option A) → (List ℕ → Option B) → List (List ℕ) → Option Command
-two make read_first read_second (first ∷ second ∷ []) = both make (read_first first) (read_second second)
-two make read_first read_second _ = None
+-- what one word spells, where there is no other
+abbrev pub one : {A : Type 0} → (List ℕ → Option A) → List (List ℕ) → Option A
+one read (word ∷ []) = read word
+one read _ = None
 
--- a command with three arguments
-abbrev pub three : {A B C : Type 0} → (A → B → C → Command) → (List ℕ → Option A) → (List ℕ → Option B) → (List ℕ → Option C) → List (List ℕ) → Option Command
-three {C = C} make read_first read_second read_third (first ∷ second ∷ third ∷ []) =
-    both (λ (known : C → Command) third. known third) (both make (read_first first) (read_second second)) (read_third third)
-three make read_first read_second read_third _ = None
+-- what two words spell, where there are no others
+abbrev pub two : {A B : Type 0} → (List ℕ → Option A) → (List ℕ → Option B) → List (List ℕ) → Option (A × B)
+two read_first read_second (first ∷ second ∷ []) = option_zip (read_first first) (read_second second)
+two read_first read_second _ = None
+
+-- what three words spell, where there are no others
+abbrev pub three : {A B C : Type 0} → (List ℕ → Option A) → (List ℕ → Option B) → (List ℕ → Option C) → List (List ℕ) → Option (A × B × C)
+three read_first read_second read_third (first ∷ second ∷ third ∷ []) = all_three (read_first first) (read_second second) (read_third third)
+three read_first read_second read_third _ = None
 
 -- The command of a verb and the words behind it.
 abbrev pub command_of : Verb → List (List ℕ) → Option Command
-command_of Create arguments = one command.Create name_path_of arguments
-command_of Mkdir arguments = one command.Mkdir name_path_of arguments
-command_of Link arguments = two command.Link path_of name_path_of arguments
-command_of Unlink arguments = one command.Unlink name_path_of arguments
-command_of Rmdir arguments = one command.Rmdir name_path_of arguments
-command_of Rename arguments = two command.Rename name_path_of name_path_of arguments
-command_of Write arguments = three command.Write path_of offset_of bytes_of arguments
-command_of Read arguments = three command.Read path_of offset_of count_of arguments
-command_of Trunc arguments = two command.Trunc path_of offset_of arguments
-command_of Stat arguments = one command.Stat path_of arguments
-command_of Lists arguments = one command.List path_of arguments
-command_of Fsync arguments = one command.Fsync path_of arguments
+command_of Create words = option_map command.Create (one name_path_of words)
+command_of Mkdir words = option_map command.Mkdir (one name_path_of words)
+command_of Link words = option_map (λ read. command.Link read.0 read.1) (two path_of name_path_of words)
+command_of Unlink words = option_map command.Unlink (one name_path_of words)
+command_of Rmdir words = option_map command.Rmdir (one name_path_of words)
+command_of Rename words = option_map (λ read. command.Rename read.0 read.1) (two name_path_of name_path_of words)
+command_of Write words = option_map (λ read. command.Write read.0 read.1 read.2) (three path_of offset_of bytes_of words)
+command_of Read words = option_map (λ read. command.Read read.0 read.1 read.2) (three path_of offset_of count_of words)
+command_of Trunc words = option_map (λ read. command.Trunc read.0 read.1) (two path_of offset_of words)
+command_of Stat words = option_map command.Stat (one path_of words)
+command_of Lists words = option_map command.List (one path_of words)
+command_of Fsync words = option_map command.Fsync (one path_of words)
 
 -- a worker's number: up to 65,535
 abbrev pub worker_of : List ℕ → Option ℕ
 worker_of word = number_up_to 65535 word
 
--- a line of a worker
-abbrev pub line_with : ℕ → Command → Line
-line_with worker command = record { worker = worker; command = command }
+-- a line with a worker and a command
+abbrev pub line_with : ℕ × Command → Line
+line_with read = record { worker = read.0; command = read.1 }
+
+-- the command of a verb, where the word is one
+abbrev pub command_with : Option Verb → List (List ℕ) → Option Command
+command_with (Some verb) words = command_of verb words
+command_with None words = None
 
 -- a worker, a command's word and the words behind it
 abbrev pub line_of : List (List ℕ) → Option Line
-line_of (worker ∷ verb ∷ arguments) =
-    both line_with (worker_of worker) (option_and_then (λ verb. command_of verb arguments) (verb_of verb))
+line_of (worker ∷ verb ∷ words) = option_map line_with (option_zip (worker_of worker) (command_with (verb_of verb) words))
 line_of (worker ∷ []) = None
 line_of [] = None
 

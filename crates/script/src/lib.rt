@@ -1,14 +1,20 @@
 //! The script of a run: its lines read as commands, the calls that a worker makes for them, and the history written as text.
 #![tactic(auto)]
 
+mod arguments;
 mod commands;
+mod draft;
 mod fault;
 mod phases;
+mod meaning;
+mod operands;
 mod parts;
 mod paths;
+mod reader;
 mod verbs;
 mod words;
 
 pub use commands::{Command, Line, NamePath};
 pub use fault::ScriptFault;
 pub use phases::{Phase, Script};
+pub use reader::{LONGEST_SCRIPT, MOST_LINES, read};

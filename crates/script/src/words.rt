@@ -1,4 +1,4 @@
-ghost use Rattle.std.specs.Prelude.{◌≡◌, ◌-◌, ◌^◌, ◌∷◌, [], ◌<◌, ◌≤◌, length, nat_le, if◌then◌else◌, IfOk, MatchOption, Some, None};
+ghost use Rattle.std.specs.Prelude.{◌≡◌, ◌-◌, ◌^◌, ◌∷◌, [], ◌<◌, ◌≤◌, length, nat_le, if◌then◌else◌, IfOk, IfSome, MatchOption, Some, None};
 ghost use Rattle.std.specs.List.{list_all};
 ghost use Rattle.script.specs.Words.{is_decimal, is_number, with_digit, value_of, number_up_to, bytes_of};
 
@@ -11,7 +11,8 @@ const MOST_DIGITS: usize = 131_072;
 
 // The number that a word spells, where it is at most this.
 pub fn number_up_to(most: u64, word: &[u8]) -> Option<u64>
-    ensures { result ≡ number_up_to most word.now }
+    ensures value { result ≡ number_up_to most word.now }
+    ensures within { IfSome result (λ value. value ≤ most) }
 {
     if !is_number(word) {
         return None;
