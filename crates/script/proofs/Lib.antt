@@ -2,3 +2,5 @@ pub mod LineLemmas
 pub mod NumberLemmas
 pub mod PathLemmas
 pub mod PhaseLemmas
+pub mod BoolLemmas
+pub mod TextLemmas

@@ -4,7 +4,8 @@ use Rattle.script.specs.declared.commands.Line.{Line}
 use Rattle.script.specs.declared.verbs.Meaning.{Meaning}
 use Rattle.script.specs.declared.verbs.Meaning.TheVariants.{Skipped, Ends, Does}
 use Rattle.script.specs.Commands.{meaning_of}
-use Rattle.script.specs.Phases.{with_line, with_meaning, first_phase_longer, phases_from, with_next}
+use Rattle.script.specs.Phases.{with_line, with_meaning, first_phase_longer, phases_from}
+use Rattle.script.specs.Drafts.{with_next}
 use Rattle.script.specs.Lines.{lines}
 
 -- lines at the front of the first phase

@@ -1,4 +1,5 @@
 pub mod Commands
+pub mod Drafts
 pub mod Faults
 pub mod Follows
 pub mod Lines

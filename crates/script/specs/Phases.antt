@@ -1,5 +1,5 @@
 -- The phases of a script.
-use Rattle.std.specs.Prelude.{ℕ, suc, List, [], ◌∷◌, ◌++◌, Option, Some, None, Result, Ok, Err}
+use Rattle.std.specs.Prelude.{ℕ, suc, List, [], ◌∷◌, Option, Some, None, Result, Ok, Err}
 use Rattle.script.specs.declared.commands.Line.{Line}
 use Rattle.script.specs.declared.verbs.Meaning.{Meaning}
 use Rattle.script.specs.declared.verbs.Meaning.TheVariants.{Skipped, Ends, Does}
@@ -31,9 +31,3 @@ phases_from number (line ∷ later) = with_line number (meaning_of line) (phases
 -- The phases of a script, or its first line outside the grammar, counted from 1. The last phase is there even where it has no lines.
 abbrev pub phases_of : List ℕ → Result (List (List Line)) ℕ
 phases_of text = phases_from 1 (lines text)
-
--- phases that have ended and the lines of the one that has not, after the next line
-abbrev pub with_next : Meaning → List (List Line) × List Line → List (List Line) × List Line
-with_next Skipped draft = draft
-with_next Ends draft = (draft.0 ++ draft.1 ∷ [], [])
-with_next (Does line) draft = (draft.0, draft.1 ++ line ∷ [])

@@ -1,5 +1,5 @@
 ghost use Rattle.std.specs.Prelude.{◌≡◌, ◌++◌, ◌∷◌, [], IfOk, OnOk};
-ghost use Rattle.script.specs.Phases.{with_next};
+ghost use Rattle.script.specs.Drafts.{with_next};
 
 use crate::verbs::Meaning;
 use crate::{Line, Phase, Script};
