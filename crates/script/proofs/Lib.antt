@@ -4,3 +4,4 @@ pub mod PathLemmas
 pub mod PhaseLemmas
 pub mod BoolLemmas
 pub mod TextLemmas
+pub mod WalkLemmas

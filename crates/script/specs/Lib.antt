@@ -5,6 +5,8 @@ pub mod Follows
 pub mod Lines
 pub mod Paths
 pub mod Phases
+pub mod Places
 pub mod Texts
 pub mod Walks
 pub mod Words
+pub mod Workers

@@ -1,5 +1,5 @@
 -- How a worker walks: the calls of its commands, one by one, each after the replies to those before it.
-use Rattle.std.specs.Prelude.{ℕ, ◌-◌, ◌==◌, List, [], ◌∷◌, length, take, slice_index_or, fold, map, filter, Option, Some, None}
+use Rattle.std.specs.Prelude.{ℕ, ◌==◌, List, [], ◌∷◌, fold, map, filter, Option, Some, None}
 use Rattle.sfs_base.specs.declared.numbers.Kind.TheVariants.{File, Directory}
 use Rattle.sfs_base.specs.declared.numbers.NodeId.{NodeId}
 use Rattle.sfs_tree.specs.declared.call.Call.{Call}
@@ -9,14 +9,7 @@ use Rattle.sfs_tree.specs.declared.reply.Reply.TheVariants as reply
 use Rattle.script.specs.declared.commands.Command.{Command}
 use Rattle.script.specs.declared.commands.Command.TheVariants.{Create, Mkdir, Link, Unlink, Rmdir, Rename, Write, Read, Trunc, Stat, List as Lists, Fsync}
 use Rattle.script.specs.declared.commands.Line.{Line}
-
--- the names that lead to the directory of a place
-abbrev pub parent : List (List ℕ) → List (List ℕ)
-parent place = take (length place - 1) place
-
--- the name of a place in its directory
-abbrev pub last_name : List (List ℕ) → List ℕ
-last_name place = slice_index_or place (length place - 1) []
+use Rattle.script.specs.Places.{parent, last_name}
 
 -- the names that a command walks first, from the root on: of a path all, of a place those of its directory
 abbrev pub first_walk : Command → List (List ℕ)

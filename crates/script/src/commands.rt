@@ -1,5 +1,5 @@
-ghost use Rattle.std.specs.Prelude.{◌≡◌, ◌<◌, ◌-◌, [], length, take, slice_get, Some, None, MatchOption};
-ghost use Rattle.std.specs.Option.{option_copied};
+ghost use Rattle.std.specs.Prelude.{◌≡◌, [], MatchOption};
+ghost use Rattle.script.specs.Places.{parent, last_name};
 
 use sfs_base::{Chunk, Name, Path};
 use std::marker::Model;
@@ -34,7 +34,7 @@ impl NamePath {
 
     /// The names that lead to the directory, from the root on.
     pub fn parent(&self) -> &[Name]
-        ensures { result.now ≡ take (length self.now - 1) self.now }
+        ensures { result.now ≡ parent self.now }
     {
         let names = self.path.names();
         &names[..names.len() - 1]
@@ -42,7 +42,7 @@ impl NamePath {
 
     /// The name in the directory.
     pub fn name(&self) -> &Name
-        ensures { Some result.now ≡ slice_get self.now (length self.now - 1) }
+        ensures { result.now ≡ last_name self.now }
     {
         let names = self.path.names();
         &names[names.len() - 1]
