@@ -5,3 +5,5 @@ pub mod PhaseLemmas
 pub mod BoolLemmas
 pub mod TextLemmas
 pub mod WalkLemmas
+pub mod FollowLemmas
+pub mod EndLemmas

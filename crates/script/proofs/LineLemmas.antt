@@ -1,5 +1,5 @@
 -- The first line and the first part of some bytes.
-use Rattle.std.proofs.Common.{◌≡◌, ℕ, zero, suc, ◌<◌, ◌≤◌, Bool, true, false, cond, List, [], ◌∷◌, ◌++◌, length, take, drop, get_or, Some, None, Result, Ok, Err, refl, sym, ap, ◌∙◌, arith, nat_eq, ltb, position, append_assoc}
+use Rattle.std.proofs.Common.{◌≡◌, ℕ, zero, suc, ◌<◌, ◌≤◌, Bool, true, false, cond, List, [], ◌∷◌, length, take, drop, get_or, Some, None, refl, sym, ap, ◌∙◌, arith, nat_eq, ltb, position}
 use borrow.Author.Tests.{ltb-false}
 use Rattle.std.specs.List.{position_or_len}
 use Rattle.std.proofs.Common.{◌-◌}

@@ -1,9 +1,8 @@
 -- The text of a name and of a path.
-use Rattle.std.proofs.Common.{◌≡◌, ℕ, zero, suc, ◌+◌, ◌-◌, ◌<◌, Bool, true, false, ◌&&◌, List, [], ◌∷◌, ◌++◌, length, drop, take, get_or, Option, Some, None, refl, sym, ap, ◌∙◌, arith, append_assoc, append-nil}
+use Rattle.std.proofs.Common.{◌≡◌, ℕ, zero, suc, ◌<◌, true, false, ◌&&◌, List, [], ◌∷◌, ◌++◌, length, drop, get_or, Option, Some, None, refl, sym, ap, ◌∙◌, arith, append_assoc}
 use Rattle.std.specs.Borrow.{Bor}
-use Rattle.std.proofs.lemmas.List.{take_rest}
 use Rattle.script.specs.Lines.{parts}
-use Rattle.script.specs.Paths.{may_stand, is_name_text, with_name, names_of}
+use Rattle.script.specs.Paths.{may_stand, is_name_text, with_name}
 
 -- the text from a place on: its byte, and the text behind
 pub text_at : (text : List ℕ) (place : ℕ) → place < length text → is_name_text (drop place text) ≡ (may_stand (get_or text place 0) (drop (suc place) text) && is_name_text (drop (suc place) text))

@@ -1,10 +1,10 @@
 -- The phases of a script, line by line.
-use Rattle.std.proofs.Common.{◌≡◌, ℕ, suc, ◌+◌, arith, List, [], ◌∷◌, ◌++◌, Option, Some, None, Result, Ok, Err, refl, sym, ap, ◌∙◌, append_assoc, append-nil}
+use Rattle.std.proofs.Common.{◌≡◌, ℕ, suc, ◌+◌, arith, List, [], ◌∷◌, ◌++◌, Some, Result, Ok, Err, refl, sym, ap, ◌∙◌, append_assoc, append-nil}
 use Rattle.script.specs.declared.commands.Line.{Line}
 use Rattle.script.specs.declared.verbs.Meaning.{Meaning}
 use Rattle.script.specs.declared.verbs.Meaning.TheVariants.{Skipped, Ends, Does}
 use Rattle.script.specs.Commands.{meaning_of}
-use Rattle.script.specs.Phases.{with_line, with_meaning, first_phase_longer, phases_from}
+use Rattle.script.specs.Phases.{with_line, first_phase_longer, phases_from}
 use Rattle.script.specs.Drafts.{with_next}
 use Rattle.script.specs.Lines.{lines}
 

@@ -1,7 +1,6 @@
 -- A worker at its commands.
-use Rattle.std.proofs.Common.{◌≡◌, ℕ, zero, suc, ◌+◌, ◌<◌, ◌≤◌, Bool, true, false, cond, List, [], ◌∷◌, ◌-◌, length, take, drop, get_or, filter, map, refl, sym, ap, ◌∙◌, arith, nat_eq, eq-eqb}
+use Rattle.std.proofs.Common.{◌≡◌, ℕ, zero, suc, ◌<◌, ◌≤◌, true, false, cond, List, [], ◌∷◌, ◌-◌, length, take, drop, get_or, filter, map, refl, sym, ap, ◌∙◌, arith, nat_eq, eq-eqb}
 use borrow.Author.Tests.{ne_eqb}
-use Rattle.script.specs.declared.commands.Command.{Command}
 use Rattle.script.specs.declared.commands.Line.{Line}
 use Rattle.script.specs.Walks.{Standing, Progress, Done, begun, go_on, commands_of}
 

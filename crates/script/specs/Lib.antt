@@ -2,6 +2,7 @@ pub mod Commands
 pub mod Drafts
 pub mod Faults
 pub mod Follows
+pub mod Limits
 pub mod Lines
 pub mod Paths
 pub mod Phases

@@ -61,12 +61,7 @@ fn on_first<'a>(command: &'a Command, node: NodeId, names: &'a [Name]) -> Leg<'a
 }
 
 // What is left on the second walk, at a node with these names ahead.
-fn on_second<'a>(
-    command: &'a Command,
-    first: NodeId,
-    node: NodeId,
-    names: &'a [Name],
-) -> Leg<'a>
+fn on_second<'a>(command: &'a Command, first: NodeId, node: NodeId, names: &'a [Name]) -> Leg<'a>
     ensures { progress_of result ≡ on_second command.now first.0 node.0 names.now }
 {
     match names {
@@ -90,29 +85,18 @@ pub fn after<'a>(leg: Leg<'a>, reply: &Reply) -> Leg<'a>
     ensures { progress_of result ≡ after (progress_of leg.entry) reply.now }
 {
     let child = match reply {
-        Reply::Node { node, kind: _ } => *node,
+        Reply::Node { node, .. } => *node,
         _ => return Leg::Done,
     };
     match leg {
-        Leg::First {
-            command,
-            node: _,
-            name: _,
-            names,
-        } => on_first(command, child, names),
+        Leg::First { command, names, .. } => on_first(command, child, names),
         Leg::Second {
             command,
             first,
-            node: _,
-            name: _,
             names,
+            ..
         } => on_second(command, first, child, names),
-        Leg::Last {
-            command: _,
-            first: _,
-            second: _,
-        } => Leg::Done,
-        Leg::Done => Leg::Done,
+        Leg::Last { .. } | Leg::Done => Leg::Done,
     }
 }
 
@@ -121,19 +105,8 @@ pub fn call_of(leg: Leg<'_>) -> Result<Option<Call>, NoMemory>
     ensures { IfOk result (λ call. call ≡ call_of (progress_of leg.entry)) }
 {
     match leg {
-        Leg::First {
-            command: _,
-            node,
-            name,
-            names: _,
-        } => Ok(Some(look(node, name)?)),
-        Leg::Second {
-            command: _,
-            first: _,
-            node,
-            name,
-            names: _,
-        } => Ok(Some(look(node, name)?)),
+        Leg::First { node, name, .. } => Ok(Some(look(node, name)?)),
+        Leg::Second { node, name, .. } => Ok(Some(look(node, name)?)),
         Leg::Last {
             command,
             first,

@@ -2,7 +2,7 @@ ghost use Rattle.std.specs.Prelude.{◌≡◌, IfOk};
 ghost use Rattle.script.specs.Lines.{words};
 ghost use Rattle.script.specs.Commands.{command_of, line_of, meaning_of};
 
-use crate::operands::{path, path_and_bytes, path_and_place, path_and_range, path_and_size, place, two_places};
+use crate::operands::{link, path, place, read, rename, trunc, write};
 use crate::parts::first_part;
 use crate::verbs::{Meaning, Verb, verb_of};
 use crate::words::number_up_to;
@@ -52,23 +52,19 @@ fn line_of(alloc: Global, line: &[u8]) -> Result<Option<Line>, NoMemory>
 }
 
 // The command of a verb and the words behind it.
-fn command_of(
-    alloc: Global,
-    verb: Verb,
-    arguments: &[u8],
-) -> Result<Option<Command>, NoMemory>
+fn command_of(alloc: Global, verb: Verb, arguments: &[u8]) -> Result<Option<Command>, NoMemory>
     ensures { IfOk result (λ command. command ≡ command_of verb (words arguments.now)) }
 {
     match verb {
         Verb::Create => Ok(place(alloc, arguments)?.map(|path| Command::Create { path })),
         Verb::Mkdir => Ok(place(alloc, arguments)?.map(|path| Command::Mkdir { path })),
-        Verb::Link => Ok(path_and_place(alloc, arguments)?.map(|(from, to)| Command::Link { from, to })),
+        Verb::Link => link(alloc, arguments),
         Verb::Unlink => Ok(place(alloc, arguments)?.map(|path| Command::Unlink { path })),
         Verb::Rmdir => Ok(place(alloc, arguments)?.map(|path| Command::Rmdir { path })),
-        Verb::Rename => Ok(two_places(alloc, arguments)?.map(|(from, to)| Command::Rename { from, to })),
-        Verb::Write => Ok(path_and_bytes(alloc, arguments)?.map(|(path, at, bytes)| Command::Write { path, at, bytes })),
-        Verb::Read => Ok(path_and_range(alloc, arguments)?.map(|(path, at, count)| Command::Read { path, at, count })),
-        Verb::Trunc => Ok(path_and_size(alloc, arguments)?.map(|(path, size)| Command::Trunc { path, size })),
+        Verb::Rename => rename(alloc, arguments),
+        Verb::Write => write(alloc, arguments),
+        Verb::Read => read(alloc, arguments),
+        Verb::Trunc => trunc(alloc, arguments),
         Verb::Stat => Ok(path(alloc, arguments)?.map(|path| Command::Stat { path })),
         Verb::List => Ok(path(alloc, arguments)?.map(|path| Command::List { path })),
         Verb::Fsync => Ok(path(alloc, arguments)?.map(|path| Command::Fsync { path })),

@@ -1,15 +1,15 @@
 // What the words behind a verb spell, by the kinds of words that they have to be.
 ghost use Rattle.std.specs.Prelude.{◌≡◌, ◌∷◌, [], IfOk, IfSome};
 ghost use Rattle.script.specs.Lines.{words};
-ghost use Rattle.script.specs.Words.{bytes_of};
 ghost use Rattle.script.specs.Paths.{path_of, name_path_of};
-ghost use Rattle.script.specs.Commands.{one, two, three, offset_of, count_of};
+ghost use Rattle.script.specs.Commands.{one, command_of};
 
-use crate::NamePath;
 use crate::arguments::{one_word, three_words, two_words};
 use crate::paths::{name_path_of, path_of};
+use crate::verbs::Verb;
 use crate::words::{bytes_of, number_up_to};
-use sfs_base::{Chunk, NoMemory, Path};
+use crate::{Command, NamePath};
+use sfs_base::{NoMemory, Path};
 use std::alloc::Global;
 
 // A path.
@@ -32,12 +32,9 @@ pub fn place(alloc: Global, arguments: &[u8]) -> Result<Option<NamePath>, NoMemo
     }
 }
 
-// A path, and a path with a name.
-pub fn path_and_place(
-    alloc: Global,
-    arguments: &[u8],
-) -> Result<Option<(Path, NamePath)>, NoMemory>
-    ensures { IfOk result (λ read. read ≡ two path_of name_path_of (words arguments.now)) }
+// A link's path, and its path with a name.
+pub fn link(alloc: Global, arguments: &[u8]) -> Result<Option<Command>, NoMemory>
+    ensures { IfOk result (λ read. read ≡ command_of Verb.Link (words arguments.now)) }
 {
     let Some((first, second)) = two_words(arguments) else {
         return Ok(None);
@@ -48,15 +45,12 @@ pub fn path_and_place(
     let Some(to) = name_path_of(alloc, second)? else {
         return Ok(None);
     };
-    Ok(Some((from, to)))
+    Ok(Some(Command::Link { from, to }))
 }
 
-// Two paths with names.
-pub fn two_places(
-    alloc: Global,
-    arguments: &[u8],
-) -> Result<Option<(NamePath, NamePath)>, NoMemory>
-    ensures { IfOk result (λ read. read ≡ two name_path_of name_path_of (words arguments.now)) }
+// A rename's two paths with names.
+pub fn rename(alloc: Global, arguments: &[u8]) -> Result<Option<Command>, NoMemory>
+    ensures { IfOk result (λ read. read ≡ command_of Verb.Rename (words arguments.now)) }
 {
     let Some((first, second)) = two_words(arguments) else {
         return Ok(None);
@@ -67,15 +61,12 @@ pub fn two_places(
     let Some(to) = name_path_of(alloc, second)? else {
         return Ok(None);
     };
-    Ok(Some((from, to)))
+    Ok(Some(Command::Rename { from, to }))
 }
 
-// A path and a size.
-pub fn path_and_size(
-    alloc: Global,
-    arguments: &[u8],
-) -> Result<Option<(Path, u64)>, NoMemory>
-    ensures { IfOk result (λ read. read ≡ two path_of offset_of (words arguments.now)) }
+// A truncation's path and size.
+pub fn trunc(alloc: Global, arguments: &[u8]) -> Result<Option<Command>, NoMemory>
+    ensures { IfOk result (λ read. read ≡ command_of Verb.Trunc (words arguments.now)) }
 {
     let Some((first, second)) = two_words(arguments) else {
         return Ok(None);
@@ -86,15 +77,12 @@ pub fn path_and_size(
     let Some(size) = number_up_to(u64::MAX, second) else {
         return Ok(None);
     };
-    Ok(Some((path, size)))
+    Ok(Some(Command::Trunc { path, size }))
 }
 
-// A path, an offset and a count.
-pub fn path_and_range(
-    alloc: Global,
-    arguments: &[u8],
-) -> Result<Option<(Path, u64, u32)>, NoMemory>
-    ensures { IfOk result (λ read. read ≡ three path_of offset_of count_of (words arguments.now)) }
+// A read's path, offset and count.
+pub fn read(alloc: Global, arguments: &[u8]) -> Result<Option<Command>, NoMemory>
+    ensures { IfOk result (λ read. read ≡ command_of Verb.Read (words arguments.now)) }
 {
     let Some((first, second, third)) = three_words(arguments) else {
         return Ok(None);
@@ -108,15 +96,13 @@ pub fn path_and_range(
     let Some(count) = number_up_to(65_536, third) else {
         return Ok(None);
     };
-    Ok(Some((path, at, count as u32)))
+    let count = count as u32;
+    Ok(Some(Command::Read { path, at, count }))
 }
 
-// A path, an offset and bytes.
-pub fn path_and_bytes(
-    alloc: Global,
-    arguments: &[u8],
-) -> Result<Option<(Path, u64, Chunk)>, NoMemory>
-    ensures { IfOk result (λ read. read ≡ three path_of offset_of bytes_of (words arguments.now)) }
+// A write's path, offset and bytes.
+pub fn write(alloc: Global, arguments: &[u8]) -> Result<Option<Command>, NoMemory>
+    ensures { IfOk result (λ read. read ≡ command_of Verb.Write (words arguments.now)) }
 {
     let Some((first, second, third)) = three_words(arguments) else {
         return Ok(None);
@@ -130,5 +116,5 @@ pub fn path_and_bytes(
     let Some(bytes) = bytes_of(alloc, third)? else {
         return Ok(None);
     };
-    Ok(Some((path, at, bytes)))
+    Ok(Some(Command::Write { path, at, bytes }))
 }

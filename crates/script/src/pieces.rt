@@ -19,12 +19,13 @@ pub fn write_name(text: &mut String, name: &Name) -> Result<(), NoMemory>
     Ok(())
 }
 
-// A directory and a name in it, a space before each.
-pub fn write_row(text: &mut String, dir: NodeId, name: &Name) -> Result<(), NoMemory>
-    ensures { OnOk result (string_bytes text.new ≡ string_bytes text.old ++ row_text dir.0 name.now) }
+// A word, and behind it a directory and a name in it, a space before each.
+pub fn write_row(text: &mut String, word: &str, dir: NodeId, name: &Name) -> Result<(), NoMemory>
+    ensures { OnOk result (string_bytes text.new
+        ≡ string_bytes text.old ++ (word.now ++ row_text dir.0 name.now)) }
 {
     let dir = dir.0;
-    write!(text, " {dir} ")?;
+    write!(text, "{word} {dir} ")?;
     write_name(text, name)
 }
 

@@ -5,7 +5,7 @@ ghost use Rattle.script.specs.Places.{last_name};
 ghost use Rattle.script.specs.Walks.{first_walk, second_walk, last_call, node_of};
 
 use crate::{Command, NamePath};
-use sfs_base::{Kind, Name, NoMemory, NodeId};
+use sfs_base::{Chunk, Kind, Name, NoMemory, NodeId};
 use sfs_tree::Call;
 
 // The names that a command walks first, from the root on.
@@ -14,12 +14,12 @@ pub fn first_walk(command: &Command) -> &[Name]
 {
     match command {
         Command::Create { path } | Command::Mkdir { path } => path.parent(),
-        Command::Link { from, to: _ } => from.names(),
+        Command::Link { from, .. } => from.names(),
         Command::Unlink { path } | Command::Rmdir { path } => path.parent(),
-        Command::Rename { from, to: _ } => from.parent(),
-        Command::Write { path, at: _, bytes: _ } => path.names(),
-        Command::Read { path, at: _, count: _ } => path.names(),
-        Command::Trunc { path, size: _ } => path.names(),
+        Command::Rename { from, .. } => from.parent(),
+        Command::Write { path, .. } | Command::Read { path, .. } | Command::Trunc { path, .. } => {
+            path.names()
+        }
         Command::Stat { path } | Command::List { path } | Command::Fsync { path } => path.names(),
     }
 }
@@ -29,8 +29,8 @@ pub fn second_walk(command: &Command) -> &[Name]
     ensures { result.now ≡ second_walk command.now }
 {
     match command {
-        Command::Link { from: _, to } => to.parent(),
-        Command::Rename { from: _, to } => to.parent(),
+        Command::Link { to, .. } => to.parent(),
+        Command::Rename { to, .. } => to.parent(),
         _ => &[],
     }
 }
@@ -51,38 +51,66 @@ fn make(dir: NodeId, path: &NamePath, kind: Kind) -> Result<Call, NoMemory>
     Ok(Call::Make { dir, name, kind })
 }
 
+// The call that gives a file a second name.
+fn link(file: NodeId, dir: NodeId, path: &NamePath) -> Result<Call, NoMemory>
+    ensures { IfOk result (λ link. link ≡ call.Link file dir (last_name path.now)) }
+{
+    let name = path.name().copy()?;
+    Ok(Call::Link { file, dir, name })
+}
+
+// The call that moves what is at a place to another.
+fn rename(dir: NodeId, from: &NamePath, to_dir: NodeId, to: &NamePath) -> Result<Call, NoMemory>
+    ensures { IfOk result (λ rename.
+        rename ≡ call.Rename dir (last_name from.now) to_dir (last_name to.now)) }
+{
+    let name = from.name().copy()?;
+    let to_name = to.name().copy()?;
+    Ok(Call::Rename {
+        dir,
+        name,
+        to_dir,
+        to_name,
+    })
+}
+
+// The call that puts bytes into a file.
+fn write(file: NodeId, at: u64, bytes: &Chunk) -> Result<Call, NoMemory>
+    ensures { IfOk result (λ write. write ≡ call.Write file at bytes.now) }
+{
+    let bytes = bytes.copy()?;
+    Ok(Call::Write { file, at, bytes })
+}
+
 // The last call of a command, by the nodes where its walks ended.
 pub fn last_call(command: &Command, first: NodeId, second: NodeId) -> Result<Call, NoMemory>
     ensures { IfOk result (λ last. last ≡ last_call command.now first.0 second.0) }
 {
+    let (file, dir, node) = (first, first, first);
     match command {
-        Command::Create { path } => make(first, path, Kind::File),
-        Command::Mkdir { path } => make(first, path, Kind::Directory),
-        Command::Link { from: _, to } => {
-            let name = to.name().copy()?;
-            Ok(Call::Link { file: first, dir: second, name })
-        }
+        Command::Create { path } => make(dir, path, Kind::File),
+        Command::Mkdir { path } => make(dir, path, Kind::Directory),
+        Command::Link { to, .. } => link(file, second, to),
         Command::Unlink { path } => {
             let name = path.name().copy()?;
-            Ok(Call::Unlink { dir: first, name })
+            Ok(Call::Unlink { dir, name })
         }
         Command::Rmdir { path } => {
             let name = path.name().copy()?;
-            Ok(Call::Rmdir { dir: first, name })
+            Ok(Call::Rmdir { dir, name })
         }
-        Command::Rename { from, to } => {
-            let name = from.name().copy()?;
-            let to_name = to.name().copy()?;
-            Ok(Call::Rename { dir: first, name, to_dir: second, to_name })
+        Command::Rename { from, to } => rename(dir, from, second, to),
+        Command::Write { at, bytes, .. } => write(file, *at, bytes),
+        Command::Read { at, count, .. } => {
+            let (at, count) = (*at, *count);
+            Ok(Call::Read { file, at, count })
         }
-        Command::Write { path: _, at, bytes } => {
-            let bytes = bytes.copy()?;
-            Ok(Call::Write { file: first, at: *at, bytes })
+        Command::Trunc { size, .. } => {
+            let size = *size;
+            Ok(Call::Trunc { file, size })
         }
-        Command::Read { path: _, at, count } => Ok(Call::Read { file: first, at: *at, count: *count }),
-        Command::Trunc { path: _, size } => Ok(Call::Trunc { file: first, size: *size }),
-        Command::Stat { path: _ } => Ok(Call::Stat { node: first }),
-        Command::List { path: _ } => Ok(Call::List { dir: first }),
-        Command::Fsync { path: _ } => Ok(Call::Fsync { node: first }),
+        Command::Stat { .. } => Ok(Call::Stat { node }),
+        Command::List { .. } => Ok(Call::List { dir }),
+        Command::Fsync { .. } => Ok(Call::Fsync { node }),
     }
 }

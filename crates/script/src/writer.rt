@@ -37,46 +37,35 @@ fn write_call(alloc: Global, text: &mut String, call: &Call) -> Result<(), NoMem
     ensures { OnOk result (string_bytes text.new ≡ string_bytes text.old ++ call_text call.now) }
 {
     match call {
-        Call::Look { dir, name } => {
-            write!(text, "look")?;
-            write_row(text, *dir, name)
-        }
-        Call::Make { dir, name, kind } => {
-            text.push_str(make_word(*kind))?;
-            write_row(text, *dir, name)
-        }
+        Call::Look { dir, name } => write_row(text, "look", *dir, name),
+        Call::Make { dir, name, kind } => write_row(text, make_word(*kind), *dir, name),
         Call::Link { file, dir, name } => {
-            let file = file.0;
-            write!(text, "link {file}")?;
-            write_row(text, *dir, name)
+            write_node(text, "link", *file)?;
+            write_row(text, "", *dir, name)
         }
-        Call::Unlink { dir, name } => {
-            write!(text, "unlink")?;
-            write_row(text, *dir, name)
-        }
-        Call::Rmdir { dir, name } => {
-            write!(text, "rmdir")?;
-            write_row(text, *dir, name)
-        }
-        Call::Rename { dir, name, to_dir, to_name } => {
-            write!(text, "rename")?;
-            write_row(text, *dir, name)?;
-            write_row(text, *to_dir, to_name)
+        Call::Unlink { dir, name } => write_row(text, "unlink", *dir, name),
+        Call::Rmdir { dir, name } => write_row(text, "rmdir", *dir, name),
+        Call::Rename {
+            dir,
+            name,
+            to_dir,
+            to_name,
+        } => {
+            write_row(text, "rename", *dir, name)?;
+            write_row(text, "", *to_dir, to_name)
         }
         Call::Write { file, at, bytes } => {
-            let file = file.0;
-            write!(text, "write {file} {at} ")?;
+            write_node(text, "write", *file)?;
+            write!(text, " {at} ")?;
             write_bytes(alloc, text, bytes)
         }
         Call::Read { file, at, count } => {
-            let file = file.0;
-            write!(text, "read {file} {at} {count}")?;
-            Ok(())
+            write_node(text, "read", *file)?;
+            Ok(write!(text, " {at} {count}")?)
         }
         Call::Trunc { file, size } => {
-            let file = file.0;
-            write!(text, "trunc {file} {size}")?;
-            Ok(())
+            write_node(text, "trunc", *file)?;
+            Ok(write!(text, " {size}")?)
         }
         Call::Stat { node } => write_node(text, "stat", *node),
         Call::List { dir } => write_node(text, "list", *dir),

@@ -1,4 +1,4 @@
-use Rattle.std.proofs.Common.{◌+◌, arith, drop, length, get_or, fold, sym, ap, ◌∙◌, length-drop}
+use Rattle.std.proofs.Common.{◌+◌, arith, drop, fold, sym, ap, ◌∙◌, length-drop}
 use Rattle.script.specs.Words.{with_digit}
 use Rattle.script.proofs.NumberLemmas.{too_large, fits, one_digit}
 use Rattle.script.proofs.words.value_of.Goals as goal

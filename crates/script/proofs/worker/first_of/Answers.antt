@@ -1,4 +1,4 @@
-use Rattle.std.proofs.Common.{◌+◌, suc, add-one, arith, ◌∙◌}
+use Rattle.std.proofs.Common.{◌+◌, add-one, ◌∙◌}
 use Rattle.std.proofs.lemmas.List.{take_rest}
 use Rattle.script.proofs.WalkLemmas.{passed, at_own, at_end, none_left}
 use Rattle.script.proofs.worker.first_of.Goals as goal
