@@ -40,11 +40,11 @@ fn line_count(text: &[u8]) -> usize
     ensures { result ≡ length (lines text.now) }
 {
     let mut count = 0;
-    let mut rest = text;
-    while !rest.is_empty() {
-        let (_, behind) = first_line(rest);
+    let mut left = text;
+    while !left.is_empty() {
+        let (_, behind) = first_line(left);
         count += 1;
-        rest = behind;
+        left = behind;
     }
     count
 }

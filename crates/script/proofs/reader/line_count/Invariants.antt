@@ -2,11 +2,11 @@ use Rattle.std.proofs.Common.{◌≡◌, ◌+◌, ◌≤◌, length}
 use Rattle.script.specs.Lines.{lines}
 use Rattle.script.proofs.reader.line_count.Given as goal
 
-abbrev pub invariant-loop-rest : goal.invariant-loop-rest
-invariant-loop-rest l = record {
-  counted : l.count + length (lines l.rest) ≡ length (lines l.text);
-  few : l.count + length l.rest ≤ length l.text;
+abbrev pub invariant-loop-left : goal.invariant-loop-left
+invariant-loop-left l = record {
+  counted : l.count + length (lines l.left) ≡ length (lines l.text);
+  few : l.count + length l.left ≤ length l.text;
 }
 
-abbrev pub decreases-loop-rest : goal.decreases-loop-rest
-decreases-loop-rest l = length l.rest
+abbrev pub decreases-loop-left : goal.decreases-loop-left
+decreases-loop-left l = length l.left
