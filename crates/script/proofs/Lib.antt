@@ -7,3 +7,4 @@ pub mod TextLemmas
 pub mod WalkLemmas
 pub mod FollowLemmas
 pub mod EndLemmas
+pub mod LimitLemmas

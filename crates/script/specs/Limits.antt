@@ -1,6 +1,7 @@
 -- How many calls a worker makes at most.
-use Rattle.std.specs.Prelude.{ℕ, ◌+◌, length, sum_by}
+use Rattle.std.specs.Prelude.{ℕ, ◌+◌, List, length, sum_by}
 use Rattle.script.specs.declared.commands.Command.{Command}
+use Rattle.script.specs.declared.commands.Line.{Line}
 use Rattle.script.specs.Walks.{Progress, First, Second, Last, Done, Standing, first_walk, second_walk}
 
 -- how many calls are left of a command at most: one for each name ahead, and the last
@@ -17,3 +18,11 @@ most_calls command = length (first_walk command) + length (second_walk command) 
 -- How many calls a worker has left at most.
 abbrev pub calls_left : Standing → ℕ
 calls_left standing = calls_ahead standing.progress + sum_by most_calls standing.later
+
+-- how many calls lines make at most
+abbrev pub calls_of_lines : List Line → ℕ
+calls_of_lines lines = sum_by (λ line. most_calls line.command) lines
+
+-- How many calls a script makes at most.
+abbrev pub calls_of_phases : List (List Line) → ℕ
+calls_of_phases phases = sum_by calls_of_lines phases
