@@ -8,3 +8,4 @@ pub mod WalkLemmas
 pub mod FollowLemmas
 pub mod EndLemmas
 pub mod LimitLemmas
+pub mod HistoryLemmas
