@@ -16,26 +16,8 @@ use Rattle.script.specs.Words.{bytes_of}
 use Rattle.script.specs.Commands.{one, two, three, all_three, offset_of, count_of, command_of, verb_of, command_with, worker_of, line_with, line_of, meaning_of}
 use Rattle.script.specs.Phases.{first_phase_longer, with_line, phases_from, phases_of}
 use Rattle.script.specs.Places.{parent}
+use Rattle.script.proofs.LineLemmas.{total, parts_total}
 use Rattle.script.specs.Limits.{most_calls, calls_of_lines, calls_of_phases}
-
--- how many bytes lists have together
-abbrev total : List (List ℕ) → ℕ
-total [] = 0
-total (bytes ∷ later) = length bytes + total later
-
--- the parts of some bytes have these bytes but the separators
-parts_total : (separator : ℕ) (bytes : List ℕ) → total (parts separator bytes) + length (parts separator bytes) ≡ length bytes + 1
-parts_total s [] = refl
-parts_total s (b ∷ bs) =
-    let before = parts_total s bs in
-    elim (nat_eq b s) as (λ t. total (cond t ([] ∷ parts s bs) (first_longer b (parts s bs))) + length (cond t ([] ∷ parts s bs) (first_longer b (parts s bs))) ≡ suc (length bs) + 1) [
-      | true ↦ omega (arith, before)
-      | false ↦ longer b (parts s bs) (length bs) before
-    ]
-  where
-    longer : (b : ℕ) (later : List (List ℕ)) (n : ℕ) → total later + length later ≡ n + 1 → total (first_longer b later) + length (first_longer b later) ≡ suc n + 1
-    longer b [] n e = absurd (omega (arith, e))
-    longer b (l ∷ ls) n e = omega (arith, e)
 
 -- the lines of some bytes have no others
 lines_total : (bytes : List ℕ) → total (lines bytes) ≤ length bytes

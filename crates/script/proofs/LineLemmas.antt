@@ -1,5 +1,5 @@
 -- The first line and the first part of some bytes.
-use Rattle.std.proofs.Common.{◌≡◌, ℕ, zero, suc, ◌<◌, ◌≤◌, Bool, true, false, cond, List, [], ◌∷◌, length, take, drop, get_or, Some, None, refl, sym, ap, ◌∙◌, arith, nat_eq, ltb, position}
+use Rattle.std.proofs.Common.{◌≡◌, ℕ, zero, suc, ◌+◌, ◌<◌, ◌≤◌, Bool, true, false, cond, List, [], ◌∷◌, length, take, drop, get_or, Some, None, refl, sym, ap, ◌∙◌, arith, nat_eq, ltb, position}
 use borrow.Author.Tests.{ltb-false}
 use Rattle.std.specs.List.{position_or_len}
 use Rattle.std.proofs.Common.{◌-◌}
@@ -84,3 +84,22 @@ parts_some s (b ∷ bs) = elim (nat_eq b s) as (λ t. 0 < length (cond t ([] ∷
 -- how many words there are, where one stands before others
 pub parts_more : (separator : ℕ) (bytes : List ℕ) (words : List (List ℕ)) (word : List ℕ) → words ≡ word ∷ parts separator bytes → 2 ≤ length words
 parts_more separator bytes words word e = let some = parts_some separator bytes in omega (arith, ap length e)
+
+-- how many bytes lists have together
+abbrev pub total : List (List ℕ) → ℕ
+total [] = 0
+total (bytes ∷ later) = length bytes + total later
+
+-- the parts of some bytes have these bytes but the separators
+pub parts_total : (separator : ℕ) (bytes : List ℕ) → total (parts separator bytes) + length (parts separator bytes) ≡ length bytes + 1
+parts_total s [] = refl
+parts_total s (b ∷ bs) =
+    let before = parts_total s bs in
+    elim (nat_eq b s) as (λ t. total (cond t ([] ∷ parts s bs) (first_longer b (parts s bs))) + length (cond t ([] ∷ parts s bs) (first_longer b (parts s bs))) ≡ suc (length bs) + 1) [
+      | true ↦ omega (arith, before)
+      | false ↦ longer b (parts s bs) (length bs) before
+    ]
+  where
+    longer : (b : ℕ) (later : List (List ℕ)) (n : ℕ) → total later + length later ≡ n + 1 → total (first_longer b later) + length (first_longer b later) ≡ suc n + 1
+    longer b [] n e = absurd (omega (arith, e))
+    longer b (l ∷ ls) n e = omega (arith, e)

@@ -11,6 +11,10 @@ use percent_encoding::percent_decode;
 use sfs_base::{Name, NameFault, NoMemory, Path};
 use std::alloc::Global;
 
+/// How many bytes spell a path of 4,096 bytes at most: each byte may be escaped by three. A longer
+/// word is refused before memory is taken for its names.
+const LONGEST_TEXT: usize = 3 * 4096;
+
 // The path with at least one name that a word spells.
 pub fn name_path_of(alloc: Global, word: &[u8]) -> Result<Option<NamePath>, NoMemory>
     ensures { IfOk result (λ path. path ≡ name_path_of word.now) }
@@ -25,6 +29,9 @@ pub fn name_path_of(alloc: Global, word: &[u8]) -> Result<Option<NamePath>, NoMe
 pub fn path_of(alloc: Global, word: &[u8]) -> Result<Option<Path>, NoMemory>
     ensures { IfOk result (λ path. path ≡ path_of word.now) }
 {
+    if word.len() > LONGEST_TEXT {
+        return Ok(None);
+    }
     match path_names(alloc, word)? {
         Some(names) => match Path::new(names) {
             Ok(path) => Ok(Some(path)),
