@@ -1,3 +1,11 @@
 pub mod LineLemmas
-pub mod NameLemmas
+pub mod NumberLemmas
+pub mod PathLemmas
+pub mod PhaseLemmas
+pub mod BoolLemmas
 pub mod TextLemmas
+pub mod WalkLemmas
+pub mod FollowLemmas
+pub mod EndLemmas
+pub mod LimitLemmas
+pub mod HistoryLemmas

@@ -4,11 +4,14 @@ use Rattle.std.proofs.Common.{◌||◌, ◌&&◌, ◌/◌, ◌%◌, nat_eq, nat_
 use Rattle.std.specs.Fmt.{digit_glyph}
 use borrow.Author.Tests.{eqb-true, eqb-false, ltb-true, ltb-false, le-ltb, lt-leb}
 use Rattle.std.specs.List.{list_all, range_with_len}
-use Rattle.script.proofs.NameLemmas.{and_first, and_second}
+use Rattle.script.proofs.BoolLemmas.{and_first, and_second}
 use Rattle.percent_encoding.specs.Percent.{percent_encode, encode_byte, percent_encode_byte}
 use Rattle.percent_encoding.specs.AsciiSet.{should_percent_encode, contains}
-use Rattle.script.specs.declared.writer.TheConstants.{ESCAPED}
-use Rattle.script.specs.Texts.{is_shown, byte_text, name_text, entry_text, history_text}
+use Rattle.script.specs.declared.pieces.TheConstants.{ESCAPED}
+use Rattle.sfs_tree.specs.declared.listing.NameKind.{NameKind}
+use Rattle.sfs_tree.specs.NameKinds.{name_kind}
+use Rattle.std.proofs.Common.{map}
+use Rattle.script.specs.Texts.{is_shown, byte_text, name_text, listed_text, entry_text, history_text}
 use Rattle.sfs_tree.specs.declared.history.Entry.{Entry}
 use Rattle.std.proofs.Common.{take, Option, Some, None, IsSome, slice_get}
 use Rattle.std.proofs.Math.Seq.{take-length}
@@ -96,3 +99,12 @@ entries_all history cursor text none within written =
     slice_get_within_some [] k lt = absurd (omega arith)
     slice_get_within_some (x ∷ xs) zero lt = refl
     slice_get_within_some (x ∷ xs) (suc k) lt = slice_get_within_some xs k (omega arith)
+
+-- a listed row
+abbrev pub row_listed : NameKind → List ℕ
+row_listed row = listed_text (name_kind row)
+
+-- the rows as pairs
+pub rows_listed : (rows : List NameKind) → flat_map row_listed rows ≡ flat_map listed_text (map name_kind rows)
+rows_listed [] = refl
+rows_listed (row ∷ rows) = ap (λ later. row_listed row ++ later) (rows_listed rows)

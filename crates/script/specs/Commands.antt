@@ -1,50 +1,106 @@
--- The commands of a script.
-use Rattle.std.specs.Prelude.{ℕ, suc, ◌&&◌, ◌||◌, Bool, List, [], ◌∷◌, length, drop, codes, bytes_eq, nat_le, nat_eq, Option, Some, None, Result, Ok, Err, if◌then◌else◌}
-use Rattle.std.specs.List.{starts_with, list_all}
-use Rattle.script.specs.declared.command.Command.{Command}
-use Rattle.script.specs.declared.command.Command.TheVariants.{Mkdir, Fsync}
-use Rattle.script.specs.Lines.{lines}
+-- The command of a line.
+use Rattle.std.specs.Prelude.{ℕ, ◌^◌, ◌-◌, ◌==◌, List, [], ◌∷◌, codes, bytes_eq, option_map, Option, Some, None, if◌then◌else◌}
+use Rattle.std.specs.Option.{option_zip}
+use Rattle.script.specs.declared.commands.Command.{Command}
+use Rattle.script.specs.declared.commands.Command.TheVariants as command
+use Rattle.script.specs.declared.commands.Line.{Line}
+use Rattle.script.specs.declared.verbs.Verb.{Verb}
+use Rattle.script.specs.declared.verbs.Verb.TheVariants.{Create, Mkdir, Link, Unlink, Rmdir, Rename, Write, Read, Trunc, Stat, List as Lists, Fsync}
+use Rattle.script.specs.declared.verbs.Meaning.{Meaning}
+use Rattle.script.specs.declared.verbs.Meaning.TheVariants.{Skipped, Ends, Does}
+use Rattle.script.specs.Lines.{words}
+use Rattle.script.specs.Words.{number_up_to, bytes_of}
+use Rattle.script.specs.Paths.{path_of, name_path_of}
 
--- a letter from `a` to `z`, or a digit
-abbrev pub is_plain : ℕ → Bool
-is_plain byte = (nat_le 97 byte && nat_le byte 122) || (nat_le 48 byte && nat_le byte 57)
+-- the word of a command
+abbrev pub verb_of : List ℕ → Option Verb
+verb_of word =
+    if bytes_eq word (codes "create") then Some Create else
+    if bytes_eq word (codes "mkdir") then Some Mkdir else
+    if bytes_eq word (codes "link") then Some Link else
+    if bytes_eq word (codes "unlink") then Some Unlink else
+    if bytes_eq word (codes "rmdir") then Some Rmdir else
+    if bytes_eq word (codes "rename") then Some Rename else
+    if bytes_eq word (codes "write") then Some Write else
+    if bytes_eq word (codes "read") then Some Read else
+    if bytes_eq word (codes "trunc") then Some Trunc else
+    if bytes_eq word (codes "stat") then Some Stat else
+    if bytes_eq word (codes "list") then Some Lists else
+    if bytes_eq word (codes "fsync") then Some Fsync else
+    None
 
--- a name that a script may write: 1 to 255 letters and digits
-abbrev pub is_plain_name : List ℕ → Bool
-is_plain_name name = nat_le 1 (length name) && nat_le (length name) 255 && list_all is_plain name
+-- a number below 2 ^ 64
+abbrev pub offset_of : List ℕ → Option ℕ
+offset_of word = number_up_to (2 ^ 64 - 1) word
 
--- what a line has before the name of a directory that is to be made
-abbrev pub MKDIR : List ℕ
-MKDIR = codes "0 mkdir /"
+-- how many bytes are read: up to 65,536
+abbrev pub count_of : List ℕ → Option ℕ
+count_of word = number_up_to 65536 word
 
--- the line that brings the root's changes to the disk
-abbrev pub FSYNC : List ℕ
-FSYNC = codes "0 fsync /"
+-- three values, where all are there
+abbrev pub all_three : {A B C : Type 0} → Option A → Option B → Option C → Option (A × B × C)
+all_three (Some first) (Some second) (Some third) = Some (first, second, third)
+all_three (Some first) (Some second) None = None
+all_three (Some first) None third = None
+all_three None second third = None
 
--- `0 mkdir /NAME`
-abbrev pub mkdir_of : List ℕ → Option Command
-mkdir_of line =
-    if starts_with nat_eq line MKDIR && is_plain_name (drop (length MKDIR) line) then Some (Mkdir (drop (length MKDIR) line)) else None
+-- what one word spells, where there is no other
+abbrev pub one : {A : Type 0} → (List ℕ → Option A) → List (List ℕ) → Option A
+one read (word ∷ []) = read word
+one read _ = None
 
--- the command of a line, if it has one: `0 fsync /` or `0 mkdir /NAME`
-abbrev pub command_of : List ℕ → Option Command
-command_of line = if bytes_eq line FSYNC then Some Fsync else mkdir_of line
+-- what two words spell, where there are no others
+abbrev pub two : {A B : Type 0} → (List ℕ → Option A) → (List ℕ → Option B) → List (List ℕ) → Option (A × B)
+two read_first read_second (first ∷ second ∷ []) = option_zip (read_first first) (read_second second)
+two read_first read_second _ = None
 
--- commands with one more at their front
-abbrev pub with_first : Command → Result (List Command) ℕ → Result (List Command) ℕ
-with_first command (Ok commands) = Ok (command ∷ commands)
-with_first command (Err line) = Err line
+-- what three words spell, where there are no others
+abbrev pub three : {A B C : Type 0} → (List ℕ → Option A) → (List ℕ → Option B) → (List ℕ → Option C) → List (List ℕ) → Option (A × B × C)
+three read_first read_second read_third (first ∷ second ∷ third ∷ []) = all_three (read_first first) (read_second second) (read_third third)
+three read_first read_second read_third _ = None
 
--- a line's command with the commands behind it, or the line's number where it has none
-abbrev pub with_line : ℕ → Option Command → Result (List Command) ℕ → Result (List Command) ℕ
-with_line number None behind = Err number
-with_line number (Some command) behind = with_first command behind
+-- The command of a verb and the words behind it.
+abbrev pub command_of : Verb → List (List ℕ) → Option Command
+command_of Create words = option_map command.Create (one name_path_of words)
+command_of Mkdir words = option_map command.Mkdir (one name_path_of words)
+command_of Link words = option_map (λ read. command.Link read.0 read.1) (two path_of name_path_of words)
+command_of Unlink words = option_map command.Unlink (one name_path_of words)
+command_of Rmdir words = option_map command.Rmdir (one name_path_of words)
+command_of Rename words = option_map (λ read. command.Rename read.0 read.1) (two name_path_of name_path_of words)
+command_of Write words = option_map (λ read. command.Write read.0 read.1 read.2) (three path_of offset_of bytes_of words)
+command_of Read words = option_map (λ read. command.Read read.0 read.1 read.2) (three path_of offset_of count_of words)
+command_of Trunc words = option_map (λ read. command.Trunc read.0 read.1) (two path_of offset_of words)
+command_of Stat words = option_map command.Stat (one path_of words)
+command_of Lists words = option_map command.List (one path_of words)
+command_of Fsync words = option_map command.Fsync (one path_of words)
 
--- the commands of these lines, the first of which has this number, or the number of the first line that has none
-abbrev pub commands_from : ℕ → List (List ℕ) → Result (List Command) ℕ
-commands_from number [] = Ok []
-commands_from number (line ∷ later) = with_line number (command_of line) (commands_from (suc number) later)
+-- a worker's number: up to 65,535
+abbrev pub worker_of : List ℕ → Option ℕ
+worker_of word = number_up_to 65535 word
 
--- The commands of a script, or its first line outside the grammar, counted from 1.
-abbrev pub commands_of : List ℕ → Result (List Command) ℕ
-commands_of script = commands_from 1 (lines script)
+-- a line with a worker and a command
+abbrev pub line_with : ℕ × Command → Line
+line_with read = record { worker = read.0; command = read.1 }
+
+-- the command of a verb, where the word is one
+abbrev pub command_with : Option Verb → List (List ℕ) → Option Command
+command_with (Some verb) words = command_of verb words
+command_with None words = None
+
+-- a worker, a command's word and the words behind it
+abbrev pub line_of : List (List ℕ) → Option Line
+line_of (worker ∷ verb ∷ words) = option_map line_with (option_zip (worker_of worker) (command_with (verb_of verb) words))
+line_of (worker ∷ []) = None
+line_of [] = None
+
+-- what a line with bytes is: a comment where it begins with `#`, the end of a phase where it is `---`, and else a worker's command
+abbrev pub meaning_of_some : ℕ → List ℕ → Option Meaning
+meaning_of_some byte bytes =
+    if byte == 35 then Some Skipped else
+    if bytes_eq (byte ∷ bytes) (codes "---") then Some Ends else
+    option_map Does (line_of (words (byte ∷ bytes)))
+
+-- What a line is: an empty one is skipped; None is outside the grammar.
+abbrev pub meaning_of : List ℕ → Option Meaning
+meaning_of [] = Some Skipped
+meaning_of (byte ∷ bytes) = meaning_of_some byte bytes

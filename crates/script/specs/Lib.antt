@@ -1,5 +1,13 @@
-pub mod Calls
 pub mod Commands
+pub mod Drafts
 pub mod Faults
+pub mod Follows
+pub mod Limits
 pub mod Lines
+pub mod Paths
+pub mod Phases
+pub mod Places
 pub mod Texts
+pub mod Walks
+pub mod Words
+pub mod Workers

@@ -1,0 +1,489 @@
+// Scripts: lines in and outside the grammar, phases, limits, and the calls of a worker.
+use script::{Command, LONGEST_SCRIPT, MOST_LINES, Script, ScriptFault, Worker, read, text};
+use sfs_base::{CoreId, Kind, Measure, Name, NodeId, Stamp};
+use sfs_tree::{Code, Entry, History, Reply};
+use std::alloc::Global;
+use std::process::Abort;
+use std::test::Fail;
+
+// Lines in the grammar, and what of it each shows.
+const INSIDE: [(&str, &str); 33] = [
+    ("0 create /a", "each verb"),
+    ("0 mkdir /a", "each verb"),
+    ("0 link /a /b", "each verb"),
+    ("0 unlink /a", "each verb"),
+    ("0 rmdir /a", "each verb"),
+    ("0 rename /a /b", "each verb"),
+    ("0 write /a 0 00", "each verb"),
+    ("0 read /a 0 1", "each verb"),
+    ("0 trunc /a 0", "each verb"),
+    ("0 stat /a", "each verb"),
+    ("0 list /a", "each verb"),
+    ("0 fsync /a", "each verb"),
+    ("65535 stat /", "the last worker, and the root"),
+    ("10 list /", "a zero that is not the first digit"),
+    ("0 fsync /", "the root is a path"),
+    ("0 write / 0 00", "the root, which the call refuses"),
+    ("0 link / /a", "the first path of a link may be the root"),
+    ("0 mkdir /a/b/c", "several names"),
+    (
+        "0 mkdir /!\"#$&'()*+,-.:;<=>?@[]^_`{|}~",
+        "bytes that stand for themselves",
+    ),
+    ("0 mkdir /a%20b", "an escaped space"),
+    ("0 mkdir /%41%2e%2E%fF%0a", "digits of either case"),
+    ("0 mkdir /%25", "an escaped `%`"),
+    ("0 mkdir /...", "three dots are a name"),
+    ("0 mkdir /%2e%2E.", "three dots with escapes"),
+    ("0 mkdir /.a", "a name that begins with a dot"),
+    ("0 write /a 18446744073709551615 ff", "the last offset"),
+    ("0 write /a 0 -", "no bytes"),
+    ("0 write /a 0 aBcDeF09", "hex of either case"),
+    (
+        "0 read /a 18446744073709551615 65536",
+        "the last offset and the largest count",
+    ),
+    ("0 read /a 0 0", "a count of nothing"),
+    ("0 trunc /a 18446744073709551615", "the last size"),
+    ("0 create /-", "a name that looks like no bytes"),
+    ("0 create /---", "a name that looks like the end of a phase"),
+];
+
+// Lines outside the grammar, and why.
+const OUTSIDE: [(&str, &str); 55] = [
+    ("x", "one word"),
+    (" ", "two empty words"),
+    (" # no comment", "a comment begins with `#`"),
+    (" ---", "a blank before the end of a phase"),
+    ("--- ", "a blank behind it"),
+    ("--", "two dashes"),
+    ("----", "four dashes"),
+    ("0", "a worker alone"),
+    ("0 stat", "no argument"),
+    ("0 stat ", "an empty argument"),
+    ("0 stat / ", "an empty second argument"),
+    ("0 stat / /", "an argument too many"),
+    ("0  stat /", "two spaces"),
+    (" 0 stat /", "a space first"),
+    ("0\tstat /", "a tab for a space"),
+    ("0 stat /\r", "a return before the end"),
+    ("0 Stat /", "an upper-case verb"),
+    ("0 remove /a", "no verb"),
+    ("0 look /a", "a call that is no verb"),
+    ("65536 stat /", "past the last worker"),
+    ("00 stat /", "a leading zero"),
+    ("01 stat /", "a leading zero"),
+    ("-1 stat /", "a sign"),
+    ("+1 stat /", "a sign"),
+    ("0x1 stat /", "no decimal digits"),
+    ("184467440737095516160 stat /", "a worker past 64 bits"),
+    ("0 mkdir /", "the root has no name"),
+    ("0 rename / /a", "the root has no name"),
+    ("0 link /a /", "the root has no name"),
+    ("0 rename /a", "one path of two"),
+    ("0 link /a", "one path of two"),
+    ("0 mkdir a", "a path begins with `/`"),
+    ("0 stat a/b", "a path begins with `/`"),
+    ("0 mkdir /a/", "an empty last name"),
+    ("0 mkdir //a", "an empty first name"),
+    ("0 mkdir /a//b", "an empty name"),
+    ("0 mkdir /.", "`.` is no name"),
+    ("0 mkdir /..", "`..` is no name"),
+    ("0 mkdir /%2e", "`.` is no name"),
+    ("0 stat /.%2E/a", "`..` is no name"),
+    ("0 mkdir /a%2Fb", "an escaped `/`"),
+    ("0 mkdir /a%2fb", "an escaped `/`"),
+    ("0 mkdir /a%00b", "a byte 0"),
+    ("0 mkdir /a%", "an escape cut short"),
+    ("0 mkdir /a%4", "an escape cut short"),
+    ("0 mkdir /%4/1", "an escape cut by `/`"),
+    ("0 mkdir /%%41", "an escape of `%`"),
+    ("0 mkdir /%4g", "no hex digit"),
+    ("0 mkdir /\u{e9}", "bytes above 126"),
+    ("0 write /a 18446744073709551616 00", "past the last offset"),
+    ("0 write /a 0 0", "one hex digit"),
+    ("0 write /a 0 ", "no hex digits"),
+    ("0 write /a 0 0g", "no hex digit"),
+    ("0 write /a 00 00", "a leading zero"),
+    ("0 trunc /a 01", "a leading zero"),
+];
+
+// More lines outside the grammar, by one argument.
+const ARGUMENTS: [(&str, &str); 9] = [
+    ("0 read /a 0 65537", "past the largest count"),
+    ("0 read /a 0 01", "a leading zero"),
+    ("0 read /a 0", "no count"),
+    ("0 read /a 0 -", "a dash for a count"),
+    ("0 read /a  1", "an empty offset"),
+    ("0 trunc /a 1 1", "an argument too many"),
+    ("0 write /a 0 00 00", "an argument too many"),
+    ("0 write /a 0 --", "two dashes for bytes"),
+    ("0 trunc /a 18446744073709551616", "past the last size"),
+];
+
+// Asserts the first line outside the grammar.
+fn assert_bad(rt: &impl Abort, alloc: Global, script: &[u8], due: u32, reason: &str) {
+    match read(alloc, script) {
+        Err(ScriptFault::BadLine { line }) => assert_eq!(rt; line, due, "{reason}"),
+        _ => panic!(rt; "another answer: {reason}"),
+    }
+}
+
+// Asserts how many lines each phase has.
+fn assert_phases(rt: &impl Abort, alloc: Global, script: &[u8], due: &[usize]) -> Result<(), Fail> {
+    let script = read(alloc, script)?;
+    let mut counts = Vec::new(alloc);
+    for phase in script.phases() {
+        counts.push(phase.lines().len())?;
+    }
+    assert_eq!(rt; counts.as_slice(), due);
+    Ok(())
+}
+
+// A line that makes a directory with a name of so many bytes.
+fn line_of(alloc: Global, count: usize) -> Result<Vec<u8>, Fail> {
+    let mut line = Vec::from_slice(alloc, b"0 mkdir /".as_slice())?;
+    line.extend_from_slice(&vec![in alloc; b'n'; count]?)?;
+    Ok(line)
+}
+
+#[test]
+fn lines_are_in_the_grammar_or_not(rt: HostRuntime) -> Result<(), Fail> {
+    let alloc = rt.alloc();
+    for (line, reason) in INSIDE {
+        match read(alloc, line.as_bytes()) {
+            Ok(script) => match script.phases() {
+                [phase] => assert_eq!(rt; phase.lines().len(), 1, "{line}: {reason}"),
+                _ => panic!(rt; "several phases: {line}"),
+            },
+            Err(_) => panic!(rt; "refused: {line}: {reason}"),
+        }
+    }
+    for (line, reason) in OUTSIDE {
+        assert_bad(&rt, alloc, line.as_bytes(), 1, reason);
+    }
+    for (line, reason) in ARGUMENTS {
+        assert_bad(&rt, alloc, line.as_bytes(), 1, reason);
+    }
+    assert_bad(
+        &rt,
+        alloc,
+        b"0 mkdir /\x7f".as_slice(),
+        1,
+        "a byte above 126",
+    );
+    assert_bad(&rt, alloc, b"0 mkdir /a\0".as_slice(), 1, "a byte below 33");
+    Ok(())
+}
+
+#[test]
+fn a_name_has_255_bytes_at_most(rt: HostRuntime) -> Result<(), Fail> {
+    let alloc = rt.alloc();
+    let script = read(alloc, &line_of(alloc, 255)?)?;
+    match script.phases() {
+        [phase] => match phase.lines() {
+            [line] => assert_mkdir(&rt, &line.command, &vec![in alloc; b'n'; 255]?),
+            _ => panic!(rt; "not one line"),
+        },
+        _ => panic!(rt; "not one phase"),
+    }
+    assert_bad(&rt, alloc, &line_of(alloc, 256)?, 1, "256 bytes");
+    Ok(())
+}
+
+// Asserts that a command makes the directory with this name in the root.
+fn assert_mkdir(rt: &impl Abort, command: &Command, due: &[u8]) {
+    match command {
+        Command::Mkdir { path } => {
+            assert_eq!(rt; path.parent().len(), 0);
+            assert_eq!(rt; path.name().bytes(), due);
+        }
+        _ => panic!(rt; "another command"),
+    }
+}
+
+#[test]
+fn a_path_has_4096_bytes_at_most(rt: HostRuntime) -> Result<(), Fail> {
+    let alloc = rt.alloc();
+    let mut line = Vec::from_slice(alloc, b"0 stat ".as_slice())?;
+    for _ in 0..2048 {
+        line.extend_from_slice(b"/n".as_slice())?;
+    }
+    assert_phases(&rt, alloc, &line, [1].as_slice())?;
+    line.push(b'n')?;
+    assert_bad(&rt, alloc, &line, 1, "4,097 bytes");
+    Ok(())
+}
+
+#[test]
+fn a_write_has_65536_bytes_at_most(rt: HostRuntime) -> Result<(), Fail> {
+    let alloc = rt.alloc();
+    let mut line = Vec::from_slice(alloc, b"0 write /a 0 ".as_slice())?;
+    line.extend_from_slice(&vec![in alloc; b'0'; 131_072]?)?;
+    assert_phases(&rt, alloc, &line, [1].as_slice())?;
+    line.extend_from_slice(b"00".as_slice())?;
+    assert_bad(&rt, alloc, &line, 1, "65,537 bytes");
+    Ok(())
+}
+
+#[test]
+fn phases_end_and_lines_are_skipped(rt: HostRuntime) -> Result<(), Fail> {
+    let alloc = rt.alloc();
+    assert_phases(&rt, alloc, b"".as_slice(), [0].as_slice())?;
+    assert_phases(
+        &rt,
+        alloc,
+        b"\n\n#\n# \xff\x00\n".as_slice(),
+        [0].as_slice(),
+    )?;
+    assert_phases(&rt, alloc, b"---".as_slice(), [0, 0].as_slice())?;
+    assert_phases(&rt, alloc, b"---\n---\n".as_slice(), [0, 0, 0].as_slice())?;
+    let script = b"0 stat /\n\n1 stat /\n---\n# two\n0 stat /\n---\n1 stat /\n0 stat /\n2 stat /";
+    assert_phases(&rt, alloc, script.as_slice(), [2, 1, 3].as_slice())?;
+    Ok(())
+}
+
+#[test]
+fn the_first_bad_line_is_named(rt: HostRuntime) {
+    let alloc = rt.alloc();
+    assert_bad(&rt, alloc, b"0 rename /a".as_slice(), 1, "one path");
+    assert_bad(&rt, alloc, b"0 mkdir /a\nx".as_slice(), 2, "no command");
+    assert_bad(
+        &rt,
+        alloc,
+        b"\n#\n---\nx\ny\n".as_slice(),
+        4,
+        "skipped lines count",
+    );
+    assert_bad(
+        &rt,
+        alloc,
+        b"0 stat /\nx".as_slice(),
+        2,
+        "the last line without its end",
+    );
+    assert_bad(
+        &rt,
+        alloc,
+        b"0 stat /\nx\n0 stat /\n".as_slice(),
+        2,
+        "a line in the middle",
+    );
+}
+
+#[test]
+fn scripts_have_limits(rt: HostRuntime) -> Result<(), Fail> {
+    let alloc = rt.alloc();
+    assert_eq!(rt; LONGEST_SCRIPT, 16_777_216);
+    assert_eq!(rt; MOST_LINES, 262_144);
+    let mut script = vec![in alloc; b'#'; LONGEST_SCRIPT]?;
+    assert_phases(&rt, alloc, &script, [0].as_slice())?;
+    script.push(b'#')?;
+    assert_too_long(&rt, alloc, &script, Measure::Bytes);
+    let mut script = vec![in alloc; b'\n'; MOST_LINES]?;
+    assert_phases(&rt, alloc, &script, [0].as_slice())?;
+    script.push(b'#')?;
+    assert_too_long(&rt, alloc, &script, Measure::Lines);
+    let script = vec![in alloc; b'\n'; LONGEST_SCRIPT + 1]?;
+    assert_too_long(&rt, alloc, &script, Measure::Bytes);
+    Ok(())
+}
+
+// Asserts in what a script is too long.
+fn assert_too_long(rt: &impl Abort, alloc: Global, script: &[u8], due: Measure) {
+    match read(alloc, script) {
+        Err(ScriptFault::TooLong { measure }) => assert_eq!(rt; measure, due),
+        _ => panic!(rt; "another answer"),
+    }
+}
+
+// How many lines there are in some bytes.
+fn lines_in(bytes: &[u8]) -> usize {
+    let mut count = 0usize;
+    let mut open = false;
+    for byte in bytes {
+        if !open {
+            count = count.saturating_add(1);
+        }
+        open = *byte != b'\n';
+    }
+    count
+}
+
+#[test]
+fn each_prefix_is_read_or_refused_at_its_last_line(rt: HostRuntime) -> Result<(), Fail> {
+    let alloc = rt.alloc();
+    let script =
+        b"# a script\n0 mkdir /a%20b\n1 create /c\n---\n0 link /c /a%20b/d\n\n0 write /c 12 00fF\n1 read /c 0 65536\n0 rename /a%20b/d /e\n1 trunc /c 10".as_slice();
+    let mut refused = 0usize;
+    let mut prefix = Vec::new(alloc);
+    for byte in script {
+        match read(alloc, &prefix) {
+            Ok(_) => {}
+            Err(ScriptFault::BadLine { line }) => {
+                assert_eq!(rt; line as usize, lines_in(&prefix));
+                refused = refused.saturating_add(1);
+            }
+            Err(_) => panic!(rt; "another fault"),
+        }
+        prefix.push(*byte)?;
+    }
+    assert!(rt; refused > 50);
+    assert_eq!(rt; read(alloc, &prefix)?.phases().len(), 2);
+    Ok(())
+}
+
+#[test]
+fn a_command_has_its_arguments(rt: HostRuntime) -> Result<(), Fail> {
+    let alloc = rt.alloc();
+    let script = read(alloc, b"513 write /d%2f%2Fe".as_slice());
+    assert!(rt; script.is_err());
+    let script = read(
+        alloc,
+        b"513 write /d/%41%2e~ 18446744073709551615 00fF7a".as_slice(),
+    )?;
+    match script.phases() {
+        [phase] => match phase.lines() {
+            [line] => {
+                assert_eq!(rt; line.worker, 513);
+                assert_write(&rt, &line.command);
+            }
+            _ => panic!(rt; "not one line"),
+        },
+        _ => panic!(rt; "not one phase"),
+    }
+    Ok(())
+}
+
+// Asserts that a command writes three bytes at the last offset of `/d/A.~`.
+fn assert_write(rt: &impl Abort, command: &Command) {
+    match command {
+        Command::Write { path, at, bytes } => {
+            match path.names() {
+                [first, second] => {
+                    assert_eq!(rt; first.bytes(), b"d".as_slice());
+                    assert_eq!(rt; second.bytes(), b"A.~".as_slice());
+                }
+                _ => panic!(rt; "not two names"),
+            }
+            assert_eq!(rt; *at, u64::MAX);
+            assert_eq!(rt; bytes.bytes(), [0, 255, 122].as_slice());
+        }
+        _ => panic!(rt; "another command"),
+    }
+}
+
+// The reply that names a node.
+fn node(number: u32, kind: Kind) -> Reply {
+    Reply::Node {
+        node: NodeId(number),
+        kind,
+    }
+}
+
+// The text of the calls that worker 3 makes in the first phase of a script, where these are the
+// replies. It has to be at its end then.
+fn calls(
+    rt: &impl Abort,
+    alloc: Global,
+    script: &[u8],
+    replies: Vec<Reply>,
+) -> Result<Vec<u8>, Fail> {
+    let script = read(alloc, script)?;
+    let mut entries = Vec::new(alloc);
+    match script.phases() {
+        [] => panic!(rt; "no phase"),
+        [phase, ..] => {
+            let mut worker = Worker::new(3, phase);
+            for reply in replies {
+                let call = worker.next_call()?;
+                let call = call.ok_or("no call is left")?;
+                worker.take(&reply);
+                entries.push(Entry {
+                    stamp: Stamp(entries.len() as u64),
+                    core: CoreId(3),
+                    call,
+                    reply,
+                    ack: None,
+                })?;
+            }
+            assert!(rt; worker.next_call()?.is_none());
+        }
+    }
+    Ok(text(alloc, &History::from_entries(entries))?)
+}
+
+#[test]
+fn a_worker_walks_names_and_makes_its_call(rt: HostRuntime) -> Result<(), Fail> {
+    let alloc = rt.alloc();
+    let replies = vec![in alloc;
+        node(64, Kind::File),
+        node(64, Kind::File),
+        Reply::Ok,
+        Reply::Ok,
+        node(64, Kind::Directory),
+        node(65, Kind::Directory),
+        Reply::Error {
+            code: Code::Invalid
+        },
+    ]?;
+    let script =
+        b"3 create /a\n0 mkdir /x\n3 link /a /b\n3 rename /a /b\n3 rename /a /a/b/c\n---\n3 stat /\n";
+    let due =
+        b"0 3 create 0 a = node 64 file\n1 3 look 0 a = node 64 file\n2 3 link 64 0 b = ok\n3 3 rename 0 a 0 b = ok\n4 3 look 0 a = node 64 dir\n5 3 look 64 b = node 65 dir\n6 3 rename 0 a 65 c = error Invalid\n";
+    assert_eq!(rt;
+        calls(&rt, alloc, script.as_slice(), replies)?.as_slice(),
+        due.as_slice()
+    );
+    Ok(())
+}
+
+#[test]
+fn a_walk_ends_with_the_first_other_reply(rt: HostRuntime) -> Result<(), Fail> {
+    let alloc = rt.alloc();
+    let refused = Reply::Error {
+        code: Code::NoEntry,
+    };
+    let replies = vec![in alloc;
+        node(64, Kind::Directory),
+        refused,
+        node(64, Kind::Directory),
+        Reply::Error { code: Code::NotDir },
+        Reply::Error {
+            code: Code::NoEntry
+        },
+        node(64, Kind::Directory),
+        Reply::Error {
+            code: Code::NoEntry
+        },
+        Reply::Ok,
+    ]?;
+    let script =
+        b"3 stat /a/b/c\n3 rename /a/b/c /d/e\n3 link /f /g/h\n3 link /f /g/h\n3 fsync /\n";
+    let due =
+        b"0 3 look 0 a = node 64 dir\n1 3 look 64 b = error NoEntry\n2 3 look 0 a = node 64 dir\n3 3 look 64 b = error NotDir\n4 3 look 0 f = error NoEntry\n5 3 look 0 f = node 64 dir\n6 3 look 0 g = error NoEntry\n7 3 fsync 0 = ok\n";
+    assert_eq!(rt;
+        calls(&rt, alloc, script.as_slice(), replies)?.as_slice(),
+        due.as_slice()
+    );
+    Ok(())
+}
+
+#[test]
+fn each_command_ends_with_its_call(rt: HostRuntime) -> Result<(), Fail> {
+    let alloc = rt.alloc();
+    let mut replies = Vec::new(alloc);
+    for _ in 0..8 {
+        replies.push(node(7, Kind::Directory))?;
+        replies.push(Reply::Ok)?;
+    }
+    let script =
+        b"3 mkdir /d/n\n3 unlink /d/n\n3 rmdir /d/n\n3 write /f 5 00ff\n3 read /f 5 6\n3 trunc /f 9\n3 list /d\n3 fsync /d\n";
+    let due =
+        b"0 3 look 0 d = node 7 dir\n1 3 mkdir 7 n = ok\n2 3 look 0 d = node 7 dir\n3 3 unlink 7 n = ok\n4 3 look 0 d = node 7 dir\n5 3 rmdir 7 n = ok\n6 3 look 0 f = node 7 dir\n7 3 write 7 5 00ff = ok\n8 3 look 0 f = node 7 dir\n9 3 read 7 5 6 = ok\n10 3 look 0 f = node 7 dir\n11 3 trunc 7 9 = ok\n12 3 look 0 d = node 7 dir\n13 3 list 7 = ok\n14 3 look 0 d = node 7 dir\n15 3 fsync 7 = ok\n";
+    assert_eq!(rt;
+        calls(&rt, alloc, script.as_slice(), replies)?.as_slice(),
+        due.as_slice()
+    );
+    Ok(())
+}

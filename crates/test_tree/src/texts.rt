@@ -1,0 +1,222 @@
+// The text of each call and each reply.
+use script::text;
+use sfs_base::{Chunk, CoreId, Kind, Name, NodeId, SpaceKind, Stamp};
+use sfs_tree::{Call, Code, Entry, History, Reply};
+use std::alloc::Global;
+use std::process::Abort;
+use std::test::Fail;
+
+// Asserts the text of the one entry of a history.
+fn assert_text(
+    rt: &impl Abort,
+    alloc: Global,
+    call: Call,
+    reply: Reply,
+    due: &[u8],
+) -> Result<(), Fail> {
+    let mut entries = Vec::new(alloc);
+    entries.push(Entry {
+        stamp: Stamp(10),
+        core: CoreId(1),
+        call,
+        reply,
+        ack: None,
+    })?;
+    let history = History::from_entries(entries);
+    assert_eq!(rt; text(alloc, &history)?.as_slice(), due);
+    Ok(())
+}
+
+// Asserts the text of an fsync of the root.
+fn assert_fsync(rt: &impl Abort, alloc: Global, reply: Reply, due: &[u8]) -> Result<(), Fail> {
+    assert_text(rt, alloc, Call::Fsync { node: NodeId(0) }, reply, due)
+}
+
+// Asserts the text of a call that was answered Ok.
+fn assert_call(rt: &impl Abort, alloc: Global, call: Call, due: &[u8]) -> Result<(), Fail> {
+    assert_text(rt, alloc, call, Reply::Ok, due)
+}
+
+// Asserts the text of a name.
+fn assert_name(rt: &impl Abort, alloc: Global, name: &[u8], due: &[u8]) -> Result<(), Fail> {
+    let name = Name::new(alloc, name)?;
+    let dir = NodeId(64);
+    assert_call(rt, alloc, Call::Look { dir, name }, due)
+}
+
+#[test]
+fn each_reply_of_an_fsync_has_its_text(rt: HostRuntime) -> Result<(), Fail> {
+    let alloc = rt.alloc();
+    assert_fsync(&rt, alloc, Reply::Ok, b"10 1 fsync 0 = ok\n".as_slice())?;
+    assert_fsync(
+        &rt,
+        alloc,
+        Reply::DiskFailed,
+        b"10 1 fsync 0 = failed\n".as_slice(),
+    )?;
+    assert_fsync(
+        &rt,
+        alloc,
+        Reply::Stopped { faults: 1 },
+        b"10 1 fsync 0 = stopped 1\n".as_slice(),
+    )?;
+    assert_fsync(
+        &rt,
+        alloc,
+        Reply::NoMemory,
+        b"10 1 fsync 0 = nomemory\n".as_slice(),
+    )?;
+    let inodes = Reply::NoSpace {
+        kind: SpaceKind::Inodes,
+        need: 16,
+        free: 15,
+    };
+    assert_fsync(
+        &rt,
+        alloc,
+        inodes,
+        b"10 1 fsync 0 = nospace inodes need 16 free 15\n".as_slice(),
+    )?;
+    let blocks = Reply::NoSpace {
+        kind: SpaceKind::Blocks,
+        need: 2,
+        free: 1,
+    };
+    assert_fsync(
+        &rt,
+        alloc,
+        blocks,
+        b"10 1 fsync 0 = nospace blocks need 2 free 1\n".as_slice(),
+    )?;
+    Ok(())
+}
+
+#[test]
+fn each_code_has_its_text(rt: HostRuntime) -> Result<(), Fail> {
+    let alloc = rt.alloc();
+    let codes = [
+        (Code::NoEntry, "NoEntry"),
+        (Code::Exists, "Exists"),
+        (Code::NotDir, "NotDir"),
+        (Code::IsDir, "IsDir"),
+        (Code::NotEmpty, "NotEmpty"),
+        (Code::Invalid, "Invalid"),
+        (Code::NotPermitted, "NotPermitted"),
+        (Code::TooManyLinks, "TooManyLinks"),
+        (Code::FileTooBig, "FileTooBig"),
+        (Code::DirFull, "DirFull"),
+        (Code::NoNodes, "NoNodes"),
+    ];
+    for (code, word) in codes {
+        let due = format!(in alloc; "10 1 fsync 0 = error {word}\n")?;
+        assert_fsync(&rt, alloc, Reply::Error { code }, due.as_bytes())?;
+    }
+    Ok(())
+}
+
+#[test]
+fn each_byte_of_a_name_has_its_text(rt: HostRuntime) -> Result<(), Fail> {
+    let alloc = rt.alloc();
+    let names = [
+        (b"a b".as_slice(), "a%20b"),
+        (b"!~".as_slice(), "!~"),
+        (b"%".as_slice(), "%25"),
+        (b"\x7f".as_slice(), "%7F"),
+        (b"\n\xfa".as_slice(), "%0A%FA"),
+        (b"\xff\x80\x01".as_slice(), "%FF%80%01"),
+        (b"\"#&+,:;<=>?@[]^_`{|}".as_slice(), "\"#&+,:;<=>?@[]^_`{|}"),
+    ];
+    for (name, text) in names {
+        let due = format!(in alloc; "10 1 look 64 {text} = ok\n")?;
+        assert_name(&rt, alloc, name, due.as_bytes())?;
+    }
+    Ok(())
+}
+
+#[test]
+fn each_call_with_one_row_has_its_text(rt: HostRuntime) -> Result<(), Fail> {
+    let alloc = rt.alloc();
+    let (dir, file) = (NodeId(3), NodeId(4));
+    let name = Name::new(alloc, b"a".as_slice())?;
+    let kind = Kind::File;
+    let due = b"10 1 create 3 a = ok\n".as_slice();
+    assert_call(&rt, alloc, Call::Make { dir, name, kind }, due)?;
+    let name = Name::new(alloc, b"a".as_slice())?;
+    let kind = Kind::Directory;
+    let due = b"10 1 mkdir 3 a = ok\n".as_slice();
+    assert_call(&rt, alloc, Call::Make { dir, name, kind }, due)?;
+    let name = Name::new(alloc, b"a".as_slice())?;
+    let due = b"10 1 link 4 3 a = ok\n".as_slice();
+    assert_call(&rt, alloc, Call::Link { file, dir, name }, due)?;
+    let name = Name::new(alloc, b"a".as_slice())?;
+    let due = b"10 1 unlink 3 a = ok\n".as_slice();
+    assert_call(&rt, alloc, Call::Unlink { dir, name }, due)?;
+    let name = Name::new(alloc, b"a".as_slice())?;
+    let due = b"10 1 rmdir 3 a = ok\n".as_slice();
+    assert_call(&rt, alloc, Call::Rmdir { dir, name }, due)?;
+    let name = Name::new(alloc, b"a".as_slice())?;
+    let to_name = Name::new(alloc, b"b".as_slice())?;
+    let to_dir = NodeId(4_294_967_295);
+    let call = Call::Rename {
+        dir,
+        name,
+        to_dir,
+        to_name,
+    };
+    assert_call(
+        &rt,
+        alloc,
+        call,
+        b"10 1 rename 3 a 4294967295 b = ok\n".as_slice(),
+    )
+}
+
+#[test]
+fn each_call_on_a_node_has_its_text(rt: HostRuntime) -> Result<(), Fail> {
+    let alloc = rt.alloc();
+    let (file, node, dir) = (NodeId(4), NodeId(4), NodeId(4));
+    let at = u64::MAX;
+    let bytes = Chunk::new(Vec::from_slice(alloc, [0, 171, 255].as_slice())?)?;
+    let due = b"10 1 write 4 18446744073709551615 00abff = ok\n".as_slice();
+    assert_call(&rt, alloc, Call::Write { file, at, bytes }, due)?;
+    let bytes = Chunk::new(Vec::new(alloc))?;
+    let due = b"10 1 write 4 0 - = ok\n".as_slice();
+    assert_call(&rt, alloc, Call::Write { file, at: 0, bytes }, due)?;
+    let due = b"10 1 read 4 18446744073709551615 65536 = ok\n".as_slice();
+    let count = 65_536;
+    assert_call(&rt, alloc, Call::Read { file, at, count }, due)?;
+    let due = b"10 1 trunc 4 7 = ok\n".as_slice();
+    assert_call(&rt, alloc, Call::Trunc { file, size: 7 }, due)?;
+    let due = b"10 1 stat 4 = ok\n".as_slice();
+    assert_call(&rt, alloc, Call::Stat { node }, due)?;
+    let due = b"10 1 list 4 = ok\n".as_slice();
+    assert_call(&rt, alloc, Call::List { dir }, due)?;
+    let due = b"10 1 fsync 4 = ok\n".as_slice();
+    assert_call(&rt, alloc, Call::Fsync { node }, due)
+}
+
+#[test]
+fn replies_with_values_have_their_text(rt: HostRuntime) -> Result<(), Fail> {
+    let alloc = rt.alloc();
+    let node = NodeId(64);
+    let kind = Kind::Directory;
+    let due = b"10 1 fsync 0 = node 64 dir\n".as_slice();
+    assert_fsync(&rt, alloc, Reply::Node { node, kind }, due)?;
+    let kind = Kind::File;
+    let due = b"10 1 fsync 0 = node 64 file\n".as_slice();
+    assert_fsync(&rt, alloc, Reply::Node { node, kind }, due)?;
+    let bytes = Chunk::new(Vec::from_slice(alloc, [0, 171, 255].as_slice())?)?;
+    let due = b"10 1 fsync 0 = bytes 00abff\n".as_slice();
+    assert_fsync(&rt, alloc, Reply::Bytes { bytes }, due)?;
+    let bytes = Chunk::new(Vec::new(alloc))?;
+    let due = b"10 1 fsync 0 = bytes -\n".as_slice();
+    assert_fsync(&rt, alloc, Reply::Bytes { bytes }, due)?;
+    let (kind, links, size) = (Kind::Directory, 2, 0);
+    let due = b"10 1 fsync 0 = stat dir 2 0\n".as_slice();
+    assert_fsync(&rt, alloc, Reply::Stat { kind, links, size }, due)?;
+    let (kind, links, size) = (Kind::File, 65_535, 67_551_232);
+    let due = b"10 1 fsync 0 = stat file 65535 67551232\n".as_slice();
+    assert_fsync(&rt, alloc, Reply::Stat { kind, links, size }, due)?;
+    assert_eq!(rt; text(alloc, &History::new(alloc))?.len(), 0);
+    Ok(())
+}
