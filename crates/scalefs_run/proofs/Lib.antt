@@ -1,8 +1,15 @@
 pub mod Begun
-pub mod Grown
+pub mod Called
+pub mod Crashes
+pub mod Dated
+pub mod FirstSound
+pub mod Making
 pub mod Opened
 pub mod Pushed
 pub mod Rooted
+pub mod SafeSteps
 pub mod Serving
 pub mod Shows
 pub mod Standing
+pub mod Survived
+pub mod Within

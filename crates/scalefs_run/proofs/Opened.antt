@@ -77,16 +77,16 @@ insert_same m k v e =
     ] refl)
 
 -- a row that comes makes the tree of one row more
-pub first_nodes : (row : Row) (rs : List Row) → row.node.0 ≢ 0 → KeepsApart (row ∷ rs) → cond (is_some (get (first_tree rs).nodes row.node.0)) (first_tree rs).nodes (insert (first_tree rs).nodes row.node.0 (record { kind = row.kind; bytes = [] })) ≡ (first_tree (row ∷ rs)).nodes
-first_nodes row rs other apart =
-    elim (get (first_tree rs).nodes row.node.0) as (λ o. get (first_tree rs).nodes row.node.0 ≡ o → cond (is_some o) (first_tree rs).nodes (insert (first_tree rs).nodes row.node.0 (record { kind = row.kind; bytes = [] })) ≡ insert (first_tree rs).nodes row.node.0 (record { kind = row.kind; bytes = [] })) [
-      | Some n ↦ λ e. sym (insert_same (first_tree rs).nodes row.node.0 (record { kind = row.kind; bytes = [] }) (e ∙ ap Some (kind_found row rs n other (apart_head row rs apart) (sym (get-from_entries nat_cmp_total (map node_entry rs ++ root_entry ∷ []) row.node.0) ∙ e))))
+pub first_nodes : (share : ℕ) (row : Row) (rs : List Row) → row.node.0 ≢ 0 → KeepsApart (row ∷ rs) → cond (is_some (get (first_tree share rs).nodes row.node.0)) (first_tree share rs).nodes (insert (first_tree share rs).nodes row.node.0 (record { kind = row.kind; bytes = [] })) ≡ (first_tree share (row ∷ rs)).nodes
+first_nodes share row rs other apart =
+    elim (get (first_tree share rs).nodes row.node.0) as (λ o. get (first_tree share rs).nodes row.node.0 ≡ o → cond (is_some o) (first_tree share rs).nodes (insert (first_tree share rs).nodes row.node.0 (record { kind = row.kind; bytes = [] })) ≡ insert (first_tree share rs).nodes row.node.0 (record { kind = row.kind; bytes = [] })) [
+      | Some n ↦ λ e. sym (insert_same (first_tree share rs).nodes row.node.0 (record { kind = row.kind; bytes = [] }) (e ∙ ap Some (kind_found row rs n other (apart_head row rs apart) (sym (get-from_entries nat_cmp_total (map node_entry rs ++ root_entry ∷ []) row.node.0) ∙ e))))
       | None ↦ λ e. refl
     ] refl
 
 -- its name is new
-pub first_absent : (row : Row) (rs : List Row) → KeepsApart (row ∷ rs) → row_of (first_tree rs) 0 row.name ≡ None
-first_absent row rs apart = get-from_entries key_cmp_total (map row_entry rs) (0, row.name) ∙ none_named row rs (apart_head row rs apart)
+pub first_absent : (share : ℕ) (row : Row) (rs : List Row) → KeepsApart (row ∷ rs) → row_of (first_tree share rs) 0 row.name ≡ None
+first_absent share row rs apart = get-from_entries key_cmp_total (map row_entry rs) (0, row.name) ∙ none_named row rs (apart_head row rs apart)
 
 root_found : (rs : List Row) → HaveInodes rs → find nat_cmp 0 (map node_entry rs ++ root_entry ∷ []) ≡ Some root_entry.1
 root_found [] h = refl
@@ -96,17 +96,17 @@ root_found (x ∷ xs) h =
     ∙ root_found xs (λ k row. h (suc k) row)
 
 -- the root is a directory
-pub first_directory : (rs : List Row) → HaveInodes rs → is_directory (first_tree rs) 0 ≡ true
-first_directory rs h = ap (λ o. option_map_or (λ (n : Node). is_directory_kind n.kind) o false) (get-from_entries nat_cmp_total (map node_entry rs ++ root_entry ∷ []) 0 ∙ root_found rs h)
+pub first_directory : (share : ℕ) (rs : List Row) → HaveInodes rs → is_directory (first_tree share rs) 0 ≡ true
+first_directory share rs h = ap (λ o. option_map_or (λ (n : Node). is_directory_kind n.kind) o false) (get-from_entries nat_cmp_total (map node_entry rs ++ root_entry ∷ []) 0 ∙ root_found rs h)
 
 pub length-filter_map : {A B : Type 0} (f : A → Option B) (xs : List A) → length (filter_map f xs) ≤ length xs
 length-filter_map f [] = omega arith
 length-filter_map f (x ∷ xs) = let rest = length-filter_map f xs in elim (f x) as (λ o. length (cons_option o (filter_map f xs)) ≤ suc (length xs)) [ Some y ↦ omega arith | None ↦ omega arith ]
 
 -- its bucket has room
-pub first_room : (b : ℕ) (rs : List Row) → length rs ≤ 15 → len (bucket_rows 0 b (first_tree rs).rows) < 4096
-first_room b rs few =
-    let rows = (first_tree rs).rows in
+pub first_room : (share : ℕ) (b : ℕ) (rs : List Row) → length rs ≤ 15 → len (bucket_rows 0 b (first_tree share rs).rows) < 4096
+first_room share b rs few =
+    let rows = (first_tree share rs).rows in
     let a = length-filter_map (name_row 0 (λ name. nat_eq (bucket name) b)) (entries rows) in
     let e : len (bucket_rows 0 b rows) ≡ length (filter_map (name_row 0 (λ name. nat_eq (bucket name) b)) (entries rows)) = len-entries _ ∙ ap length (entries-names_where 0 (λ name. nat_eq (bucket name) b) rows) in
     let c = length-from_entries key_cmp_total (map row_entry rs) in
@@ -119,8 +119,8 @@ not_root : (row : Row) (rs : List Row) → HaveInodes (row ∷ rs) → row.node.
 not_root row rs h e = let inode = (h 0 row refl).0 in omega arith
 
 -- one row more makes the tree of one row more
-pub first_more : (row : Row) (rs : List Row) → KeepsApart (row ∷ rs) → HaveInodes (row ∷ rs) → with_root_row (first_tree rs) row ≡ first_tree (row ∷ rs)
-first_more row rs apart inodes = λ i. record (first_tree (row ∷ rs)) { nodes = first_nodes row rs (not_root row rs inodes) apart i }
+pub first_more : (share : ℕ) (row : Row) (rs : List Row) → KeepsApart (row ∷ rs) → HaveInodes (row ∷ rs) → with_root_row (first_tree share rs) row ≡ first_tree share (row ∷ rs)
+first_more share row rs apart inodes = λ i. record (first_tree share (row ∷ rs)) { nodes = first_nodes share row rs (not_root row rs inodes) apart i }
 
 -- what is behind sound rows is sound
 pub apart_behind : (front rs : List Row) → KeepsApart (front ++ rs) → KeepsApart rs

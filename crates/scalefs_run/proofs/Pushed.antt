@@ -7,9 +7,10 @@ use Rattle.std.proofs.Math.Seq.{take-length}
 use Rattle.sfs_tree.specs.Order.{name_cmp}
 use Rattle.sfs_tree.specs.declared.history.Entry.{Entry}
 use Rattle.sfs_tree.specs.Tree.{TreeState}
-use Rattle.sfs_tree.specs.History.{tree_after, tree_after_entry, IsLegal, with_kinds}
+use Rattle.sfs_tree.specs.History.{tree_after, tree_after_entry, IsLegal}
+use Rattle.sfs_tree.specs.Names.{with_kinds}
 use Rattle.sfs_tree.proofs.Histories.{rows_at-tree_after}
-use Rattle.scalefs_run.specs.Replies.{AreAnswered, IsAnsweredEntry, has_failed, is_failure}
+use Rattle.scalefs_run.specs.Replies.{AreAnswered, IsAnsweredEntry, has_failed, is_failed_flush}
 use Rattle.scalefs_run.specs.Shown.{shown_at, last_flush, later_flush}
 use Rattle.scalefs_run.specs.Stands.{root_shown}
 
@@ -26,13 +27,13 @@ pub AreAnswered-push : (halted : Bool) (kept : ℕ) (tree : TreeState) (history 
 AreAnswered-push halted kept tree [] entry all last = (subst (λ b. IsAnsweredEntry b kept tree entry) (or_false halted) last, tt)
 AreAnswered-push halted kept tree (e ∷ history) entry all last = (
   all.0,
-  AreAnswered-push (halted || is_failure e.reply) kept (tree_after_entry tree e) history entry all.1
-      (subst (λ b. IsAnsweredEntry b kept (tree_after (tree_after_entry tree e) history) entry) (sym (or_assoc halted (is_failure e.reply) (has_failed history))) last),
+  AreAnswered-push (halted || is_failed_flush e) kept (tree_after_entry tree e) history entry all.1
+      (subst (λ b. IsAnsweredEntry b kept (tree_after (tree_after_entry tree e) history) entry) (sym (or_assoc halted (is_failed_flush e) (has_failed history))) last),
 )
 
-pub has_failed-push : (history : List Entry) (entry : Entry) → has_failed (history ++ entry ∷ []) ≡ (has_failed history || is_failure entry.reply)
-has_failed-push [] entry = or_false (is_failure entry.reply)
-has_failed-push (e ∷ history) entry = ap (λ b. is_failure e.reply || b) (has_failed-push history entry) ∙ sym (or_assoc (is_failure e.reply) (has_failed history) (is_failure entry.reply))
+pub has_failed-push : (history : List Entry) (entry : Entry) → has_failed (history ++ entry ∷ []) ≡ (has_failed history || is_failed_flush entry)
+has_failed-push [] entry = or_false (is_failed_flush entry)
+has_failed-push (e ∷ history) entry = ap (λ b. is_failed_flush e || b) (has_failed-push history entry) ∙ sym (or_assoc (is_failed_flush e) (has_failed history) (is_failed_flush entry))
 
 pub last_flush-push : (history : List Entry) (entry : Entry) → last_flush (history ++ entry ∷ []) ≡ later_flush (last_flush history) entry
 last_flush-push history entry = fold-append later_flush 0 history (entry ∷ [])

@@ -1,5 +1,5 @@
 -- The rows of the root as they are given to the areas.
-use Rattle.std.proofs.Common.{◌≡◌, ◌≢◌, ℕ, zero, suc, ◌<◌, Bool, true, false, cond, ◌&&◌, ◌||◌, List, [], ◌∷◌, length, map, Some, None, T, refl, sym, ap, subst, ◌∙◌, arith, nat_eq, slice_get, bytes_eq}
+use Rattle.std.proofs.Common.{◌≡◌, ◌≢◌, ℕ, zero, suc, ◌<◌, Bool, true, false, cond, ◌&&◌, ◌||◌, List, [], ◌∷◌, length, map, Option, Some, None, T, refl, sym, ap, subst, ◌∙◌, arith, nat_eq, slice_get, bytes_eq}
 use Rattle.std.proofs.lemmas.List.{length-map}
 use Rattle.std.proofs.lemmas.Map.Text.{is_eq-slice_cmp}
 use borrow.Author.Tests.{eqb-true, eq-eqb}
@@ -9,16 +9,21 @@ use Rattle.std.specs.declared.cmp.Ordering.TheVariants.{Less, Equal, Greater}
 use Rattle.std.specs.FinMap.{find, entries, entries_sorted, len-entries, get-entries, is_sorted}
 use Rattle.std.specs.FinMap.Entries.{below_all}
 use Rattle.sfs_base.specs.declared.numbers.Kind.{Kind}
-use Rattle.sfs_base.specs.declared.numbers.Kind.TheVariants.{File}
+use Rattle.sfs_base.specs.declared.numbers.Kind.TheVariants.{File, Directory}
 use Rattle.sfs_tree.specs.Order.{name_cmp}
 use Rattle.sfs_tree.specs.Tree.{TreeState, names_of, row_of}
-use Rattle.sfs_tree.specs.History.{kind_of}
+use Rattle.sfs_tree.specs.Tree.{kind_of}
 use Rattle.sfs_tree.proofs.Names.{get-names_where}
 use Rattle.sfs_tree.proofs.Joined.{name_cmp-IsAntisymmetric, is_equal}
 use Rattle.area_pair.specs.declared.area.Row.{Row}
 use Rattle.area_pair.specs.Rows.{clashes, KeepsApart}
 use Rattle.area_pair.specs.Rows as rows
-use Rattle.scalefs_run.specs.Flushed.{IsLinked, row_with_kind, rows_of_root}
+use Rattle.sfs_tree.specs.Tree.{is_directory, is_directory_kind}
+use Rattle.sfs_tree.specs.Sound.{IsSound}
+use Rattle.std.specs.FinMap.{get}
+use Rattle.std.specs.Option.{option_map_or}
+use Rattle.sfs_tree.specs.Tree.{Node}
+use Rattle.scalefs_run.specs.Flushed.{row_with_kind, rows_of_root}
 use Rattle.scalefs_run.specs.Replies.{root_rows}
 
 -- the two sides of a conjunction
@@ -58,7 +63,7 @@ less_not_equal Less e = refl
 less_not_equal Equal e = cc
 less_not_equal Greater e = cc
 
-same_bytes : (xs : List ℕ) → bytes_eq xs xs ≡ true
+pub same_bytes : (xs : List ℕ) → bytes_eq xs xs ≡ true
 same_bytes [] = refl
 same_bytes (x ∷ xs) = ap (λ b. b && bytes_eq xs xs) (eq-eqb x x refl) ∙ same_bytes xs
 
@@ -109,9 +114,25 @@ from_entry tree [] k row at = absurd (none_some at)
 from_entry tree (x ∷ es) zero row at = (x, refl, sym (some_same at))
 from_entry tree (x ∷ es) (suc k) row at = from_entry tree es k row at
 
--- the rows of a linked root clash with none before them
-pub linked_apart : (tree : TreeState) → IsLinked tree → KeepsApart (rows_of_root tree)
-linked_apart tree linked i j before row lt at_before at_row =
+-- a node that is no directory has the kind of files
+not_directory : (tree : TreeState) (node : ℕ) → (is_directory tree node ≡ true → ⊥) → kind_of tree node ≡ File
+not_directory tree node never = by (get tree.nodes node) never
+  where
+    by_kind : (kind : Kind) → (is_directory_kind kind ≡ true → ⊥) → kind ≡ File
+    by_kind File h = refl
+    by_kind Directory h = absurd (h refl)
+
+    by : (found : Option Node) → (option_map_or (λ (n : Node). is_directory_kind n.kind) found false ≡ true → ⊥) → option_map_or (λ (n : Node). n.kind) found File ≡ File
+    by (Some n) h = by_kind n.kind h
+    by None h = refl
+
+-- two names of one node are a file's
+single : (tree : TreeState) → IsSound tree → (name other : List ℕ) (child : ℕ) → row_of tree 0 name ≡ Some child → row_of tree 0 other ≡ Some child → name ≢ other → kind_of tree child ≡ File
+single tree sound name other child e f differ = not_directory tree child (λ is. differ (sound.once 0 0 name other child e f is).1)
+
+-- the rows of a sound tree's root clash with none before them
+pub sound_apart : (tree : TreeState) → IsSound tree → KeepsApart (rows_of_root tree)
+sound_apart tree sound i j before row lt at_before at_row =
     let names = names_of 0 tree.rows in
     let es = entries names in
     let b = from_entry tree es i before at_before in
@@ -125,7 +146,7 @@ linked_apart tree linked i j before row lt at_before at_row =
     ∙ elim (nat_eq e.1 f.1) as (λ t. nat_eq e.1 f.1 ≡ t → (t && (rows.is_directory (kind_of tree e.1) || rows.is_directory (kind_of tree f.1))) ≡ false) [
       | true ↦ λ t.
           let same : e.1 ≡ f.1 = eqb-true _ _ t in
-          let file : kind_of tree e.1 ≡ File = linked.single e.0 f.0 e.1 (row_at tree i e b.1) (row_at tree j f r.1 ∙ ap Some (sym same)) others in
+          let file : kind_of tree e.1 ≡ File = single tree sound e.0 f.0 e.1 (row_at tree i e b.1) (row_at tree j f r.1 ∙ ap Some (sym same)) others in
           either_file _ _ file (ap (kind_of tree) (sym same) ∙ file)
       | false ↦ λ t. refl
     ] refl

@@ -12,7 +12,8 @@ use Rattle.sfs_base.specs.declared.numbers.Kind.{Kind}
 use Rattle.sfs_base.specs.declared.numbers.Kind.TheVariants.{File}
 use Rattle.sfs_tree.specs.Order.{name_cmp, key_cmp}
 use Rattle.sfs_tree.specs.Tree.{TreeState, Node, names_of}
-use Rattle.sfs_tree.specs.History.{kind_of, with_kinds}
+use Rattle.sfs_tree.specs.Tree.{kind_of}
+use Rattle.sfs_tree.specs.Names.{with_kinds}
 use Rattle.sfs_tree.proofs.Joined.{key_cmp_total, name_cmp-IsAntisymmetric}
 use Rattle.sfs_tree.proofs.Names.{get-names_where}
 use Rattle.area_pair.specs.declared.area.Row.{Row}
@@ -42,8 +43,20 @@ kinds_given tree (e ∷ es) = ap (λ l. (e.0, kind_of tree e.1) ∷ l) (kinds_gi
 pub shown-numbered : (tree : TreeState) → shown (numbered (rows_of_root tree)) ≡ root_shown tree
 shown-numbered tree = ap (λ l. from_entries {R = name_cmp} l) (numbers_apart (mentions (rows_of_root tree)) (rows_of_root tree) ∙ kinds_given tree (entries (names_of 0 tree.rows)))
 
+-- numbering rows changes nothing of what they show
+pub numbered_shown : (rows : List Row) → shown (numbered rows) ≡ shown rows
+numbered_shown rows = ap (λ l. from_entries {R = name_cmp} l) (numbers_apart (mentions rows) rows)
+
+-- the root's rows show what the root shows
+pub shown-root : (tree : TreeState) → shown (rows_of_root tree) ≡ root_shown tree
+shown-root tree = sym (numbered_shown (rows_of_root tree)) ∙ shown-numbered tree
+
+-- rows that are the root's, once both are numbered, show what the root shows
+pub shown_there : (tree : TreeState) (rows : List Row) → numbered (rows_of_root tree) ≡ numbered rows → shown rows ≡ root_shown tree
+shown_there tree rows there = sym (numbered_shown rows) ∙ ap shown (sym there) ∙ shown-numbered tree
+
 -- the node of a row is found with the row's kind
-kind_first : (rows : List Row) (k : ℕ) (row : Row) → KeepsApart rows → slice_get rows k ≡ Some row → find nat_cmp row.node.0 (map node_entry rows ++ root_entry ∷ []) ≡ Some (record { kind = row.kind; bytes = [] })
+pub kind_first : (rows : List Row) (k : ℕ) (row : Row) → KeepsApart rows → slice_get rows k ≡ Some row → find nat_cmp row.node.0 (map node_entry rows ++ root_entry ∷ []) ≡ Some (record { kind = row.kind; bytes = [] })
 kind_first [] k row apart at = absurd (none_some at)
 kind_first (x ∷ rows) zero row apart at =
     ap (λ (r : Row). find nat_cmp r.node.0 (map node_entry (x ∷ rows) ++ root_entry ∷ [])) (sym (some_same at))
@@ -72,18 +85,18 @@ with_kind_found tree [] q = refl
 with_kind_found tree (e ∷ es) q = elim (eq_by_cmp name_cmp q e.0) as (λ t. cond t (Some (kind_of tree e.1)) (find name_cmp q (map (with_kind tree) es)) ≡ option_map (kind_of tree) (cond t (Some e.1) (find name_cmp q es))) [ true ↦ refl | false ↦ with_kind_found tree es q ]
 
 -- each row's node has the row's kind in the first tree
-pub first_kinds : (rows : List Row) → KeepsApart rows → (k : ℕ) (row : Row) → slice_get rows k ≡ Some row → kind_of (first_tree rows) row.node.0 ≡ row.kind
-first_kinds rows apart k row at = ap (λ (o : Option Node). option_map_or (λ (n : Node). n.kind) o File) (get-from_entries nat_cmp_total (map node_entry rows ++ root_entry ∷ []) row.node.0 ∙ kind_first rows k row apart at)
+pub first_kinds : (share : ℕ) (rows : List Row) → KeepsApart rows → (k : ℕ) (row : Row) → slice_get rows k ≡ Some row → kind_of (first_tree share rows) row.node.0 ≡ row.kind
+first_kinds share rows apart k row at = ap (λ (o : Option Node). option_map_or (λ (n : Node). n.kind) o File) (get-from_entries nat_cmp_total (map node_entry rows ++ root_entry ∷ []) row.node.0 ∙ kind_first rows k row apart at)
 
 -- the first tree shows what its rows show
-pub shown-first : (rows : List Row) → KeepsApart rows → shown rows ≡ root_shown (first_tree rows)
-shown-first rows apart =
+pub shown-first : (share : ℕ) (rows : List Row) → KeepsApart rows → shown rows ≡ root_shown (first_tree share rows)
+shown-first share rows apart =
     same_map nat_list_cmp_total name_cmp-IsAntisymmetric _ _ (λ q.
     get-from_entries nat_list_cmp_total (map name_and_kind rows) q
-    ∙ looked_up tree rows q (first_kinds rows apart)
+    ∙ looked_up tree rows q (first_kinds share rows apart)
     ∙ ap (option_map (kind_of tree)) (sym (get-from_entries key_cmp_total (map row_entry rows) (0, q)) ∙ sym (get-names_where 0 (λ _. true) tree.rows q) ∙ get-entries (names_of 0 tree.rows) q)
     ∙ sym (with_kind_found tree (entries (names_of 0 tree.rows)) q)
     ∙ sym (get-from_entries nat_list_cmp_total (with_kinds tree (names_of 0 tree.rows)) q))
   where
     tree : TreeState
-    tree = first_tree rows
+    tree = first_tree share rows

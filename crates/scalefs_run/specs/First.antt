@@ -20,13 +20,13 @@ node_entry row = (row.node.0, record { kind = row.kind; bytes = [] })
 abbrev pub root_entry : ℕ × Node
 root_entry = (0, record { kind = Directory; bytes = [] })
 
--- The tree whose root has these rows and nothing else: its new nodes begin with 64, and each of two cores may make 2,048.
-abbrev pub first_tree : List Row → TreeState
-first_tree rows = record {
+-- The tree whose root has these rows and nothing else: its new nodes begin with 64, and each of two cores may make so many.
+abbrev pub first_tree : ℕ → List Row → TreeState
+first_tree share rows = record {
   rows = from_entries (map row_entry rows);
   nodes = from_entries (map node_entry rows ++ root_entry ∷ []);
   first = 64;
-  share = 2048;
+  share = share;
   made = 0 ∷ 0 ∷ [];
 }
 

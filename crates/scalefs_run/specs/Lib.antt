@@ -1,7 +1,13 @@
+pub mod Beyond
+pub mod Calls
+pub mod Crash
 pub mod First
 pub mod Flushed
+pub mod Made
 pub mod Outcome
 pub mod Replies
+pub mod Safe
 pub mod Served
 pub mod Shown
 pub mod Stands
+pub mod Words

@@ -5,44 +5,58 @@ use Rattle.sfs_base.specs.declared.transfer.ReadAllFault.{ReadAllFault}
 use Rattle.sfs_base.specs.declared.transfer.ReadAllFault.TheVariants as source
 use Rattle.script.specs.declared.fault.ScriptFault.{ScriptFault}
 use Rattle.script.specs.declared.fault.ScriptFault.TheVariants as script
-use Rattle.sfs_base.specs.declared.numbers.Measure.TheVariants.{Bytes}
-use Rattle.sfs_tree.specs.declared.call.Call.{Call}
+use Rattle.sfs_base.specs.declared.numbers.Measure.{Measure}
+use Rattle.sfs_base.specs.declared.numbers.Measure.TheVariants.{Bytes, Lines}
 use Rattle.sfs_tree.specs.declared.history.Entry.{Entry}
-use Rattle.script.specs.declared.command.Command.{Command}
-use Rattle.script.specs.Calls.{Follows, called, calls_of}
-use Rattle.script.specs.Commands.{commands_of}
-use Rattle.script.specs.Faults.{MOST_BYTES}
+use Rattle.script.specs.declared.commands.Line.{Line}
+use Rattle.script.specs.Follows.{Follows, FollowsSoFar}
+use Rattle.script.specs.Lines.{lines}
+use Rattle.script.specs.Phases.{phases_of}
+use Rattle.script.specs.Faults.{MOST_BYTES, MOST_LINES, IsShort}
 use Rattle.script.specs.Texts.{history_text}
 use Rattle.scalefs_run.specs.declared.outcome.Status.{Status}
-use Rattle.scalefs_run.specs.declared.outcome.Status.TheVariants.{Done, BadWords, BadScript, ReadFault, WriteFault, DiskFault, NoMemory, TooLong}
+use Rattle.scalefs_run.specs.declared.outcome.Status.TheVariants.{Done, BadWords, BadScript, ReadFault, WriteFault, DiskFault, NoMemory, TooManyWorkers, TooLong}
+use Rattle.scalefs_run.specs.Beyond.{beyond}
+use Rattle.scalefs_run.specs.Words.{nodes_of, CORES}
 
 -- these are the bytes that were told, where they were
 abbrev pub IsOf : Option (List ℕ) → List ℕ → Type 0
 IsOf (Some told) bytes = bytes ≡ told
 IsOf None bytes = Unit {0}
 
--- the words are `run` alone
-abbrev pub is_run : List (List ℕ) → Bool
-is_run [] = false
-is_run (word ∷ []) = bytes_eq word (codes "run")
-is_run (word ∷ next ∷ words) = false
+-- the status that is due where a script is read to its end: there is a core for each worker
+abbrev pub workers_status : Option ℕ → Status
+workers_status None = Done
+workers_status (Some asked) = TooManyWorkers asked CORES
 
 -- the status of a script that was read: that of its first bad line, if it has one
-abbrev pub script_status : Result (List Command) ℕ → Status
-script_status (Ok commands) = Done
+abbrev pub script_status : Result (List (List Line)) ℕ → Status
+script_status (Ok phases) = workers_status (beyond CORES phases)
 script_status (Err line) = BadScript line
 
--- the status that is due where nothing fails: the words come first, then the length of the script, then its lines
+-- the status of words that are no command
+abbrev pub words_status : Result ℕ ℕ → Status → Status
+words_status (Ok nodes) status = status
+words_status (Err place) status = BadWords place
+
+-- the status that is due where nothing fails: the words come first, then the length of the script, then its lines, then its workers
 abbrev pub due : List (List ℕ) → List ℕ → Status
 due words script =
-    if not (is_run words) then BadWords 0 else
+    words_status (nodes_of words) (
     if nat_lt MOST_BYTES (length script) then TooLong Bytes else
-    script_status (commands_of script)
+    if nat_lt MOST_LINES (length (lines script)) then TooLong Lines else
+    script_status (phases_of script))
 
 -- the words were a command
 abbrev pub IsCommand : Status → Type 0
 IsCommand (BadWords place) = ⊥
 IsCommand _ = Unit {0}
+
+-- the script is in the grammar and the limits
+abbrev pub IsRead : Status → Type 0
+IsRead Done = Unit {0}
+IsRead (TooManyWorkers asked have) = Unit {0}
+IsRead _ = ⊥
 
 -- Why a run ends so, from the status that is due, and from whether the source's, the sink's or the disk's faults have risen:
 -- with the status that is due; or a failure of the source, or of the disk or the sink once the script was read; or want of memory.
@@ -52,8 +66,9 @@ HasStatus due source sink disk (BadWords place) = due ≡ BadWords place
 HasStatus due source sink disk (BadScript line) = due ≡ BadScript line
 HasStatus due source sink disk ReadFault = source × IsCommand due
 HasStatus due source sink disk WriteFault = sink × (due ≡ Done)
-HasStatus due source sink disk DiskFault = disk × (due ≡ Done)
+HasStatus due source sink disk DiskFault = disk × IsRead due
 HasStatus due source sink disk NoMemory = IsCommand due
+HasStatus due source sink disk (TooManyWorkers asked have) = due ≡ TooManyWorkers asked have
 HasStatus due source sink disk (TooLong measure) = due ≡ TooLong measure
 
 -- the status of a run whose source could not be read
@@ -68,11 +83,16 @@ status_of_script (script.TooLong measure) = TooLong measure
 status_of_script (script.BadLine line) = BadScript line
 status_of_script script.NoMemory = NoMemory
 
--- why no commands were read: the source failed; the script is too long, or has a bad line; or want of memory
+-- too many of what a script is measured in
+abbrev pub IsTooLong : List ℕ → Measure → Type 0
+IsTooLong text Bytes = MOST_BYTES < length text
+IsTooLong text Lines = (length text ≤ MOST_BYTES) × (MOST_LINES < length (lines text))
+
+-- why no script was read: the source failed; the script is too long, or has a bad line; or want of memory
 abbrev pub HasReadFault : List ℕ → Type 0 → Status → Type 0
 HasReadFault text failed ReadFault = failed
-HasReadFault text failed (TooLong measure) = (measure ≡ Bytes) × (MOST_BYTES < length text)
-HasReadFault text failed (BadScript line) = (length text ≤ MOST_BYTES) × (commands_of text ≡ Err line)
+HasReadFault text failed (TooLong measure) = IsTooLong text measure
+HasReadFault text failed (BadScript line) = IsShort text × (phases_of text ≡ Err line)
 HasReadFault text failed NoMemory = Unit {0}
 HasReadFault text failed _ = ⊥
 
@@ -83,21 +103,17 @@ IsWriteStatus sink WriteFault = sink
 IsWriteStatus sink NoMemory = Unit {0}
 IsWriteStatus sink _ = ⊥
 
--- the commands of a script, none where it has a bad line
-abbrev pub commands_in : Result (List Command) ℕ → List Command
-commands_in (Ok commands) = commands
-commands_in (Err line) = []
+-- the phases of a script, none where it has a bad line
+abbrev pub phases_in : Result (List (List Line)) ℕ → List (List Line)
+phases_in (Ok phases) = phases
+phases_in (Err line) = []
 
--- The calls of a history are those of the first commands, each once, in their order.
-abbrev pub FollowsSoFar : List Command → List Entry → Type 0
-FollowsSoFar commands history = (later : List (ℕ × Call)) × (calls_of commands ≡ map called history ++ later)
-
--- The history that belongs to a status: that of the whole script, of its first commands where memory was refused, or none.
-abbrev pub HasHistory : List Command → List Entry → Status → Type 0
-HasHistory commands history Done = Follows commands history
-HasHistory commands history WriteFault = Follows commands history
-HasHistory commands history NoMemory = FollowsSoFar commands history
-HasHistory commands history _ = history ≡ []
+-- The history that belongs to a status: that of the whole script, of its begin where memory was refused, or none.
+abbrev pub HasHistory : List (List Line) → List Entry → Status → Type 0
+HasHistory phases history Done = Follows phases history
+HasHistory phases history WriteFault = Follows phases history
+HasHistory phases history NoMemory = FollowsSoFar phases history
+HasHistory phases history _ = history ≡ []
 
 -- What is written with a status: the whole text of the history, the front of it, or nothing.
 abbrev pub HasText : List Entry → Option (List ℕ) → Option (List ℕ) → Status → Type 0
@@ -111,6 +127,7 @@ reaches_disk Done = true
 reaches_disk WriteFault = true
 reaches_disk DiskFault = true
 reaches_disk NoMemory = true
+reaches_disk (TooManyWorkers asked have) = true
 reaches_disk _ = false
 
 -- the number with which the program ends
@@ -122,6 +139,7 @@ status_number ReadFault = 4
 status_number WriteFault = 5
 status_number DiskFault = 6
 status_number NoMemory = 8
+status_number (TooManyWorkers asked have) = 9
 status_number (TooLong measure) = 10
 
 -- the line that the program writes on standard error
@@ -133,4 +151,5 @@ status_text ReadFault = codes "cannot read the script"
 status_text WriteFault = codes "cannot write the answer"
 status_text DiskFault = codes "the disk failed"
 status_text NoMemory = codes "out of memory"
+status_text (TooManyWorkers asked have) = (codes "worker " ++ decimal asked) ++ (codes " of " ++ decimal have)
 status_text (TooLong measure) = codes "script too long"

@@ -1,13 +1,14 @@
 -- The root's rows as names and kinds, in an image and at a stamp.
-use Rattle.std.specs.Prelude.{ℕ, Bool, true, false, List, map, take, fold, if◌then◌else◌}
+use Rattle.std.specs.Prelude.{ℕ, ◌&&◌, Bool, true, false, List, map, take, fold, if◌then◌else◌}
 use Rattle.std.specs.FinMap.{FinMap, from_entries}
 use Rattle.sfs_base.specs.declared.numbers.Kind.{Kind}
-use Rattle.sfs_tree.specs.declared.call.Call.{Call}
-use Rattle.sfs_tree.specs.declared.call.Call.TheVariants as call
 use Rattle.sfs_tree.specs.declared.history.Entry.{Entry}
 use Rattle.sfs_tree.specs.Order.{name_cmp}
 use Rattle.sfs_tree.specs.Tree.{TreeState}
-use Rattle.sfs_tree.specs.History.{tree_after, rows_at, with_kinds, is_ok_reply}
+use Rattle.sfs_tree.specs.History.{tree_after, is_ok_reply}
+use Rattle.sfs_tree.specs.Changes.{rows_at}
+use Rattle.sfs_tree.specs.Names.{with_kinds}
+use Rattle.scalefs_run.specs.Replies.{is_fsync}
 use Rattle.area_pair.specs.declared.area.Row.{Row}
 
 -- names and kinds
@@ -26,14 +27,9 @@ shown rows = from_entries (map name_and_kind rows)
 abbrev pub shown_at : TreeState → List Entry → ℕ → Kinds
 shown_at first history stamp = from_entries (with_kinds (tree_after first (take stamp history)) (rows_at first history 0 stamp))
 
--- whether a call is an fsync
-abbrev pub is_fsync : Call → Bool
-is_fsync (call.Make directory name kind) = false
-is_fsync (call.Fsync node) = true
-
 -- whether an entry is an fsync answered Ok
 abbrev pub is_flush : Entry → Bool
-is_flush entry = if is_fsync entry.call then is_ok_reply entry.reply else false
+is_flush entry = is_fsync entry.call && is_ok_reply entry.reply
 
 -- the stamp of the entry if it is an fsync answered Ok, and else the one before
 abbrev pub later_flush : ℕ → Entry → ℕ

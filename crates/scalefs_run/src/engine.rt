@@ -1,22 +1,30 @@
-// The calls of a script, one after another, on one thread.
-ghost use Rattle.std.specs.Prelude.{◌≡◌, ◌≤◌, ◌++◌, ◌∷◌, [], map, IfOk, IfErr, OnOk, OnErr};
-ghost use Rattle.sfs_dev.specs.Run.{GoesOn};
+// The calls of a script: phase by phase, in a phase one worker after another, on one thread. Worker
+// c is core c.
+ghost use Rattle.std.specs.Prelude.{◌≡◌, ◌≤◌, ◌<◌, [], true, false, length, IfOk, IfErr, OnOk, OnErr};
+ghost use Rattle.std.specs.List.{All};
+ghost use Rattle.sfs_dev.specs.Disk.{OnlyTold, images};
+ghost use Rattle.sfs_dev.specs.Run.{GoesOn, CountsOn, EachMoment};
 ghost use Rattle.area_pair.specs.Fault.{IsFault};
-ghost use Rattle.script.specs.Calls.{call_of, called, calls_of};
-ghost use Rattle.scalefs_run.specs.Outcome.{FollowsSoFar};
-ghost use Rattle.scalefs_run.specs.Stands.{StandsSomehow, StandsStill, Begins};
+ghost use Rattle.area_pair.specs.Put.{IsTold};
+ghost use Rattle.area_pair.specs.Rows.{rows_of};
+ghost use Rattle.script.specs.Follows.{Follows, FollowsSoFar, IsWhole, IsPart};
+ghost use Rattle.scalefs_run.specs.Beyond.{IsWithin};
+ghost use Rattle.script.specs.Ready.{MayCall, LinesMayRun};
+ghost use Rattle.sfs_tree.specs.Sound.{IsSound};
+ghost use Rattle.scalefs_run.specs.Calls.{Called, PassedOn, FlushedRoot};
+ghost use Rattle.scalefs_run.specs.Replies.{is_fsync};
+ghost use Rattle.scalefs_run.specs.Made.{Grown, ByWorker, ByWorkerWhole};
+ghost use Rattle.scalefs_run.specs.Stands.{StandsSomehow, StandsStill};
+ghost use Rattle.scalefs_run.specs.Safe.{Begins, SafeStill};
 
-use crate::first::{ROOT, tree_of_rows};
-use crate::flush::{Flushed, Store, flush};
+use crate::first::{CORES, tree_of_rows};
+use crate::flush::{Flushed, Store, flush, rows_of_root};
 use area_pair::{Areas, OpenFault};
-use script::Command;
-use sfs_base::{CoreId, Kind, NoMemory, Stamp};
+use script::{Phase, Worker};
+use sfs_base::{CoreId, NoMemory, Stamp};
 use sfs_dev::Disk;
-use sfs_tree::{Call, Entry, Tree};
+use sfs_tree::{Call, Entry, Reply, Tree};
 use std::alloc::Global;
-
-/// The worker whose commands a script has.
-const WORKER: CoreId = CoreId(0);
 
 /// What a run has in hand.
 #[derive(Drop)]
@@ -27,16 +35,23 @@ pub struct Engine {
     pub entries: Vec<Entry>,
 }
 
-/// Opens a disk: the tree that it holds, and no calls yet.
-pub fn mount<D: Disk>(alloc: Global, disk: &mut D) -> Result<Engine, OpenFault>
-    requires { 4 ≤ (D.view disk.old).size }
-    ensures begins { IfOk result (λ engine. Begins engine (D.view disk.old) (D.view disk.new)) }
+/// Opens a disk: the tree that it holds, in which each core may make so many nodes, and no calls
+/// yet.
+pub fn mount<D: Disk>(alloc: Global, share: u32, disk: &mut D) -> Result<Engine, OpenFault>
+    requires large { 4 ≤ (D.view disk.old).size }
+    requires share { share ≤ 32768 }
+    ensures begins { IfOk result (λ engine. Begins share engine (D.view disk.old) (D.view disk.new)) }
+
+    // Where nothing is pending at entry, a crash at any moment of the call leaves the same rows.
+    ensures moments { OnlyTold (D.view disk.old).told (images (D.view disk.old)) → CountsOn (D.view disk.new)
+        → IsTold (D.view disk.old).told (λ content. EachMoment (D.view disk.old) (D.view disk.new) (λ _ image. rows_of image ≡ rows_of content)) }
+
     ensures goes { GoesOn (D.view disk.old) (D.view disk.new) }
     ensures cause { IfErr result (λ fault. IsFault fault (D.view disk.old).faults (D.view disk.new).faults) }
 {
     let (areas, rows) = Areas::open(alloc, disk)?;
-    let tree = tree_of_rows(alloc, rows)?;
-    let on_disk = tree.row_count(ROOT);
+    let tree = tree_of_rows(alloc, share, rows)?;
+    let on_disk = rows_of_root(alloc, &tree)?;
     Ok(Engine {
         alloc,
         store: Store {
@@ -49,63 +64,115 @@ pub fn mount<D: Disk>(alloc: Global, disk: &mut D) -> Result<Engine, OpenFault>
     })
 }
 
-/// Runs the commands in their order. Want of memory before a call's stamp ends the run.
+/// Runs the phases in their order. Want of memory before a call's stamp ends the run.
 pub fn serve<D: Disk>(
     engine: &mut Engine,
     disk: &mut D,
-    commands: &[Command],
+    phases: &[Phase],
 ) -> Result<(), NoMemory>
     requires large { 4 ≤ (D.view disk.old).size }
     requires stands { StandsSomehow engine.old (D.view disk.old) }
     requires none { engine.old.entries.items ≡ [] }
+    requires within { All (IsWithin 2) phases.now }
+    requires ready { All LinesMayRun phases.now }
     ensures stands { StandsStill engine.old engine.new (D.view disk.old) (D.view disk.new) }
-    ensures ok { OnOk result (map called engine.new.entries.items ≡ calls_of commands.now) }
-    ensures err { OnErr result (FollowsSoFar commands.now engine.new.entries.items) }
+    ensures safe { SafeStill engine.old engine.new (D.view disk.old) (D.view disk.new) }
+    ensures ok { OnOk result (Follows phases.now engine.new.entries.items) }
+    ensures err { OnErr result (FollowsSoFar phases.now engine.new.entries.items) }
     ensures goes { GoesOn (D.view disk.old) (D.view disk.new) }
 {
-    for command in commands {
-        serve_one(engine, disk, command)?;
+    for phase in phases {
+        serve_phase(engine, disk, phase)?;
     }
     Ok(())
 }
 
-// Runs a command. What may be refused memory comes before the entry.
-fn serve_one<D: Disk>(engine: &mut Engine, disk: &mut D, command: &Command) -> Result<(), NoMemory>
+// Runs a phase, one worker after another.
+fn serve_phase<D: Disk>(engine: &mut Engine, disk: &mut D, phase: &Phase) -> Result<(), NoMemory>
     requires large { 4 ≤ (D.view disk.old).size }
     requires stands { StandsSomehow engine.old (D.view disk.old) }
+    requires within { IsWithin 2 phase.now }
+    requires ready { LinesMayRun phase.now }
     ensures stands { StandsStill engine.old engine.new (D.view disk.old) (D.view disk.new) }
-    ensures ok { OnOk result (map called engine.new.entries.items ≡ map called engine.old.entries.items ++ (0, call_of command.now) ∷ []) }
+    ensures safe { SafeStill engine.old engine.new (D.view disk.old) (D.view disk.new) }
+    ensures ok { OnOk result (Grown engine.old.entries.items engine.new.entries.items (IsWhole phase.now)) }
+    ensures err { OnErr result (Grown engine.old.entries.items engine.new.entries.items (IsPart phase.now)) }
+    ensures goes { GoesOn (D.view disk.old) (D.view disk.new) }
+{
+    for core in 0..CORES {
+        serve_worker(engine, disk, phase, core)?;
+    }
+    Ok(())
+}
+
+// Runs a worker's commands in a phase to their end.
+fn serve_worker<D: Disk>(
+    engine: &mut Engine,
+    disk: &mut D,
+    phase: &Phase,
+    core: u8,
+) -> Result<(), NoMemory>
+    requires large { 4 ≤ (D.view disk.old).size }
+    requires stands { StandsSomehow engine.old (D.view disk.old) }
+    requires core { core < 2 }
+    requires ready { LinesMayRun phase.now }
+    ensures stands { StandsStill engine.old engine.new (D.view disk.old) (D.view disk.new) }
+    ensures safe { SafeStill engine.old engine.new (D.view disk.old) (D.view disk.new) }
+    ensures ok { OnOk result (Grown engine.old.entries.items engine.new.entries.items (ByWorkerWhole core phase.now)) }
+    ensures err { OnErr result (Grown engine.old.entries.items engine.new.entries.items (ByWorker core phase.now)) }
+    ensures goes { GoesOn (D.view disk.old) (D.view disk.new) }
+{
+    let mut worker = Worker::new(u16::from(core), phase);
+    while let Some(call) = worker.next_call()? {
+        let place = engine.entries.len();
+        serve_call(engine, disk, CoreId(core), call)?;
+        worker.take(&engine.entries[place].reply);
+    }
+    Ok(())
+}
+
+// The answer to a call: that of the disk to an fsync, and else that of the tree.
+fn answer<D: Disk>(engine: &mut Engine, disk: &mut D, call: &Call, reply: Reply) -> Flushed
+    requires large { 4 ≤ (D.view disk.old).size }
+    requires few { length engine.old.store.on_disk.items ≤ 15 }
+    requires sound { IsSound engine.old.tree }
+    ensures other { is_fsync call.now ≡ false → PassedOn (disk.new ≡ disk.old) reply engine.old engine.new result }
+    ensures fsync { is_fsync call.now ≡ true → FlushedRoot (disk.new ≡ disk.old) engine.old engine.new (D.view disk.old) (D.view disk.new) result }
+    ensures goes { GoesOn (D.view disk.old) (D.view disk.new) }
+{
+    match call {
+        Call::Fsync { node: _ } => flush(engine.alloc, &mut engine.store, disk, &engine.tree),
+        _ => Flushed { reply, ack: None },
+    }
+}
+
+// Makes a call. What may be refused memory comes before the entry.
+fn serve_call<D: Disk>(
+    engine: &mut Engine,
+    disk: &mut D,
+    core: CoreId,
+    call: Call,
+) -> Result<(), NoMemory>
+    requires large { 4 ≤ (D.view disk.old).size }
+    requires stands { StandsSomehow engine.old (D.view disk.old) }
+    requires core { core.0 < 2 }
+    requires ready { MayCall call }
+    ensures stands { StandsStill engine.old engine.new (D.view disk.old) (D.view disk.new) }
+    ensures safe { SafeStill engine.old engine.new (D.view disk.old) (D.view disk.new) }
+    ensures ok { OnOk result (Called core call engine.old.entries.items engine.new.entries.items) }
     ensures err { OnErr result (engine.new.entries.items ≡ engine.old.entries.items) }
     ensures goes { GoesOn (D.view disk.old) (D.view disk.new) }
 {
     engine.entries.reserve(1)?;
-    let call = call_of(command)?;
-    let reply = engine.tree.step(WORKER, &call)?;
-    let Flushed { reply, ack } = match command {
-        Command::Mkdir { name: _ } => Flushed { reply, ack: None },
-        Command::Fsync => flush(engine.alloc, &mut engine.store, disk, &engine.tree),
-    };
+    let reply = engine.tree.step(core, &call)?;
+    let Flushed { reply, ack } = answer(engine, disk, &call, reply);
     let stamp = Stamp(engine.entries.len() as u64);
     engine.entries.push_reserved(Entry {
         stamp,
-        core: WORKER,
+        core,
         call,
         reply,
         ack,
     });
     Ok(())
-}
-
-// The call of a command.
-fn call_of(command: &Command) -> Result<Call, NoMemory>
-    ensures { IfOk result (λ call. call ≡ call_of command.now) }
-{
-    match command {
-        Command::Mkdir { name } => Ok(Call::Make {
-            dir: ROOT,
-            name: name.copy()?,
-            kind: Kind::Directory,
-        }),
-        Command::Fsync => Ok(Call::Fsync { node: ROOT }),
-    }
 }

@@ -1,6 +1,6 @@
 // The tree with which a run begins. On the disk there are the rows of the root alone, so their
 // children are empty, and have their inodes as numbers.
-ghost use Rattle.std.specs.Prelude.{◌≡◌, ◌<◌, None, IfOk, OnOk, IsTrue};
+ghost use Rattle.std.specs.Prelude.{◌≡◌, ◌<◌, ◌≤◌, None, IfOk, OnOk, IsTrue};
 ghost use Rattle.std.specs.FinMap as finmap;
 ghost use Rattle.sfs_base.specs.Name.{bucket};
 ghost use Rattle.sfs_tree.specs.Tree.{row_of, is_directory, bucket_rows};
@@ -18,18 +18,16 @@ pub const ROOT: NodeId = NodeId(0);
 /// The number of the first new node: a disk has the inodes below it.
 const FIRST: u32 = 64;
 
-/// How many nodes each core may make: 4,096 for both.
-const SHARE: u32 = 2048;
-
 /// How many cores there are.
-const CORES: u8 = 2;
+pub const CORES: u8 = 2;
 
-/// The tree whose root has these rows.
-pub fn tree_of_rows(alloc: Global, mut rows: Vec<Row>) -> Result<Tree, NoMemory>
-    requires { AreRoots rows.items }
-    ensures { IfOk result (λ tree. tree ≡ first_tree rows.items) }
+/// The tree whose root has these rows, and in which each core may make so many nodes.
+pub fn tree_of_rows(alloc: Global, share: u32, mut rows: Vec<Row>) -> Result<Tree, NoMemory>
+    requires rows { AreRoots rows.items }
+    requires share { share ≤ 32768 }
+    ensures { IfOk result (λ tree. tree ≡ first_tree share rows.items) }
 {
-    let mut tree = Tree::empty(alloc, FIRST, SHARE, CORES)?;
+    let mut tree = Tree::empty(alloc, FIRST, share, CORES)?;
     while let Some(row) = rows.pop() {
         add_row(alloc, &mut tree, row)?;
     }

@@ -1,11 +1,13 @@
 //! The top call: it reads a script, runs it on a tree that is read from a disk, and writes the history.
 #![tactic(auto)]
 
+mod beyond;
 mod engine;
 mod first;
 mod flush;
 mod outcome;
 mod top;
+mod words;
 
 pub use outcome::{Outcome, Status, status_line};
 pub use top::run;

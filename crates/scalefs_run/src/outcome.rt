@@ -10,7 +10,8 @@ use std::alloc::Global;
 pub enum Status {
     /// The whole script was run, and the whole text was written.
     Done,
-    /// The words are no command (place 0).
+    /// A word begins with `-` or the words are no command (place 0), or the number in this place,
+    /// from 1, is none of its range.
     BadWords { place: u32 },
     /// The first line outside the grammar, counted from 1.
     BadScript { line: u32 },
@@ -22,7 +23,9 @@ pub enum Status {
     DiskFault,
     /// Memory was refused.
     NoMemory,
-    /// The script has too many bytes.
+    /// The first line whose worker has no core: the worker, and how many cores there are.
+    TooManyWorkers { asked: u32, have: u32 },
+    /// The script has too many bytes, or too many lines.
     TooLong { measure: Measure },
 }
 
@@ -41,6 +44,7 @@ impl Status {
             Status::WriteFault => 5,
             Status::DiskFault => 6,
             Status::NoMemory => 8,
+            Status::TooManyWorkers { asked: _, have: _ } => 9,
             Status::TooLong { measure: _ } => 10,
         }
     }
@@ -50,17 +54,17 @@ impl Status {
 pub fn status_line(alloc: Global, status: &Status) -> Result<String, NoMemory>
     ensures { IfOk result (λ line. string_bytes line ≡ status_text status.now) }
 {
-    let line = match *status {
-        Status::Done => String::new(alloc),
-        Status::BadWords { place } => format!(in alloc; "bad words at {place}")?,
-        Status::BadScript { line } => format!(in alloc; "bad script at line {line}")?,
-        Status::ReadFault => String::from_str(alloc, "cannot read the script")?,
-        Status::WriteFault => String::from_str(alloc, "cannot write the answer")?,
-        Status::DiskFault => String::from_str(alloc, "the disk failed")?,
-        Status::NoMemory => String::from_str(alloc, "out of memory")?,
-        Status::TooLong { measure: _ } => String::from_str(alloc, "script too long")?,
-    };
-    Ok(line)
+    match *status {
+        Status::Done => Ok(String::new(alloc)),
+        Status::BadWords { place } => Ok(format!(in alloc; "bad words at {place}")?),
+        Status::BadScript { line } => Ok(format!(in alloc; "bad script at line {line}")?),
+        Status::ReadFault => Ok(String::from_str(alloc, "cannot read the script")?),
+        Status::WriteFault => Ok(String::from_str(alloc, "cannot write the answer")?),
+        Status::DiskFault => Ok(String::from_str(alloc, "the disk failed")?),
+        Status::NoMemory => Ok(String::from_str(alloc, "out of memory")?),
+        Status::TooManyWorkers { asked, have } => Ok(format!(in alloc; "worker {asked} of {have}")?),
+        Status::TooLong { measure: _ } => Ok(String::from_str(alloc, "script too long")?),
+    }
 }
 
 /// What a run leaves: its status, the calls with their replies, the turns of its commits, and the disk.

@@ -1,16 +1,24 @@
-ghost use Rattle.std.specs.Prelude.{◌≡◌, ◌≤◌, ℕ, List, [], true, false, length, map, string_bytes, IfOk, IfErr, Ok};
+ghost use Rattle.std.specs.Prelude.{◌≡◌, ◌≤◌, ◌/◌, ℕ, List, [], true, false, length, map, string_bytes, IfOk, IfErr, Ok};
+ghost use Rattle.std.specs.List.{All};
 ghost use Rattle.sfs_base.specs.Ends.{Rose};
 ghost use Rattle.sfs_dev.specs.Run.{GoesOn};
-ghost use Rattle.script.specs.Commands.{commands_of};
-ghost use Rattle.script.specs.Faults.{MOST_BYTES};
+ghost use Rattle.script.specs.Phases.{phases_of};
+ghost use Rattle.script.specs.Faults.{IsShort};
+ghost use Rattle.script.specs.Ready.{LinesMayRun};
 ghost use Rattle.scalefs_run.specs.declared.outcome.Status.TheVariants.{Done as Fine};
-ghost use Rattle.scalefs_run.specs.Outcome.{IsOf, is_run, HasText, IsWriteStatus, HasReadFault, status_of_source, status_of_script, reaches_disk};
+ghost use Rattle.scalefs_run.specs.Outcome.{IsOf, HasText, IsWriteStatus, HasReadFault, status_of_source, status_of_script, workers_status, reaches_disk};
+ghost use Rattle.scalefs_run.specs.Words.{nodes_of, share_of};
+ghost use Rattle.scalefs_run.specs.Beyond.{beyond, IsWithin};
 ghost use Rattle.scalefs_run.specs.Served.{Served, ServedScript};
+ghost use Rattle.scalefs_run.specs.Crash.{AreDated, Survives};
 
-use crate::engine::{Engine, mount, serve};
+use crate::beyond::first_beyond;
+use crate::engine::{mount, serve};
+use crate::first::CORES;
+use crate::words::nodes_of;
 use crate::{Outcome, Status};
 use area_pair::OpenFault;
-use script::{Command, LONGEST_SCRIPT, ScriptFault};
+use script::{LONGEST_SCRIPT, Script, ScriptFault};
 use sfs_base::{Gate, Measure, ReadAllFault, Sink, Source, read_all, write_all};
 use sfs_dev::Disk;
 use sfs_tree::{History, Turns};
@@ -18,7 +26,7 @@ use std::alloc::Global;
 use std::sync::Wait;
 use std::thread::Threads;
 
-/// Runs a script: the words say what to do, the source gives the script, the sink takes the text of
+/// Runs a script: the words are `run` or `run NODES`, the number of new nodes, the source gives the script, the sink takes the text of
 /// the history, and the disk keeps what was flushed. Nothing reaches the disk before the whole
 /// script is in the grammar. No thread is started yet, and the gate is not asked.
 pub fn run<R: Threads + Wait + Sync, S: Source, K: Sink, D: Disk, G: Gate>(
@@ -34,6 +42,11 @@ pub fn run<R: Threads + Wait + Sync, S: Source, K: Sink, D: Disk, G: Gate>(
 
     ensures served { ServedScript (map string_bytes words.now) (S.left source.old) (Rose (S.faults source.old) (S.faults source.new)) (Rose (K.faults sink.old) (K.faults sink.new))
         (K.written sink.old) (K.written sink.new) (D.view disk) (D.view result.disk) result.status result.history }
+
+    // A crash at any moment of the call leaves the root as it was at a stamp, with each fsync that was acknowledged by then.
+    ensures survives { Survives (share_of (map string_bytes words.now)) (D.view disk) (D.view result.disk) result.history }
+    ensures dated { AreDated (D.view disk).now result.history (D.view result.disk).now }
+
     ensures untouched { reaches_disk result.status ≡ false → result.disk ≡ disk }
     ensures turns { result.turns.items ≡ [] }
     ensures goes { GoesOn (D.view disk) (D.view result.disk) }
@@ -58,31 +71,25 @@ fn serve_words<S: Source, K: Sink, D: Disk>(
     requires { 4 ≤ (D.view disk.old).size }
     ensures served { ServedScript (map string_bytes words.now) (S.left source.old) (Rose (S.faults source.old) (S.faults source.new)) (Rose (K.faults sink.old) (K.faults sink.new))
         (K.written sink.old) (K.written sink.new) (D.view disk.old) (D.view disk.new) result.0 result.1 }
+    ensures survives { Survives (share_of (map string_bytes words.now)) (D.view disk.old) (D.view disk.new) result.1 }
+    ensures dated { AreDated (D.view disk.old).now result.1 (D.view disk.new).now }
     ensures untouched { reaches_disk result.0 ≡ false → disk.new ≡ disk.old }
     ensures goes { GoesOn (D.view disk.old) (D.view disk.new) }
 {
-    if !is_run(words) {
-        return (Status::BadWords { place: 0 }, History::new(alloc));
-    }
+    let nodes = match nodes_of(words) {
+        Ok(nodes) => nodes,
+        Err(place) => return (Status::BadWords { place }, History::new(alloc)),
+    };
     match read_script(alloc, source) {
         Err(status) => (status, History::new(alloc)),
-        Ok(commands) => serve_script(alloc, &commands, sink, disk),
+        Ok(script) => serve_script(alloc, nodes / u32::from(CORES), &script, sink, disk),
     }
 }
 
-// Whether the words are `run` alone.
-fn is_run(words: &[String]) -> bool
-    ensures { result ≡ is_run (map string_bytes words.now) }
-{
-    match words {
-        [word] => word.as_str() == "run",
-        _ => false,
-    }
-}
-
-// The commands of the script that the source gives.
-fn read_script<S: Source>(alloc: Global, source: &mut S) -> Result<Vec<Command>, Status>
-    ensures ok { IfOk result (λ commands. (script : List ℕ) × IsOf (S.left source.old) script × (length script ≤ MOST_BYTES) × (commands_of script ≡ Ok commands.items)) }
+// The script that the source gives.
+fn read_script<S: Source>(alloc: Global, source: &mut S) -> Result<Script, Status>
+    ensures ok { IfOk result (λ phases. (script : List ℕ) × IsOf (S.left source.old) script × IsShort script × (phases_of script ≡ Ok phases)) }
+    ensures ready { IfOk result (All LinesMayRun) }
     ensures err { IfErr result (λ status. (script : List ℕ) × IsOf (S.left source.old) script × HasReadFault script (Rose (S.faults source.old) (S.faults source.new)) status) }
 {
     let text = match read_all(alloc, source, LONGEST_SCRIPT as u64) {
@@ -90,7 +97,7 @@ fn read_script<S: Source>(alloc: Global, source: &mut S) -> Result<Vec<Command>,
         Err(fault) => return Err(status_of_source(fault)),
     };
     match script::read(alloc, &text) {
-        Ok(commands) => Ok(commands),
+        Ok(script) => Ok(script),
         Err(fault) => Err(status_of_script(fault)),
     }
 }
@@ -117,25 +124,38 @@ fn status_of_script(fault: ScriptFault) -> Status
     }
 }
 
-// Opens the disk, runs the commands and writes the text of their history.
+// Opens the disk, runs the phases and writes the text of their history, where there is a core for
+// each worker.
 fn serve_script<K: Sink, D: Disk>(
     alloc: Global,
-    commands: &[Command],
+    share: u32,
+    script: &Script,
     sink: &mut K,
     disk: &mut D,
 ) -> (Status, History)
-    requires { 4 ≤ (D.view disk.old).size }
-    ensures served { Served Fine commands.now ⊥ (Rose (K.faults sink.old) (K.faults sink.new)) (K.written sink.old) (K.written sink.new)
+    requires large { 4 ≤ (D.view disk.old).size }
+    requires share { share ≤ 32768 }
+    requires ready { All LinesMayRun script.now }
+    ensures served { Served (workers_status (beyond 2 script.now)) share script.now ⊥ (Rose (K.faults sink.old) (K.faults sink.new)) (K.written sink.old) (K.written sink.new)
         (D.view disk.old) (D.view disk.new) result.0 result.1 }
+    ensures survives { Survives share (D.view disk.old) (D.view disk.new) result.1 }
+    ensures dated { AreDated (D.view disk.old).now result.1 (D.view disk.new).now }
     ensures reached { reaches_disk result.0 ≡ true }
     ensures goes { GoesOn (D.view disk.old) (D.view disk.new) }
 {
-    let mut engine = match mount(alloc, disk) {
+    let mut engine = match mount(alloc, share, disk) {
         Ok(engine) => engine,
         Err(OpenFault::DiskFailed) => return (Status::DiskFault, History::new(alloc)),
         Err(OpenFault::NoMemory) => return (Status::NoMemory, History::new(alloc)),
     };
-    let served = serve(&mut engine, disk, commands);
+    if let Some(asked) = first_beyond(script.phases()) {
+        let status = Status::TooManyWorkers {
+            asked: u32::from(asked),
+            have: u32::from(CORES),
+        };
+        return (status, History::new(alloc));
+    }
+    let served = serve(&mut engine, disk, script.phases());
     let history = History::from_entries(engine.entries);
     let status = match served {
         Err(_) => Status::NoMemory,

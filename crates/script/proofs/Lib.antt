@@ -1,11 +1,12 @@
+pub mod BoolLemmas
+pub mod EndLemmas
+pub mod FollowLemmas
+pub mod HistoryLemmas
+pub mod LimitLemmas
 pub mod LineLemmas
 pub mod NumberLemmas
 pub mod PathLemmas
 pub mod PhaseLemmas
-pub mod BoolLemmas
+pub mod ReadyLemmas
 pub mod TextLemmas
 pub mod WalkLemmas
-pub mod FollowLemmas
-pub mod EndLemmas
-pub mod LimitLemmas
-pub mod HistoryLemmas

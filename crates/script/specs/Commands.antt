@@ -59,6 +59,10 @@ abbrev pub three : {A B C : Type 0} → (List ℕ → Option A) → (List ℕ �
 three read_first read_second read_third (first ∷ second ∷ third ∷ []) = all_three (read_first first) (read_second second) (read_third third)
 three read_first read_second read_third _ = None
 
+-- an fsync of the root, the one node whose rows the disk of this stage keeps
+abbrev pub root_flush : List ℕ → Option Command
+root_flush word = if bytes_eq word (codes "/") then Some command.Fsync else None
+
 -- The command of a verb and the words behind it.
 abbrev pub command_of : Verb → List (List ℕ) → Option Command
 command_of Create words = option_map command.Create (one name_path_of words)
@@ -72,7 +76,7 @@ command_of Read words = option_map (λ read. command.Read read.0 read.1 read.2) 
 command_of Trunc words = option_map (λ read. command.Trunc read.0 read.1) (two path_of offset_of words)
 command_of Stat words = option_map command.Stat (one path_of words)
 command_of Lists words = option_map command.List (one path_of words)
-command_of Fsync words = option_map command.Fsync (one path_of words)
+command_of Fsync words = one root_flush words
 
 -- a worker's number: up to 65,535
 abbrev pub worker_of : List ℕ → Option ℕ

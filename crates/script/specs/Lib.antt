@@ -7,6 +7,7 @@ pub mod Lines
 pub mod Paths
 pub mod Phases
 pub mod Places
+pub mod Ready
 pub mod Texts
 pub mod Walks
 pub mod Words

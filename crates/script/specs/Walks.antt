@@ -24,7 +24,7 @@ first_walk (Read path at count) = path
 first_walk (Trunc path size) = path
 first_walk (Stat path) = path
 first_walk (Lists path) = path
-first_walk (Fsync path) = path
+first_walk Fsync = []
 
 -- the names that a command walks then, from the root on: a link and a rename have a second place
 abbrev pub second_walk : Command → List (List ℕ)
@@ -49,7 +49,7 @@ last_call (Read path at count) first second = call.Read (node_of first) at count
 last_call (Trunc path size) first second = call.Trunc (node_of first) size
 last_call (Stat path) first second = call.Stat (node_of first)
 last_call (Lists path) first second = call.List (node_of first)
-last_call (Fsync path) first second = call.Fsync (node_of first)
+last_call Fsync first second = call.Fsync (node_of first)
 
 -- What is left of a command: a name to look up in a node, and names behind it, on its first walk or, after that ended at a node,
 -- on its second; or the last call; or nothing.

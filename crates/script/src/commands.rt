@@ -75,7 +75,7 @@ pub enum Command {
     /// Asks for the names in a directory.
     List { path: Path },
     /// Brings a node's changes to the disk.
-    Fsync { path: Path },
+    Fsync,
 }
 
 /// A command and the worker that runs it.

@@ -24,5 +24,6 @@ pub use commands::{Command, Line, NamePath};
 pub use fault::ScriptFault;
 pub use phases::{Phase, Script};
 pub use reader::{LONGEST_SCRIPT, MOST_LINES, read};
+pub use words::number_up_to;
 pub use worker::Worker;
 pub use writer::text;

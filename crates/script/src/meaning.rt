@@ -2,6 +2,7 @@ ghost use Rattle.std.specs.Prelude.{◌≡◌, IfOk};
 ghost use Rattle.script.specs.Lines.{words};
 ghost use Rattle.script.specs.Commands.{command_of, line_of, meaning_of};
 
+use crate::arguments::one_word;
 use crate::operands::{link, path, place, read, rename, trunc, write};
 use crate::parts::first_part;
 use crate::verbs::{Meaning, Verb, verb_of};
@@ -51,6 +52,17 @@ fn line_of(alloc: Global, line: &[u8]) -> Result<Option<Line>, NoMemory>
     Ok(Some(Line { worker, command }))
 }
 
+// An fsync, whose one word is the root's path.
+fn fsync(arguments: &[u8]) -> Option<Command>
+    ensures { result ≡ command_of Verb.Fsync (words arguments.now) }
+{
+    if one_word(arguments)? == b"/".as_slice() {
+        Some(Command::Fsync)
+    } else {
+        None
+    }
+}
+
 // The command of a verb and the words behind it.
 fn command_of(alloc: Global, verb: Verb, arguments: &[u8]) -> Result<Option<Command>, NoMemory>
     ensures { IfOk result (λ command. command ≡ command_of verb (words arguments.now)) }
@@ -67,6 +79,6 @@ fn command_of(alloc: Global, verb: Verb, arguments: &[u8]) -> Result<Option<Comm
         Verb::Trunc => trunc(alloc, arguments),
         Verb::Stat => Ok(path(alloc, arguments)?.map(|path| Command::Stat { path })),
         Verb::List => Ok(path(alloc, arguments)?.map(|path| Command::List { path })),
-        Verb::Fsync => Ok(path(alloc, arguments)?.map(|path| Command::Fsync { path })),
+        Verb::Fsync => Ok(fsync(arguments)),
     }
 }

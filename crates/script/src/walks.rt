@@ -20,7 +20,8 @@ pub fn first_walk(command: &Command) -> &[Name]
         Command::Write { path, .. } | Command::Read { path, .. } | Command::Trunc { path, .. } => {
             path.names()
         }
-        Command::Stat { path } | Command::List { path } | Command::Fsync { path } => path.names(),
+        Command::Stat { path } | Command::List { path } => path.names(),
+        Command::Fsync => &[],
     }
 }
 
@@ -111,6 +112,6 @@ pub fn last_call(command: &Command, first: NodeId, second: NodeId) -> Result<Cal
         }
         Command::Stat { .. } => Ok(Call::Stat { node }),
         Command::List { .. } => Ok(Call::List { dir }),
-        Command::Fsync { .. } => Ok(Call::Fsync { node }),
+        Command::Fsync => Ok(Call::Fsync { node }),
     }
 }

@@ -6,4 +6,8 @@ mod calls;
 #[cfg(test)]
 mod histories;
 #[cfg(test)]
+mod scripts;
+#[cfg(test)]
+mod texts;
+#[cfg(test)]
 mod trees;

@@ -1,0 +1,120 @@
+-- A call is made: an fsync of the root, or another.
+use Rattle.std.proofs.Common.{◌≡◌, Vec, Global, vec_len, is_some, unwrap_or, arith, ℕ, ◌<◌, true, false, Bool, List, [], ◌∷◌, ◌++◌, Option, None, length, refl, sym, ap, subst, ◌∙◌}
+use Rattle.sfs_dev.specs.Disk.{View}
+use Rattle.sfs_base.specs.declared.numbers.CoreId.{CoreId}
+use Rattle.sfs_tree.specs.declared.call.Call.{Call}
+use Rattle.sfs_tree.specs.declared.call.Call.TheVariants.{Fsync}
+use Rattle.sfs_tree.specs.declared.history.Entry.{Entry}
+use Rattle.sfs_tree.specs.declared.reply.Reply.{Reply}
+use Rattle.sfs_tree.specs.Tree.{TreeState}
+use Rattle.sfs_tree.specs.Verdict.{verdict, tree_after_call}
+use Rattle.area_pair.specs.Settled.{ReadsAs}
+use Rattle.sfs_dev.specs.Run.{CountsOn}
+use Rattle.scalefs_run.specs.Calls.{PassedOn, FlushedRoot}
+use Rattle.scalefs_run.specs.Flushed.{HasFlushed}
+use Rattle.scalefs_run.specs.Replies.{IsAnswered, root_rows, is_fsync}
+use Rattle.scalefs_run.specs.Stands.{Stands}
+use Rattle.scalefs_run.specs.declared.engine.Engine.{Engine}
+use Rattle.scalefs_run.specs.declared.flush.Flushed.{Flushed}
+use Rattle.scalefs_run.specs.declared.flush.Store.{Store}
+use Rattle.scalefs_run.specs.Safe.{IsSafe}
+use Rattle.sfs_tree.specs.Sound.{IsSound}
+use Rattle.sfs_tree.proofs.SoundTrees.{calls_keep_sound}
+use Rattle.scalefs_run.proofs.Called.{pushed_entry, entries_kept, called_stands, called_safe, flushed_stands, flushed_safe}
+use Rattle.scalefs_run.proofs.engine.serve_call.Goals as goal
+
+pub answer-reply-requires-clause-sound : goal.answer-reply-requires-clause-sound
+answer-reply-requires-clause-sound g c κs within_place =
+    let somehow = c.requires.stands in
+    let so_far = somehow.3 in
+    let cores = so_far.cores in
+    let within = c.requires.core in
+    subst (λ (t : TreeState). IsSound t) (sym c.in_ok-reply.ensures.tree) (calls_keep_sound c.args.engine.now.tree c.args.core.0 c.args.call so_far.sound (omega arith)).sound
+
+stamped : (entries : Vec Entry Global) (history : List Entry) (n : ℕ) → entries.items ≡ history → n ≡ vec_len entries → length history ≡ n
+stamped entries history n is len = ap length (sym is) ∙ omega (arith, entries.ok.0)
+
+-- the entries with one more
+all_pushed : (history items all : List Entry) (stamp : ℕ) (core : CoreId) (call : Call) (flushed : Flushed) → items ≡ history → length history ≡ stamp → all ≡ items ++ pushed_entry stamp core call flushed ∷ [] → history ++ pushed_entry (length history) core call flushed ∷ [] ≡ all
+all_pushed history items all stamp core call flushed is stamp_is pushed =
+    ap (λ (l : List Entry). l ++ pushed_entry (length history) core call flushed ∷ []) (sym is)
+    ∙ ap (λ n. items ++ pushed_entry n core call flushed ∷ []) stamp_is
+    ∙ sym pushed
+
+pub returns-clause-ok : goal.returns-clause-ok
+returns-clause-ok g c =
+    let view = g.D.Disk.view in
+    let old = c.args.engine.now in
+    let disk = c.args.disk.now in
+    let flushed = c.answer-reply.result in
+    let mid : Engine = record { alloc = old.alloc; store = old.store; tree = c.step.new.self; entries = c.reserve.new.self } in
+    let new = c.answer-reply.new.engine in
+    let kept : new.entries.items ≡ old.entries.items = entries_kept c.args.call (c.answer-reply.new.disk ≡ disk) c.in_ok-reply.reply mid new (view disk) (view c.answer-reply.new.disk) flushed old.entries.items c.in_ok-reserve.ensures.items c.answer-reply.ensures.other c.answer-reply.ensures.fsync in
+    let entry = pushed_entry c.len.result c.args.core c.args.call flushed in
+    record {
+      entry = entry;
+      grown = c.push_reserved.ensures.items ∙ ap (λ (l : List Entry). l ++ entry ∷ []) kept;
+      core_is = refl;
+      call_is = refl;
+    }
+
+pub returns-clause-stands : goal.returns-clause-stands
+returns-clause-stands g c start from first so_far =
+    let view = g.D.Disk.view in
+    let old = c.args.engine.now in
+    let history = old.entries.items in
+    let disk = c.args.disk.now in
+    let disk_after = c.answer-reply.new.disk in
+    let before = view disk in
+    let after = view disk_after in
+    let core = c.args.core in
+    let call = c.args.call in
+    let reply = c.in_ok-reply.reply in
+    let flushed = c.answer-reply.result in
+    let mid : Engine = record { alloc = old.alloc; store = old.store; tree = c.step.new.self; entries = c.reserve.new.self } in
+    let new = c.answer-reply.new.engine in
+    let Same = disk_after ≡ disk in
+    let tree_is = c.in_ok-reply.ensures.tree in
+    let kept = c.in_ok-reserve.ensures.items in
+    let items = entries_kept call Same reply mid new before after flushed history kept c.answer-reply.ensures.other c.answer-reply.ensures.fsync in
+    let all = all_pushed history new.entries.items c.push_reserved.new.self.items c.len.result core call flushed items (stamped new.entries history c.len.result items c.len.ensures) c.push_reserved.ensures.items in
+    subst (λ (l : List Entry). Stands start from first l new.tree new.store after) all
+    (elim (is_fsync call) as (λ b. is_fsync call ≡ b → Stands start from first (history ++ pushed_entry (length history) core call flushed ∷ []) new.tree new.store after) [
+      | true ↦ λ is.
+          flushed_stands start from first old mid new before after so_far core call reply flushed c.requires.core tree_is kept refl is c.requires.ready Same (c.answer-reply.ensures.fsync is) c.answer-reply.ensures.goes
+          (λ same. ap (λ d. (view d).faults) same) (λ same current rows reads. subst (λ d. ReadsAs (view d) current rows) (sym same) reads)
+      | false ↦ λ none.
+          called_stands start from first old mid new before after so_far core call reply flushed c.requires.core tree_is kept refl none c.in_ok-reply.ensures.ok Same (c.answer-reply.ensures.other none)
+          (λ same h t s stands. subst (λ d. Stands start from first h t s (view d)) (sym same) stands)
+    ] refl)
+
+pub returns-clause-safe : goal.returns-clause-safe
+returns-clause-safe g c start from first so_far counts safe =
+    let view = g.D.Disk.view in
+    let old = c.args.engine.now in
+    let history = old.entries.items in
+    let disk = c.args.disk.now in
+    let disk_after = c.answer-reply.new.disk in
+    let before = view disk in
+    let after = view disk_after in
+    let core = c.args.core in
+    let call = c.args.call in
+    let reply = c.in_ok-reply.reply in
+    let flushed = c.answer-reply.result in
+    let mid : Engine = record { alloc = old.alloc; store = old.store; tree = c.step.new.self; entries = c.reserve.new.self } in
+    let new = c.answer-reply.new.engine in
+    let Same = disk_after ≡ disk in
+    let tree_is = c.in_ok-reply.ensures.tree in
+    let kept = c.in_ok-reserve.ensures.items in
+    let items = entries_kept call Same reply mid new before after flushed history kept c.answer-reply.ensures.other c.answer-reply.ensures.fsync in
+    let all = all_pushed history new.entries.items c.push_reserved.new.self.items c.len.result core call flushed items (stamped new.entries history c.len.result items c.len.ensures) c.push_reserved.ensures.items in
+    subst (λ (l : List Entry). IsSafe start from first l new.store after) all
+    (elim (is_fsync call) as (λ b. is_fsync call ≡ b → IsSafe start from first (history ++ pushed_entry (length history) core call flushed ∷ []) new.store after) [
+      | true ↦ λ is.
+          flushed_safe start from first old mid new before after so_far core call reply flushed c.requires.core tree_is kept refl is c.requires.ready Same (c.answer-reply.ensures.fsync is) c.answer-reply.ensures.goes
+          (λ same. ap (λ d. (view d).faults) same) (λ same current rows reads. subst (λ d. ReadsAs (view d) current rows) (sym same) reads)
+          counts (λ same h s kept. subst (λ d. IsSafe start from first h s (view d)) (sym same) kept) safe
+      | false ↦ λ none.
+          called_safe start from first old mid new before after so_far core call reply flushed c.requires.core tree_is kept refl none c.in_ok-reply.ensures.ok Same (c.answer-reply.ensures.other none)
+          (λ same h s kept. subst (λ d. IsSafe start from first h s (view d)) (sym same) kept) safe
+    ] refl)

@@ -1,0 +1,43 @@
+-- The workers of a phase, one after another.
+use Rattle.std.proofs.Common.{◌≡◌, ℕ, ◌+◌, ◌<◌, List, Result, Ok, Err, refl, sym, ap, subst, ◌∙◌, arith}
+use Rattle.std.specs.Prelude.{OnErr}
+use Rattle.sfs_dev.proofs.Runs.{GoesOn-trans}
+use Rattle.scalefs_run.specs.Made.{Grown, UpTo}
+use Rattle.scalefs_run.proofs.Making.{up_to_more, up_to_part, up_to_all}
+use Rattle.scalefs_run.proofs.engine.serve_phase.Goals as goal
+
+on_err : {A E : Type 0} {X : Type 0} (r : Result A E) → X → OnErr r X
+on_err (Ok v) x = tt
+on_err (Err e) x = x
+
+pub returns-in_err-serve_worker-clause-stands : goal.returns-in_err-serve_worker-clause-stands
+returns-in_err-serve_worker-clause-stands g c start from first h = c.in_err-serve_worker.ensures.stands start from first (c.loop-core.invariant.still start from first h)
+
+pub returns-in_err-serve_worker-clause-safe : goal.returns-in_err-serve_worker-clause-safe
+returns-in_err-serve_worker-clause-safe g c start from first h counts safe =
+    let invariant = c.loop-core.invariant in
+    c.in_err-serve_worker.ensures.safe start from first (invariant.still start from first h) counts (invariant.safe start from first h (let later = c.in_err-serve_worker.ensures.goes.later in omega arith) safe)
+
+pub returns-in_err-serve_worker-clause-err : goal.returns-in_err-serve_worker-clause-err
+returns-in_err-serve_worker-clause-err g c =
+    on_err c.from_residual.result (up_to_part c.loop-core.core c.args.phase.now c.args.engine.now.entries.items c.loop-core.engine.entries.items c.serve_worker.new.engine.entries.items c.loop-core.invariant.made c.in_err-serve_worker.ensures.err)
+
+pub loop-core-preserved : goal.loop-core-preserved
+loop-core-preserved g c =
+    let invariant = c.loop-core.invariant in
+    let served = c.in_ok-serve_worker.ensures in
+    let somehow = invariant.somehow in
+    record {
+      large = let same = served.goes.size in let large = invariant.large in omega arith;
+      somehow = (somehow.0, somehow.1, somehow.2, served.stands somehow.0 somehow.1 somehow.2 somehow.3);
+      still = λ start from first h. served.stands start from first (invariant.still start from first h);
+      safe = λ start from first h counts safe. served.safe start from first (invariant.still start from first h) counts (invariant.safe start from first h (let later = served.goes.later in omega arith) safe);
+      made = up_to_more c.loop-core.core c.args.phase.now c.args.engine.now.entries.items c.loop-core.engine.entries.items c.serve_worker.new.engine.entries.items invariant.made served.ok;
+      goes = GoesOn-trans _ _ _ invariant.goes served.goes;
+    }
+
+pub returns-clause-ok : goal.returns-clause-ok
+returns-clause-ok g c =
+    let end : c.loop-core.core ≡ 2 = let test = c.loop-core-test.false in let most = c.loop-core.auto.core-end in omega arith in
+    up_to_all 2 c.args.phase.now c.args.engine.now.entries.items c.loop-core.engine.entries.items c.requires.within
+    (subst (λ n. Grown c.args.engine.now.entries.items c.loop-core.engine.entries.items (UpTo n c.args.phase.now)) end c.loop-core.invariant.made)

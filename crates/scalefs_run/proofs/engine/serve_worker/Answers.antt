@@ -1,0 +1,73 @@
+-- A worker's calls, one by one.
+use Rattle.std.proofs.Common.{Vec, Global, vec_len, get_or, ◌≡◌, ℕ, ◌+◌, ◌<◌, List, Some, length, refl, sym, ap, subst, ◌∙◌, arith}
+use Rattle.sfs_dev.proofs.Runs.{GoesOn-refl, GoesOn-trans}
+use Rattle.sfs_base.specs.declared.numbers.CoreId.{CoreId}
+use Rattle.sfs_tree.specs.declared.call.Call.{Call}
+use Rattle.sfs_tree.specs.declared.history.Entry.{Entry}
+use Rattle.script.specs.Limits.{calls_left}
+use Rattle.script.specs.Walks.{Standing, call_of, started, commands_of}
+use Rattle.scalefs_run.specs.Calls.{Called}
+use Rattle.script.specs.Ready.{StandsReady}
+use Rattle.script.proofs.ReadyLemmas.{started_ready, taken_ready}
+use Rattle.script.proofs.EndLemmas.{calls_left-falls}
+use Rattle.scalefs_run.specs.Made.{Grown, AtWork}
+use Rattle.scalefs_run.proofs.Making.{at_first, at_next, pushed_at}
+use Rattle.scalefs_run.proofs.engine.serve_worker.Goals as goal
+
+pub loop-call-init : goal.loop-call-init
+loop-call-init g c =
+    let history = c.args.engine.now.entries.items in
+    let worker_is : c.new-worker.result ≡ started (commands_of c.args.core c.args.phase.now) = c.new-worker.ensures ∙ ap (λ n. started (commands_of n c.args.phase.now)) c.from.ensures in
+    record {
+      large = c.requires.large;
+      somehow = c.requires.stands;
+      still = λ start from first stands. stands;
+      safe = λ start from first stands counts safe. safe;
+      made = subst (λ (w : Standing). Grown history history (AtWork c.args.core c.args.phase.now w)) (sym worker_is) (at_first c.args.core c.args.phase.now history);
+      ready = subst (λ (w : Standing). StandsReady w) (sym worker_is) (started_ready c.args.core c.args.phase.now c.requires.ready);
+      goes = GoesOn-refl _;
+    }
+
+pub returns-in_err-serve_call-clause-stands : goal.returns-in_err-serve_call-clause-stands
+returns-in_err-serve_call-clause-stands g c start from first h = c.in_err-serve_call.ensures.stands start from first (c.loop-call.invariant.still start from first h)
+
+pub returns-in_err-serve_call-clause-safe : goal.returns-in_err-serve_call-clause-safe
+returns-in_err-serve_call-clause-safe g c start from first h counts safe =
+    let invariant = c.loop-call.invariant in
+    c.in_err-serve_call.ensures.safe start from first (invariant.still start from first h) counts (invariant.safe start from first h (let later = c.in_err-serve_call.ensures.goes.later in omega arith) safe)
+
+-- where the entry of the call stands
+placed : (entries : Vec Entry Global) (place : ℕ) → place ≡ vec_len entries → length entries.items ≡ place
+placed entries place is = omega (arith, entries.ok.0)
+
+-- the reply that is taken is that of the call
+reply_at : (core : CoreId) (call : Call) (old new : List Entry) (place : ℕ) (found : Entry) → (called : Called core call old new) → length old ≡ place → found ≡ get_or new place found → found.reply ≡ called.entry.reply
+reply_at core call old new place found called at is = ap (λ (e : Entry). e.reply) (is ∙ ap (λ n. get_or new n found) (sym at) ∙ pushed_at core call old new called found)
+
+pub loop-call-smaller : goal.loop-call-smaller
+loop-call-smaller g c =
+    let next : call_of c.loop-call.worker.progress ≡ Some c.in-Some.call = sym c.in_ok-call.ensures ∙ c.in-Some.is in
+    subst (λ (w : Standing). calls_left w < calls_left c.loop-call.worker) (sym c.take.ensures) (calls_left-falls c.loop-call.worker c.index.result.now.reply c.in-Some.call next)
+
+pub loop-call-preserved : goal.loop-call-preserved
+loop-call-preserved g c =
+    let invariant = c.loop-call.invariant in
+    let served = c.in_ok-serve_call.ensures in
+    let somehow = invariant.somehow in
+    let old = c.loop-call.engine.entries in
+    let new = c.serve_call.new.engine.entries.items in
+    let core : CoreId = record { 0 = c.args.core } in
+    let call = c.in-Some.call in
+    let next : call_of c.loop-call.worker.progress ≡ Some call = sym c.in_ok-call.ensures ∙ c.in-Some.is in
+    let found = c.index.result.now in
+    let reply_is = reply_at core call old.items new c.len-place.result found served.ok (placed old c.len-place.result c.len-place.ensures) c.index.ensures in
+    let stands_at = at_next core c.args.phase.now c.loop-call.worker call c.args.engine.now.entries.items old.items new found.reply invariant.made next served.ok reply_is in
+    record {
+      large = let same = served.goes.size in let large = invariant.large in omega arith;
+      somehow = (somehow.0, somehow.1, somehow.2, served.stands somehow.0 somehow.1 somehow.2 somehow.3);
+      still = λ start from first h. served.stands start from first (invariant.still start from first h);
+      safe = λ start from first h counts safe. served.safe start from first (invariant.still start from first h) counts (invariant.safe start from first h (let later = served.goes.later in omega arith) safe);
+      made = subst (λ (w : Standing). Grown c.args.engine.now.entries.items new (AtWork c.args.core c.args.phase.now w)) (sym c.take.ensures) stands_at;
+      ready = subst (λ (w : Standing). StandsReady w) (sym c.take.ensures) (taken_ready c.loop-call.worker found.reply invariant.ready);
+      goes = GoesOn-trans _ _ _ invariant.goes served.goes;
+    }

@@ -1,0 +1,22 @@
+-- Workers for which there is no core.
+use Rattle.std.specs.Prelude.{◌≡◌, ℕ, ◌<◌, List, [], ◌∷◌, Option, Some, None, option_map, nat_le}
+use Rattle.std.specs.List.{find, AllByRecursion}
+use Rattle.script.specs.declared.commands.Line.{Line}
+
+-- the worker of the first line of a phase that has no core, where there are so many
+abbrev pub beyond_in : ℕ → List Line → Option ℕ
+beyond_in cores phase = option_map (λ line. line.worker) (find (λ line. nat_le cores line.worker) phase)
+
+-- the first of two answers
+abbrev pub first_answer : Option ℕ → Option ℕ → Option ℕ
+first_answer (Some worker) later = Some worker
+first_answer None later = later
+
+-- the worker of the first line of a script that has no core
+abbrev pub beyond : ℕ → List (List Line) → Option ℕ
+beyond cores [] = None
+beyond cores (phase ∷ phases) = first_answer (beyond_in cores phase) (beyond cores phases)
+
+-- each line's worker has a core
+abbrev pub IsWithin : ℕ → List Line → Type 0
+IsWithin cores phase = AllByRecursion (λ line. line.worker < cores) phase
