@@ -13,7 +13,7 @@ use Rattle.sfs_base.specs.Path.{path_length}
 use Rattle.script.specs.Lines.{lines, parts, words, first_longer}
 use Rattle.script.specs.Paths.{with_name, name_of, names_of, names_behind, path_names, short_path, path_of, named, name_path_of}
 use Rattle.script.specs.Words.{bytes_of}
-use Rattle.script.specs.Commands.{one, two, three, all_three, offset_of, count_of, command_of, verb_of, command_with, worker_of, line_with, line_of, meaning_of}
+use Rattle.script.specs.Commands.{one, two, three, all_three, offset_of, count_of, command_of, verb_of, command_with, worker_of, line_with, line_of, meaning_of, root_flush}
 use Rattle.script.specs.Phases.{first_phase_longer, with_line, phases_from, phases_of}
 use Rattle.script.specs.Places.{parent}
 use Rattle.script.proofs.LineLemmas.{total, parts_total}
@@ -144,6 +144,12 @@ three_calls {A = A} make read few (first ∷ second ∷ third ∷ []) = let long
     make_calls None at last = omega arith
 three_calls make read few (first ∷ second ∷ third ∷ fourth ∷ words) = omega arith
 
+-- an fsync
+flush_calls : (words : List (List ℕ)) → calls (one root_flush words) ≤ total words + 1
+flush_calls [] = omega arith
+flush_calls (word ∷ []) = elim (bytes_eq word (codes "/")) as (λ t. calls (cond t (Some command.Fsync) None) ≤ total (word ∷ []) + 1) [ true ↦ omega arith | false ↦ omega arith ]
+flush_calls (word ∷ other ∷ words) = omega arith
+
 -- a command makes no more calls than its words have bytes, and one
 command_calls : (verb : Verb) (words : List (List ℕ)) → calls (command_of verb words) ≤ total words + 1
 command_calls Create words = one_calls command.Create name_path_of (λ path. let few = parent-count path in omega (arith, few)) name_path_of-count words
@@ -157,7 +163,7 @@ command_calls Read words = three_calls command.Read count_of (λ path at last. o
 command_calls Trunc words = trunc_calls words
 command_calls Stat words = one_calls command.Stat path_of (λ path. omega arith) path_of-count words
 command_calls Lists words = one_calls command.List path_of (λ path. omega arith) path_of-count words
-command_calls Fsync words = one_calls command.Fsync path_of (λ path. omega arith) path_of-count words
+command_calls Fsync words = flush_calls words
 
 -- how many calls a line makes at most, where it is one
 abbrev line_calls : Option Line → ℕ
