@@ -43,6 +43,13 @@ fn each_status_has_its_number_and_line(rt: HostRuntime) -> Result<(), Fail> {
     assert_shown(
         &rt,
         alloc,
+        Status::TooManyWorkers { asked: 2, have: 2 },
+        9,
+        "worker 2 of 2",
+    )?;
+    assert_shown(
+        &rt,
+        alloc,
         Status::TooLong {
             measure: Measure::Bytes,
         },

@@ -42,6 +42,10 @@ fn only_the_word_run_is_a_command(rt: HostRuntime) -> Result<(), Fail> {
     let mut words = run_alone(rt.alloc())?;
     words.push(String::from_str(rt.alloc(), "run")?)?;
     let ran = run_words(&rt, rt.alloc(), &words)?;
+    assert_eq!(rt; ran.status, Status::BadWords { place: 1 });
+    assert_untouched(&rt, &ran);
+    words.push(String::from_str(rt.alloc(), "run")?)?;
+    let ran = run_words(&rt, rt.alloc(), &words)?;
     assert_eq!(rt; ran.status, bad);
     assert_untouched(&rt, &ran);
     Ok(())
