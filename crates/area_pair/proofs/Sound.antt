@@ -7,7 +7,8 @@ use borrow.Author.Tests.{eqb-false}
 use Rattle.sfs_image.specs.Bytes.{part}
 use Rattle.sfs_image.specs.Slot.{Row as SlotRow, slot_of, slot_fault}
 use Rattle.area_pair.specs.declared.area.Row.{Row}
-use Rattle.area_pair.specs.Rows.{row_named, row_in, clashes, with_row, rows_of_slots, rows_of_body, KeepsApart}
+use Rattle.area_pair.specs.Area.{body_of, current_of}
+use Rattle.area_pair.specs.Rows.{row_named, row_in, clashes, with_row, rows_of_slots, rows_of_body, KeepsApart, rows_of, rows_in_area}
 use Rattle.area_pair.specs.Seen.{body_seen, rows_seen}
 use Rattle.area_pair.specs.declared.area.Area.{Area}
 use Rattle.area_pair.specs.declared.open.Seen.{Seen}
@@ -117,3 +118,11 @@ no_rows_sound = record { few = omega arith; apart = no_rows.apart; inodes = λ k
 pub seen_sound : (seen : Seen) (area : Option Area) → AreRoots (rows_seen seen area)
 seen_sound seen None = no_rows_sound
 seen_sound seen (Some area) = body_sound (body_seen seen area)
+
+-- the rows of any image
+pub image_sound : (image : List ℕ) → AreRoots (rows_of image)
+image_sound image = in_area (current_of image)
+  where
+    in_area : (area : Option Area) → AreRoots (rows_in_area area image)
+    in_area None = no_rows_sound
+    in_area (Some area) = body_sound (body_of area image)

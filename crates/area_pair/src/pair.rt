@@ -54,6 +54,7 @@ impl Areas {
         requires apart { KeepsApart rows.now }
 
         ensures acknowledged { IfOk result (λ moment. moment ≡ min ((D.view disk.old).now + 4) (2 ^ 64 - 1)) }
+        ensures meanwhile { IfOk result (λ moment. ((D.view disk.old).now ≤ moment) × (moment ≤ (D.view disk.new).now)) }
         ensures read { OnOk result ((old : List OneRow) → ReadsAs (D.view disk.old) self.old old
             → ReadsAs (D.view disk.new) self.new (numbered rows.now)) }
         ensures settled { OnOk result ((old : List OneRow) → IsSettled (D.view disk.old) self.old old

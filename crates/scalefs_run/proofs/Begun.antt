@@ -1,6 +1,8 @@
 -- A run that begins, with the tree of the rows that opening gave.
-use Rattle.std.proofs.Common.{◌≡◌, ◌≢◌, nat_lt, bytes_eq, slice_get, is_some, IfSome, ℕ, ◌≤◌, true, false, List, [], length, map, Option, Some, None, refl, sym, ap, subst, ◌∙◌, arith}
+use Rattle.std.proofs.Common.{◌≡◌, ◌≢◌, nat_lt, bytes_eq, slice_get, is_some, IfSome, inl, ℕ, ◌≤◌, true, false, List, [], length, map, Option, Some, None, refl, sym, ap, subst, ◌∙◌, arith}
 use Rattle.std.proofs.lemmas.List.{length-map}
+use Rattle.std.proofs.lemmas.List.Elements.{All-nil}
+use Rattle.sfs_tree.specs.declared.history.Entry.{Entry}
 use Rattle.std.specs.Prelude.{filter_map}
 use Rattle.std.specs.FinMap.{find, entries, len-entries, get-from_entries}
 use Rattle.sfs_tree.proofs.Joined.{key_cmp_total, length-from_entries}
@@ -66,8 +68,8 @@ linked_first opened sound = record {
 }
 
 -- no call was made yet, in the first tree
-begun : (opened : List Row) (store : Store) (disk : View) (start : ℕ) → AreRoots opened → store.on_disk ≡ root_rows (first_tree opened) → store.failed ≡ None → ReadsAs disk store.areas opened → disk.faults ≡ start → Stands start opened [] (first_tree opened) store disk
-begun opened store disk start sound on_disk working reads faults =
+begun : (opened : List Row) (store : Store) (disk : View) (start from : ℕ) → AreRoots opened → store.on_disk ≡ root_rows (first_tree opened) → store.failed ≡ None → ReadsAs disk store.areas opened → disk.faults ≡ start → from ≤ disk.now → Stands start from opened [] (first_tree opened) store disk
+begun opened store disk start from sound on_disk working reads faults later =
     let few = few_rows opened sound in
     record {
       legal = tt;
@@ -84,9 +86,11 @@ begun opened store disk start sound on_disk working reads faults =
       same = λ e. refl;
       read = λ none. (opened, reads, shown-first opened sound.apart);
       later = omega arith;
+      dated = later;
+      last = record { found = inl refl; newest = All-nil (λ (e : Entry). IfSome e.ack (λ _. e.stamp.0 ≤ 0)) };
     }
 
 -- no call was made yet
-pub stands_first : (opened : List Row) (tree : TreeState) (store : Store) (disk : View) (start : ℕ) → AreRoots opened → tree ≡ first_tree opened → store.on_disk ≡ root_rows tree → store.failed ≡ None → ReadsAs disk store.areas opened → disk.faults ≡ start → Stands start opened [] tree store disk
-stands_first opened tree store disk start sound is on_disk working reads faults =
-    subst (λ (t : TreeState). Stands start opened [] t store disk) (sym is) (begun opened store disk start sound (on_disk ∙ ap root_rows is) working reads faults)
+pub stands_first : (opened : List Row) (tree : TreeState) (store : Store) (disk : View) (start from : ℕ) → AreRoots opened → tree ≡ first_tree opened → store.on_disk ≡ root_rows tree → store.failed ≡ None → ReadsAs disk store.areas opened → disk.faults ≡ start → from ≤ disk.now → Stands start from opened [] tree store disk
+stands_first opened tree store disk start from sound is on_disk working reads faults later =
+    subst (λ (t : TreeState). Stands start from opened [] t store disk) (sym is) (begun opened store disk start from sound (on_disk ∙ ap root_rows is) working reads faults later)

@@ -1,8 +1,12 @@
 pub mod Begun
+pub mod Crashes
+pub mod Dated
 pub mod Grown
 pub mod Opened
 pub mod Pushed
 pub mod Rooted
+pub mod SafeSteps
 pub mod Serving
 pub mod Shows
 pub mod Standing
+pub mod Survived

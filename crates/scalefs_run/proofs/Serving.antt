@@ -21,7 +21,8 @@ use Rattle.scalefs_run.specs.declared.outcome.Status.TheVariants.{Done, BadWords
 use Rattle.scalefs_run.specs.Outcome.{IsOf, HasStatus, HasHistory, HasText, HasReadFault, IsWriteStatus, FollowsSoFar, IsCommand, status_of_source, is_run, due, script_status, commands_in}
 use Rattle.scalefs_run.specs.Served.{Served, ServedScript, has_run}
 use Rattle.scalefs_run.specs.Shown.{shown}
-use Rattle.scalefs_run.specs.Stands.{StandsStill, Begins}
+use Rattle.scalefs_run.specs.Stands.{StandsStill}
+use Rattle.scalefs_run.specs.Safe.{Begins}
 use Rattle.scalefs_run.proofs.Rooted.{some_same, none_some}
 
 -- the rows of a disk that tells what a read gives
@@ -53,7 +54,7 @@ served_none due commands Source Sink before after old new status status_is calls
 -- calls were made
 pub served_run : (commands : List Command) (Sink : Type 0) (before after : Option (List ℕ)) (first engine : Engine) (old mid new : View) (status : Status) → Begins first old mid → StandsStill first engine mid new → HasStatus Done ⊥ Sink (Rose old.faults new.faults) status → HasHistory commands engine.entries.items status → HasText engine.entries.items before after status → Served Done commands ⊥ Sink before after old new status engine.entries.items
 served_run commands Sink before after first engine old mid new status begins still status_is calls text =
-    let stands = still old.faults begins.opened begins.stands in
+    let stands = still old.faults old.now begins.opened begins.stands in
     record {
       status_is = status_is;
       opened = begins.opened;

@@ -1,5 +1,5 @@
 -- A run goes on by one call.
-use Rattle.std.proofs.Common.{◌≡◌, ◌↔◌, ℕ, ◌+◌, ◌≤◌, Bool, true, false, cond, ◌||◌, List, [], ◌∷◌, ◌++◌, length, Option, Some, None, inl, inr, is_some, IsSome, IsTrue, IfSome, unwrap_or, refl, sym, ap, subst, ◌∙◌, arith}
+use Rattle.std.proofs.Common.{◌≡◌, ◌↔◌, ℕ, ◌+◌, ◌-◌, ◌^◌, ◌<◌, ◌≤◌, min, Bool, true, false, cond, ◌||◌, List, [], ◌∷◌, ◌++◌, length, Option, Some, None, inl, inr, is_some, IsSome, IsTrue, IfSome, unwrap_or, refl, sym, ap, subst, ◌∙◌, arith}
 use Rattle.std.proofs.lemmas.List.{length-append}
 use Rattle.sfs_base.specs.Ends.{Rose}
 use Rattle.sfs_base.specs.declared.numbers.Kind.TheVariants.{Directory}
@@ -19,11 +19,12 @@ use Rattle.area_pair.specs.declared.area.Current.{Current}
 use Rattle.area_pair.specs.Rows.{numbered}
 use Rattle.area_pair.specs.Settled.{ReadsAs}
 use Rattle.scalefs_run.specs.First.{first_tree}
-use Rattle.scalefs_run.specs.Flushed.{HasFlushed, Fails, rows_of_root}
+use Rattle.scalefs_run.specs.Flushed.{HasFlushed, Fails, rows_of_root, after_four}
 use Rattle.scalefs_run.specs.Replies.{IsAnswered, has_failed, is_failure, root_rows}
 use Rattle.scalefs_run.specs.Shown.{shown, shown_at, last_flush}
 use Rattle.scalefs_run.specs.Stands.{Stands, root_shown}
 use Rattle.scalefs_run.specs.declared.flush.Store.{Store}
+use Rattle.scalefs_run.proofs.Dated.{AreDated-push, FlushedLast-still, FlushedLast-here}
 use Rattle.scalefs_run.proofs.Grown.{grown}
 use Rattle.scalefs_run.proofs.Pushed.{or_false, AreAnswered-push, has_failed-push, last_flush-push, shown_at-push, shown_at-end}
 use Rattle.scalefs_run.proofs.Rooted.{length-rows_of_root}
@@ -49,10 +50,15 @@ flushed_entry stamp reply ack = record {
   ack = ack;
 }
 
+-- a reply that is not Ok has no moment of acknowledgement
+pub no_ack : (ack : Option ℕ) (ok : Bool) → (IsSome ack ↔ IsTrue ok) → ok ≡ false → ack ≡ None
+no_ack None ok both is = refl
+no_ack (Some a) ok both is = absurd (let never : false ≡ true = subst IsTrue is (both.0 refl) in cc)
+
 longer : (history : List Entry) (entry : Entry) → length (history ++ entry ∷ []) ≡ length history + 1
 longer history entry = length-append history (entry ∷ [])
 
-module _ (start : ℕ) (opened : List Row) (history : List Entry) (tree : TreeState) (store : Store) (disk : View) (so_far : Stands start opened history tree store disk) where
+module _ (start from : ℕ) (opened : List Row) (history : List Entry) (tree : TreeState) (store : Store) (disk : View) (so_far : Stands start from opened history tree store disk) where
   abbrev first : TreeState
   first = first_tree opened
 
@@ -64,7 +70,7 @@ module _ (start : ℕ) (opened : List Row) (history : List Entry) (tree : TreeSt
     acknowledged = (λ e. e, λ e. e);
   }))
 
-  pub stands_made : (name : List ℕ) → Stands start opened (history ++ made_entry (length history) tree name ∷ []) (tree_after_call tree 0 (Make (record { 0 = 0 }) name Directory)) store disk
+  pub stands_made : (name : List ℕ) → Stands start from opened (history ++ made_entry (length history) tree name ∷ []) (tree_after_call tree 0 (Make (record { 0 = 0 }) name Directory)) store disk
   stands_made name =
       let entry = made_entry (length history) tree name in
       let legal = legal_made name in
@@ -93,6 +99,8 @@ module _ (start : ℕ) (opened : List Row) (history : List Entry) (tree : TreeSt
             shows ∙ so_far.same (omega arith) ∙ sym (grows.same back);
         read = λ none. let found = so_far.read none in (found.0, found.1, found.2 ∙ sym shows);
         later = so_far.later;
+        dated = AreDated-push from disk.now disk.now history entry so_far.dated tt (omega arith);
+        last = FlushedLast-still history entry so_far.last refl refl;
       }
 
   reply_due : (reply : Reply) → IsAnswered (is_some store.failed) (unwrap_or store.failed 0) (root_rows tree) reply → IsFsyncReply reply
@@ -135,9 +143,10 @@ module _ (start : ℕ) (opened : List Row) (history : List Entry) (tree : TreeSt
   flushed_history reply ack = history ++ flushed_entry (length history) reply ack ∷ []
 
   -- an fsync after which all is as it was, and that is no flush
-  stands_refused : (reply : Reply) (ack : Option ℕ) (disk_after : View) → IsAnswered (is_some store.failed) (unwrap_or store.failed 0) (root_rows tree) reply → (IsSome ack ↔ IsTrue (is_ok_reply reply)) → is_ok_reply reply ≡ false → is_failure reply ≡ false → GoesOn disk disk_after → disk_after.faults ≡ disk.faults → ((current : Option Current) (rows : List Row) → ReadsAs disk current rows → ReadsAs disk_after current rows) → Stands start opened (flushed_history reply ack) tree store disk_after
+  stands_refused : (reply : Reply) (ack : Option ℕ) (disk_after : View) → IsAnswered (is_some store.failed) (unwrap_or store.failed 0) (root_rows tree) reply → (IsSome ack ↔ IsTrue (is_ok_reply reply)) → is_ok_reply reply ≡ false → is_failure reply ≡ false → GoesOn disk disk_after → disk_after.faults ≡ disk.faults → ((current : Option Current) (rows : List Row) → ReadsAs disk current rows → ReadsAs disk_after current rows) → Stands start from opened (flushed_history reply ack) tree store disk_after
   stands_refused reply ack disk_after answered acknowledged no_ok no_failure goes faults reads =
       let entry = flushed_entry (length history) reply ack in
+      let none_there : ack ≡ None = no_ack ack (is_ok_reply reply) acknowledged no_ok in
       let legal = legal_flushed reply ack answered acknowledged in
       let last : last_flush (flushed_history reply ack) ≡ last_flush history = last_flush-push history entry ∙ ap (λ b. cond b (length history) (last_flush history)) no_ok in
       let shows : shown_at first (flushed_history reply ack) (last_flush (flushed_history reply ack)) ≡ shown_at first history (last_flush history) = ap (shown_at first (flushed_history reply ack)) last ∙ shown_at-push first history entry (last_flush history) so_far.legal legal so_far.before in
@@ -158,6 +167,8 @@ module _ (start : ℕ) (opened : List Row) (history : List Entry) (tree : TreeSt
         same = λ e. shows ∙ so_far.same e;
         read = λ none. let found = so_far.read none in (found.0, reads store.areas found.0 found.1, found.2 ∙ sym shows);
         later = let first_later = so_far.later in let then_later = goes.never_falls in omega arith;
+        dated = AreDated-push from disk.now disk_after.now history entry so_far.dated (subst (λ (o : Option ℕ). IfSome o (λ a. (disk.now ≤ a) × (a ≤ disk_after.now))) (sym none_there) tt) goes.later;
+        last = FlushedLast-still history entry so_far.last no_ok none_there;
       }
     where
       kept_on : (failed : Option ℕ) → IfSome failed (λ f. f ≡ disk.faults) → IfSome failed (λ f. f ≡ disk_after.faults)
@@ -169,8 +180,8 @@ module _ (start : ℕ) (opened : List Row) (history : List Entry) (tree : TreeSt
       risen_on (Some f) h = subst (Rose start) (sym faults) h
 
   -- an fsync after which the disk shows what the root shows
-  stands_brought : (ack : Option ℕ) (after : Store) (disk_after : View) → IsAnswered (is_some store.failed) (unwrap_or store.failed 0) (root_rows tree) reply.Ok → (IsSome ack ↔ IsTrue true) → after.failed ≡ None → after.on_disk ≡ root_rows tree → ((rows : List Row) × ReadsAs disk_after after.areas rows × (shown rows ≡ root_shown tree)) → GoesOn disk disk_after → Stands start opened (flushed_history reply.Ok ack) tree after disk_after
-  stands_brought ack after disk_after answered acknowledged working on_disk found goes =
+  stands_brought : (ack : Option ℕ) (after : Store) (disk_after : View) → IsAnswered (is_some store.failed) (unwrap_or store.failed 0) (root_rows tree) reply.Ok → (IsSome ack ↔ IsTrue true) → after.failed ≡ None → after.on_disk ≡ root_rows tree → ((rows : List Row) × ReadsAs disk_after after.areas rows × (shown rows ≡ root_shown tree)) → GoesOn disk disk_after → IfSome ack (λ a. (disk.now ≤ a) × (a ≤ disk_after.now)) → Stands start from opened (flushed_history reply.Ok ack) tree after disk_after
+  stands_brought ack after disk_after answered acknowledged working on_disk found goes between =
       let entry = flushed_entry (length history) reply.Ok ack in
       let all = flushed_history reply.Ok ack in
       let legal = legal_flushed reply.Ok ack answered acknowledged in
@@ -194,6 +205,8 @@ module _ (start : ℕ) (opened : List Row) (history : List Entry) (tree : TreeSt
         same = λ e. shows;
         read = λ none. (found.0, found.1, found.2 ∙ sym shows);
         later = let first_later = so_far.later in let then_later = goes.never_falls in omega arith;
+        dated = AreDated-push from disk.now disk_after.now history entry so_far.dated between goes.later;
+        last = FlushedLast-here history entry so_far.last refl so_far.before;
       }
     where
       not_failed : (failed : Option ℕ) (kept : ℕ) → is_some failed ≡ false → IfSome failed (λ faults. faults ≡ kept)
@@ -201,9 +214,10 @@ module _ (start : ℕ) (opened : List Row) (history : List Entry) (tree : TreeSt
       not_failed (Some f) kept e = absurd (let never : true ≡ false = e in cc)
 
   -- an fsync whose commit failed
-  stands_failed : (ack : Option ℕ) (after : Store) (disk_after : View) → IsAnswered (is_some store.failed) (unwrap_or store.failed 0) (root_rows tree) reply.DiskFailed → (IsSome ack ↔ IsTrue false) → store.failed ≡ None → Fails store after disk disk_after → GoesOn disk disk_after → Stands start opened (flushed_history reply.DiskFailed ack) tree after disk_after
+  stands_failed : (ack : Option ℕ) (after : Store) (disk_after : View) → IsAnswered (is_some store.failed) (unwrap_or store.failed 0) (root_rows tree) reply.DiskFailed → (IsSome ack ↔ IsTrue false) → store.failed ≡ None → Fails (rows_of_root tree) store after disk disk_after → GoesOn disk disk_after → Stands start from opened (flushed_history reply.DiskFailed ack) tree after disk_after
   stands_failed ack after disk_after answered acknowledged was_working fails goes =
       let entry = flushed_entry (length history) reply.DiskFailed ack in
+      let none_there : ack ≡ None = no_ack ack false acknowledged refl in
       let all = flushed_history reply.DiskFailed ack in
       let legal = legal_flushed reply.DiskFailed ack answered acknowledged in
       let last : last_flush all ≡ last_flush history = last_flush-push history entry in
@@ -231,6 +245,8 @@ module _ (start : ℕ) (opened : List Row) (history : List Entry) (tree : TreeSt
         same = λ e. shows ∙ so_far.same (sym on_disk ∙ e);
         read = λ nothing. absurd (never_both (sym fails.kept ∙ nothing));
         later = let first_later = so_far.later in let then_later = goes.never_falls in omega arith;
+        dated = AreDated-push from disk.now disk_after.now history entry so_far.dated (subst (λ (o : Option ℕ). IfSome o (λ a. (disk.now ≤ a) × (a ≤ disk_after.now))) (sym none_there) tt) goes.later;
+        last = FlushedLast-still history entry so_far.last refl none_there;
       }
     where
       or_true : (a : Bool) → (a || true) ≡ true
@@ -240,27 +256,30 @@ module _ (start : ℕ) (opened : List Row) (history : List Entry) (tree : TreeSt
       never_both : {n : ℕ} → Some n ≡ None → ⊥
       never_both e = cc
 
-  pub stands_flushed : (Same : Type 0) (reply : Reply) (ack : Option ℕ) (after : Store) (disk_after : View) → IsAnswered (is_some store.failed) (unwrap_or store.failed 0) (root_rows tree) reply → (IsSome ack ↔ IsTrue (is_ok_reply reply)) → HasFlushed Same tree store after disk disk_after reply → GoesOn disk disk_after → (Same → disk_after.faults ≡ disk.faults) → (Same → (current : Option Current) (rows : List Row) → ReadsAs disk current rows → ReadsAs disk_after current rows) → Stands start opened (flushed_history reply ack) tree after disk_after
+  pub stands_flushed : (Same : Type 0) (reply : Reply) (ack : Option ℕ) (after : Store) (disk_after : View) → IsAnswered (is_some store.failed) (unwrap_or store.failed 0) (root_rows tree) reply → (IsSome ack ↔ IsTrue (is_ok_reply reply)) → HasFlushed Same tree ack store after disk disk_after reply → GoesOn disk disk_after → (Same → disk_after.faults ≡ disk.faults) → (Same → (current : Option Current) (rows : List Row) → ReadsAs disk current rows → ReadsAs disk_after current rows) → Stands start from opened (flushed_history reply ack) tree after disk_after
   stands_flushed Same reply.Ok ack after disk_after answered acknowledged flushed goes faults reads =
-      elim flushed.1 as (λ _. Stands start opened (flushed_history reply.Ok ack) tree after disk_after) [
-        | inl still ↦
+      elim flushed.1 as (λ _. Stands start from opened (flushed_history reply.Ok ack) tree after disk_after) [
+        | inl there ↦
             let found = so_far.read flushed.0 in
-            stands_brought ack after disk_after answered acknowledged (ap (λ (s : Store). s.failed) still.1 ∙ flushed.0) (ap (λ (s : Store). s.on_disk) still.1 ∙ sym still.2)
-            (found.0, subst (λ (s : Store). ReadsAs disk_after s.areas found.0) (sym still.1) (reads still.0 store.areas found.0 found.1), found.2 ∙ so_far.same (sym still.2)) goes
-        | inr commits ↦
+            stands_brought ack after disk_after answered acknowledged (ap (λ (s : Store). s.failed) there.store ∙ flushed.0) (ap (λ (s : Store). s.on_disk) there.store ∙ sym there.there)
+            (found.0, subst (λ (s : Store). ReadsAs disk_after s.areas found.0) (sym there.store) (reads there.still store.areas found.0 found.1), found.2 ∙ so_far.same (sym there.there)) goes
+            (subst (λ (o : Option ℕ). IfSome o (λ a. (disk.now ≤ a) × (a ≤ disk_after.now))) (sym there.dated) (omega arith, goes.later))
+        | inr brought ↦
+            let commits = brought.1 in
             let found = so_far.read flushed.0 in
             stands_brought ack after disk_after answered acknowledged commits.working (commits.on_disk ∙ length-rows_of_root tree)
             (numbered (rows_of_root tree), commits.read found.0 found.1, shown-numbered tree) goes
+            (subst (λ (o : Option ℕ). IfSome o (λ a. (disk.now ≤ a) × (a ≤ disk_after.now))) (sym commits.dated) commits.meanwhile)
       ]
   stands_flushed Same (reply.Node node kind) ack after disk_after answered acknowledged flushed goes faults reads = absurd answered
   stands_flushed Same (reply.Error code) ack after disk_after answered acknowledged flushed goes faults reads = absurd answered
   stands_flushed Same reply.DiskFailed ack after disk_after answered acknowledged flushed goes faults reads = stands_failed ack after disk_after answered acknowledged flushed.0 flushed.1 goes
   stands_flushed Same (reply.NoSpace kind need free) ack after disk_after answered acknowledged flushed goes faults reads =
-      subst (λ (s : Store). Stands start opened (flushed_history (reply.NoSpace kind need free) ack) tree s disk_after) (sym flushed.1)
+      subst (λ (s : Store). Stands start from opened (flushed_history (reply.NoSpace kind need free) ack) tree s disk_after) (sym flushed.1)
       (stands_refused (reply.NoSpace kind need free) ack disk_after answered acknowledged refl refl goes (faults flushed.0) (reads flushed.0))
   stands_flushed Same (reply.Stopped kept) ack after disk_after answered acknowledged flushed goes faults reads =
-      subst (λ (s : Store). Stands start opened (flushed_history (reply.Stopped kept) ack) tree s disk_after) (sym flushed.1)
+      subst (λ (s : Store). Stands start from opened (flushed_history (reply.Stopped kept) ack) tree s disk_after) (sym flushed.1)
       (stands_refused (reply.Stopped kept) ack disk_after answered acknowledged refl refl goes (faults flushed.0) (reads flushed.0))
   stands_flushed Same reply.NoMemory ack after disk_after answered acknowledged flushed goes faults reads =
-      subst (λ (s : Store). Stands start opened (flushed_history reply.NoMemory ack) tree s disk_after) (sym flushed.1)
+      subst (λ (s : Store). Stands start from opened (flushed_history reply.NoMemory ack) tree s disk_after) (sym flushed.1)
       (stands_refused reply.NoMemory ack disk_after answered acknowledged refl refl goes (faults flushed.0) (reads flushed.0))

@@ -1,5 +1,5 @@
 -- What an fsync of the root does to the disk and to what is known of it.
-use Rattle.std.specs.Prelude.{◌≡◌, ◌≢◌, ◌⊎◌, ℕ, ◌<◌, List, length, map, Some, None}
+use Rattle.std.specs.Prelude.{◌≡◌, ◌≢◌, ◌⊎◌, ℕ, ◌+◌, ◌-◌, ◌^◌, ◌<◌, ◌≤◌, min, List, length, map, Option, Some, None}
 use Rattle.std.specs.FinMap.{entries}
 use Rattle.sfs_base.specs.Ends.{Rose}
 use Rattle.sfs_base.specs.declared.numbers.Kind.TheVariants.{File}
@@ -8,9 +8,10 @@ use Rattle.sfs_tree.specs.History.{kind_of}
 use Rattle.sfs_tree.specs.declared.reply.Reply.{Reply}
 use Rattle.sfs_tree.specs.declared.reply.Reply.TheVariants as reply
 use Rattle.sfs_dev.specs.Disk.{View}
+use Rattle.sfs_dev.specs.Run.{CountsOn, EachMoment}
 use Rattle.area_pair.specs.declared.area.Row.{Row}
-use Rattle.area_pair.specs.Rows.{numbered}
-use Rattle.area_pair.specs.Settled.{ReadsAs}
+use Rattle.area_pair.specs.Rows.{numbered, rows_of}
+use Rattle.area_pair.specs.Settled.{ReadsAs, IsSettled, HasRowsBy}
 use Rattle.scalefs_run.specs.declared.flush.Store.{Store}
 use Rattle.scalefs_run.specs.Replies.{root_rows}
 
@@ -27,28 +28,45 @@ pub record IsLinked (tree : TreeState) : Type 0 where
   pub made : (name : List ℕ) (child : ℕ) → row_of tree 0 name ≡ Some child → child < next_number tree 0
   pub single : (name other : List ℕ) (child : ℕ) → row_of tree 0 name ≡ Some child → row_of tree 0 other ≡ Some child → name ≢ other → kind_of tree child ≡ File
 
--- The rows were brought to the disk.
-pub record Commits (rows : List Row) (old new : Store) (before after : View) : Type 0 where
+-- the moment after the fourth device call, which is the sync behind the opened gate
+abbrev pub after_four : View → ℕ
+after_four disk = min (disk.now + 4) (2 ^ 64 - 1)
+
+-- The rows were brought to the disk: what a read gives and every image have them now, in the course of it an image had the old rows or
+-- these, and from the acknowledgement on these.
+pub record Commits (rows : List Row) (ack : Option ℕ) (old new : Store) (before after : View) : Type 0 where
   pub on_disk : new.on_disk ≡ length rows
   pub working : new.failed ≡ None
+  pub dated : ack ≡ Some (after_four before)
+  pub meanwhile : (before.now ≤ after_four before) × (after_four before ≤ after.now)
   pub read : (found : List Row) → ReadsAs before old.areas found → ReadsAs after new.areas (numbered rows)
+  pub settled : (found : List Row) → IsSettled before old.areas found → IsSettled after new.areas (numbered rows)
+  pub moments : (found : List Row) → IsSettled before old.areas found → CountsOn after → EachMoment before after (λ k image. HasRowsBy k (after_four before) found (numbered rows) image)
 
--- The disk failed, and its count of faults is kept.
-pub record Fails (old new : Store) (before after : View) : Type 0 where
+-- The disk failed, and its count of faults is kept; an image has the old rows or these.
+pub record Fails (rows : List Row) (old new : Store) (before after : View) : Type 0 where
   pub kept : new.failed ≡ Some after.faults
   pub risen : Rose before.faults after.faults
   pub on_disk : new.on_disk ≡ old.on_disk
+  pub moments : (found : List Row) → IsSettled before old.areas found → CountsOn after → EachMoment before after (λ _ image. (rows_of image ≡ found) ⊎ (rows_of image ≡ numbered rows))
 
--- what a commit did, by its reply
-abbrev pub HasCommitted : List Row → Store → Store → View → View → Reply → Type 0
-HasCommitted rows old new before after reply.Ok = Commits rows old new before after
-HasCommitted rows old new before after reply.DiskFailed = Fails old new before after
-HasCommitted rows old new before after _ = ⊥
+-- what a commit did, by its reply and its moment of acknowledgement
+abbrev pub HasCommitted : List Row → Option ℕ → Store → Store → View → View → Reply → Type 0
+HasCommitted rows ack old new before after reply.Ok = Commits rows ack old new before after
+HasCommitted rows ack old new before after reply.DiskFailed = Fails rows old new before after
+HasCommitted rows ack old new before after _ = ⊥
 
--- What an fsync did, by its reply: where it is Ok, the rows were on the disk already, or are brought to it;
--- after any reply but that and DiskFailed, all is as it was. `Same` says that the disk is as it was.
-abbrev pub HasFlushed : Type 0 → TreeState → Store → Store → View → View → Reply → Type 0
-HasFlushed Same tree old new before after reply.Ok =
-    (old.failed ≡ None) × ((Same × (new ≡ old) × (root_rows tree ≡ old.on_disk)) ⊎ Commits (rows_of_root tree) old new before after)
-HasFlushed Same tree old new before after reply.DiskFailed = (old.failed ≡ None) × Fails old new before after
-HasFlushed Same tree old new before after _ = Same × (new ≡ old)
+-- The rows were on the disk already, and it is acknowledged at once.
+pub record IsThere (Same : Type 0) (tree : TreeState) (ack : Option ℕ) (old new : Store) (before : View) : Type 0 where
+  pub still : Same
+  pub store : new ≡ old
+  pub there : root_rows tree ≡ old.on_disk
+  pub dated : ack ≡ Some before.now
+
+-- What an fsync did, by its reply: where it is Ok, the rows were on the disk already, or they were not and are brought to it;
+-- after any reply but that and DiskFailed, all is as it was. `Same` says that the disk is as it was, without one device call.
+abbrev pub HasFlushed : Type 0 → TreeState → Option ℕ → Store → Store → View → View → Reply → Type 0
+HasFlushed Same tree ack old new before after reply.Ok =
+    (old.failed ≡ None) × (IsThere Same tree ack old new before ⊎ ((root_rows tree ≢ old.on_disk) × Commits (rows_of_root tree) ack old new before after))
+HasFlushed Same tree ack old new before after reply.DiskFailed = (old.failed ≡ None) × Fails (rows_of_root tree) old new before after
+HasFlushed Same tree ack old new before after _ = Same × (new ≡ old)

@@ -1,7 +1,9 @@
+pub mod Crash
 pub mod First
 pub mod Flushed
 pub mod Outcome
 pub mod Replies
+pub mod Safe
 pub mod Served
 pub mod Shown
 pub mod Stands

@@ -1,5 +1,6 @@
 -- What a run has done so far.
-use Rattle.std.specs.Prelude.{◌≡◌, ℕ, ◌<◌, ◌≤◌, false, List, [], length, None, is_some, IfSome}
+use Rattle.std.specs.Prelude.{◌≡◌, ◌⊎◌, ℕ, ◌<◌, ◌≤◌, false, List, [], length, None, is_some, IfSome}
+use Rattle.std.specs.List.{All}
 use Rattle.std.specs.FinMap.{from_entries}
 use Rattle.sfs_base.specs.Ends.{Rose}
 use Rattle.sfs_tree.specs.declared.history.Entry.{Entry}
@@ -10,10 +11,11 @@ use Rattle.area_pair.specs.declared.area.Row.{Row}
 use Rattle.area_pair.specs.Put.{IsTold}
 use Rattle.area_pair.specs.Rows.{rows_of}
 use Rattle.area_pair.specs.Settled.{ReadsAs}
+use Rattle.scalefs_run.specs.Crash.{AreDated, HasStamp}
 use Rattle.scalefs_run.specs.First.{first_tree}
 use Rattle.scalefs_run.specs.Flushed.{IsLinked}
 use Rattle.scalefs_run.specs.Replies.{AreAnswered, has_failed, root_rows}
-use Rattle.scalefs_run.specs.Shown.{Kinds, shown, shown_at, last_flush}
+use Rattle.scalefs_run.specs.Shown.{Kinds, shown, shown_at, is_flush, last_flush}
 use Rattle.scalefs_run.specs.declared.engine.Engine.{Engine}
 use Rattle.scalefs_run.specs.declared.flush.Store.{Store}
 
@@ -26,8 +28,13 @@ abbrev pub ReadsFlushed : List Row → List Entry → Store → View → Type 0
 ReadsFlushed opened history store disk =
     (rows : List Row) × ReadsAs disk store.areas rows × (shown rows ≡ shown_at (first_tree opened) history (last_flush history))
 
--- What a run has in hand belongs to its history, from the tree of the rows that opening gave, on a disk whose count of faults was `start` at first.
-pub record Stands (start : ℕ) (opened : List Row) (history : List Entry) (tree : TreeState) (store : Store) (disk : View) : Type 0 where
+-- The last flush of a history is the last one that was acknowledged.
+pub record FlushedLast (history : List Entry) : Type 0 where
+  pub found : (last_flush history ≡ 0) ⊎ HasStamp is_flush history (last_flush history)
+  pub newest : All (λ entry. IfSome entry.ack (λ _. entry.stamp.0 ≤ last_flush history)) history
+
+-- What a run has in hand belongs to its history, from the tree of the rows that opening gave, on a disk that began at moment `from` with `start` faults.
+pub record Stands (start from : ℕ) (opened : List Row) (history : List Entry) (tree : TreeState) (store : Store) (disk : View) : Type 0 where
   pub legal : IsLegal (first_tree opened) history
   pub tree_is : tree ≡ tree_after (first_tree opened) history
   pub cores : 0 < length tree.made
@@ -42,19 +49,14 @@ pub record Stands (start : ℕ) (opened : List Row) (history : List Entry) (tree
   pub same : store.on_disk ≡ root_rows tree → shown_at (first_tree opened) history (last_flush history) ≡ root_shown tree
   pub read : store.failed ≡ None → ReadsFlushed opened history store disk
   pub later : start ≤ disk.faults
+  pub dated : AreDated from history disk.now
+  pub last : FlushedLast history
 
 -- it does so for some rows and some count
 abbrev pub StandsSomehow : Engine → View → Type 0
-StandsSomehow engine disk = (start : ℕ) × (opened : List Row) × Stands start opened engine.entries.items engine.tree engine.store disk
+StandsSomehow engine disk = (start from : ℕ) × (opened : List Row) × Stands start from opened engine.entries.items engine.tree engine.store disk
 
 -- it goes on doing so
 abbrev pub StandsStill : Engine → Engine → View → View → Type 0
 StandsStill old new before after =
-    (start : ℕ) (opened : List Row) → Stands start opened old.entries.items old.tree old.store before → Stands start opened new.entries.items new.tree new.store after
-
--- A run begins: there are no calls, and the rows are those that a read gives.
-pub record Begins (engine : Engine) (before after : View) : Type 0 where
-  pub opened : List Row
-  pub told : IsTold before.told (λ content. opened ≡ rows_of content)
-  pub none : engine.entries.items ≡ []
-  pub stands : Stands before.faults opened engine.entries.items engine.tree engine.store after
+    (start from : ℕ) (opened : List Row) → Stands start from opened old.entries.items old.tree old.store before → Stands start from opened new.entries.items new.tree new.store after

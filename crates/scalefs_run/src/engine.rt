@@ -1,10 +1,14 @@
 // The calls of a script, one after another, on one thread.
 ghost use Rattle.std.specs.Prelude.{◌≡◌, ◌≤◌, ◌++◌, ◌∷◌, [], map, IfOk, IfErr, OnOk, OnErr};
-ghost use Rattle.sfs_dev.specs.Run.{GoesOn};
+ghost use Rattle.sfs_dev.specs.Disk.{OnlyTold, images};
+ghost use Rattle.sfs_dev.specs.Run.{GoesOn, CountsOn, EachMoment};
 ghost use Rattle.area_pair.specs.Fault.{IsFault};
+ghost use Rattle.area_pair.specs.Put.{IsTold};
+ghost use Rattle.area_pair.specs.Rows.{rows_of};
 ghost use Rattle.script.specs.Calls.{call_of, called, calls_of};
 ghost use Rattle.scalefs_run.specs.Outcome.{FollowsSoFar};
-ghost use Rattle.scalefs_run.specs.Stands.{StandsSomehow, StandsStill, Begins};
+ghost use Rattle.scalefs_run.specs.Stands.{StandsSomehow, StandsStill};
+ghost use Rattle.scalefs_run.specs.Safe.{Begins, SafeStill};
 
 use crate::first::{ROOT, tree_of_rows};
 use crate::flush::{Flushed, Store, flush};
@@ -31,6 +35,11 @@ pub struct Engine {
 pub fn mount<D: Disk>(alloc: Global, disk: &mut D) -> Result<Engine, OpenFault>
     requires { 4 ≤ (D.view disk.old).size }
     ensures begins { IfOk result (λ engine. Begins engine (D.view disk.old) (D.view disk.new)) }
+
+    // Where nothing is pending at entry, a crash at any moment of the call leaves the same rows.
+    ensures moments { OnlyTold (D.view disk.old).told (images (D.view disk.old)) → CountsOn (D.view disk.new)
+        → IsTold (D.view disk.old).told (λ content. EachMoment (D.view disk.old) (D.view disk.new) (λ _ image. rows_of image ≡ rows_of content)) }
+
     ensures goes { GoesOn (D.view disk.old) (D.view disk.new) }
     ensures cause { IfErr result (λ fault. IsFault fault (D.view disk.old).faults (D.view disk.new).faults) }
 {
@@ -59,6 +68,7 @@ pub fn serve<D: Disk>(
     requires stands { StandsSomehow engine.old (D.view disk.old) }
     requires none { engine.old.entries.items ≡ [] }
     ensures stands { StandsStill engine.old engine.new (D.view disk.old) (D.view disk.new) }
+    ensures safe { SafeStill engine.old engine.new (D.view disk.old) (D.view disk.new) }
     ensures ok { OnOk result (map called engine.new.entries.items ≡ calls_of commands.now) }
     ensures err { OnErr result (FollowsSoFar commands.now engine.new.entries.items) }
     ensures goes { GoesOn (D.view disk.old) (D.view disk.new) }
@@ -74,6 +84,7 @@ fn serve_one<D: Disk>(engine: &mut Engine, disk: &mut D, command: &Command) -> R
     requires large { 4 ≤ (D.view disk.old).size }
     requires stands { StandsSomehow engine.old (D.view disk.old) }
     ensures stands { StandsStill engine.old engine.new (D.view disk.old) (D.view disk.new) }
+    ensures safe { SafeStill engine.old engine.new (D.view disk.old) (D.view disk.new) }
     ensures ok { OnOk result (map called engine.new.entries.items ≡ map called engine.old.entries.items ++ (0, call_of command.now) ∷ []) }
     ensures err { OnErr result (engine.new.entries.items ≡ engine.old.entries.items) }
     ensures goes { GoesOn (D.view disk.old) (D.view disk.new) }

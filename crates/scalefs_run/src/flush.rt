@@ -1,5 +1,5 @@
 // An fsync of the root brings its rows to the disk, unless they are there already.
-ghost use Rattle.std.specs.Prelude.{◌≡◌, ◌≤◌, ◌↔◌, None, length, is_some, unwrap_or, IsSome, IsTrue, IfOk};
+ghost use Rattle.std.specs.Prelude.{◌≡◌, ◌≤◌, ◌↔◌, None, Some, length, is_some, unwrap_or, IsSome, IsTrue, IfOk};
 ghost use Rattle.sfs_dev.specs.Run.{GoesOn};
 ghost use Rattle.sfs_tree.specs.NameRow.{entry_of};
 ghost use Rattle.sfs_tree.specs.History.{is_ok_reply, kind_of};
@@ -40,7 +40,7 @@ pub fn flush<D: Disk>(alloc: Global, store: &mut Store, disk: &mut D, tree: &Tre
     requires linked { IsLinked tree.now }
     ensures reply { IsAnswered (is_some store.old.failed) (unwrap_or store.old.failed 0) (root_rows tree.now) result.reply }
     ensures acknowledged { IsSome result.ack ↔ IsTrue (is_ok_reply result.reply) }
-    ensures flushed { HasFlushed (disk.new ≡ disk.old) tree.now store.old store.new (D.view disk.old) (D.view disk.new) result.reply }
+    ensures flushed { HasFlushed (disk.new ≡ disk.old) tree.now result.ack store.old store.new (D.view disk.old) (D.view disk.new) result.reply }
     ensures goes { GoesOn (D.view disk.old) (D.view disk.new) }
 {
     if let Some(faults) = store.failed {
@@ -70,7 +70,7 @@ fn commit<D: Disk>(store: &mut Store, disk: &mut D, rows: &[Row]) -> Flushed
     requires apart { KeepsApart rows.now }
     requires working { store.old.failed ≡ None }
     ensures acknowledged { IsSome result.ack ↔ IsTrue (is_ok_reply result.reply) }
-    ensures committed { HasCommitted rows.now store.old store.new (D.view disk.old) (D.view disk.new) result.reply }
+    ensures committed { HasCommitted rows.now result.ack store.old store.new (D.view disk.old) (D.view disk.new) result.reply }
     ensures goes { GoesOn (D.view disk.old) (D.view disk.new) }
 {
     match store.areas.commit(disk, rows) {
@@ -94,7 +94,7 @@ fn answer(reply: Reply) -> Flushed
 
 fn acknowledge(moment: u64) -> Flushed
     ensures reply { result.reply ≡ Fine }
-    ensures ack { IsSome result.ack }
+    ensures ack { result.ack ≡ Some moment }
 {
     Flushed {
         reply: Reply::Ok,

@@ -6,6 +6,7 @@ ghost use Rattle.script.specs.Faults.{MOST_BYTES};
 ghost use Rattle.scalefs_run.specs.declared.outcome.Status.TheVariants.{Done as Fine};
 ghost use Rattle.scalefs_run.specs.Outcome.{IsOf, is_run, HasText, IsWriteStatus, HasReadFault, status_of_source, status_of_script, reaches_disk};
 ghost use Rattle.scalefs_run.specs.Served.{Served, ServedScript};
+ghost use Rattle.scalefs_run.specs.Crash.{AreDated, Survives};
 
 use crate::engine::{Engine, mount, serve};
 use crate::{Outcome, Status};
@@ -34,6 +35,11 @@ pub fn run<R: Threads + Wait + Sync, S: Source, K: Sink, D: Disk, G: Gate>(
 
     ensures served { ServedScript (map string_bytes words.now) (S.left source.old) (Rose (S.faults source.old) (S.faults source.new)) (Rose (K.faults sink.old) (K.faults sink.new))
         (K.written sink.old) (K.written sink.new) (D.view disk) (D.view result.disk) result.status result.history }
+
+    // A crash at any moment of the call leaves the root as it was at a stamp, with each fsync that was acknowledged by then.
+    ensures survives { Survives (D.view disk) (D.view result.disk) result.history }
+    ensures dated { AreDated (D.view disk).now result.history (D.view result.disk).now }
+
     ensures untouched { reaches_disk result.status ≡ false → result.disk ≡ disk }
     ensures turns { result.turns.items ≡ [] }
     ensures goes { GoesOn (D.view disk) (D.view result.disk) }
@@ -58,6 +64,8 @@ fn serve_words<S: Source, K: Sink, D: Disk>(
     requires { 4 ≤ (D.view disk.old).size }
     ensures served { ServedScript (map string_bytes words.now) (S.left source.old) (Rose (S.faults source.old) (S.faults source.new)) (Rose (K.faults sink.old) (K.faults sink.new))
         (K.written sink.old) (K.written sink.new) (D.view disk.old) (D.view disk.new) result.0 result.1 }
+    ensures survives { Survives (D.view disk.old) (D.view disk.new) result.1 }
+    ensures dated { AreDated (D.view disk.old).now result.1 (D.view disk.new).now }
     ensures untouched { reaches_disk result.0 ≡ false → disk.new ≡ disk.old }
     ensures goes { GoesOn (D.view disk.old) (D.view disk.new) }
 {
@@ -127,6 +135,8 @@ fn serve_script<K: Sink, D: Disk>(
     requires { 4 ≤ (D.view disk.old).size }
     ensures served { Served Fine commands.now ⊥ (Rose (K.faults sink.old) (K.faults sink.new)) (K.written sink.old) (K.written sink.new)
         (D.view disk.old) (D.view disk.new) result.0 result.1 }
+    ensures survives { Survives (D.view disk.old) (D.view disk.new) result.1 }
+    ensures dated { AreDated (D.view disk.old).now result.1 (D.view disk.new).now }
     ensures reached { reaches_disk result.0 ≡ true }
     ensures goes { GoesOn (D.view disk.old) (D.view disk.new) }
 {

@@ -1,10 +1,13 @@
 -- A run begins with the rows that opening gave.
-use Rattle.std.proofs.Common.{List, [], refl, sym, subst}
+use Rattle.std.proofs.Common.{◌≡◌, ◌≤◌, ℕ, List, [], None, refl, sym, subst, ◌∙◌}
 use Rattle.sfs_tree.specs.declared.history.Entry.{Entry}
+use Rattle.sfs_dev.specs.Disk.{OnlyTold, images}
+use Rattle.area_pair.specs.Rows.{rows_of}
+use Rattle.scalefs_run.specs.Safe.{IsSafe}
 use Rattle.scalefs_run.specs.Stands.{Stands}
 use Rattle.scalefs_run.specs.declared.flush.Store.{Store}
 use Rattle.scalefs_run.proofs.Begun.{stands_first}
-use Rattle.std.proofs.Common.{None}
+use Rattle.scalefs_run.proofs.Survived.{safe_first, told_here}
 use Rattle.scalefs_run.proofs.engine.mount.Goals as goal
 
 pub returns-clause-begins : goal.returns-clause-begins
@@ -16,10 +19,16 @@ returns-clause-begins g c =
     let tree = c.in_ok-tree.tree in
     let store : Store = record { areas = c.in_ok-areas.areas; on_disk = c.row_count-on_disk.result; failed = None } in
     let opened = c.in_ok-areas.ensures in
-    let stands : Stands before.faults rows [] tree store after = stands_first rows tree store after before.faults opened.sound c.in_ok-tree.ensures c.row_count-on_disk.ensures refl opened.read opened.calm in
+    let stands : Stands before.faults before.now rows [] tree store after = stands_first rows tree store after before.faults before.now opened.sound c.in_ok-tree.ensures c.row_count-on_disk.ensures refl opened.read opened.calm c.open.ensures.goes.later in
     record {
       opened = rows;
       told = opened.rows;
       none = c.new.ensures.items;
-      stands = subst (λ (h : List Entry). Stands before.faults rows h tree store after) (sym c.new.ensures.items) stands;
+      stands = subst (λ (h : List Entry). Stands before.faults before.now rows h tree store after) (sym c.new.ensures.items) stands;
+      safe = λ only tells counts.
+          let content = told_here before.told tells in
+          let moments = c.open.ensures.moments only counts content.0 content.1 in
+          let same = opened.rows content.0 content.1 in
+          let safe : IsSafe before.faults before.now rows [] store after = safe_first before.faults before.now rows store before after opened.sound (opened.settled tells only) (λ k image ge le left. moments k image ge le left ∙ sym same) in
+          subst (λ (h : List Entry). IsSafe before.faults before.now rows h store after) (sym c.new.ensures.items) safe;
     }

@@ -23,7 +23,13 @@ next_call commands i command old new within is so more =
     ∙ sym (ap calls_of (take_more commands i command within) ∙ map-append (λ (c : Command). (0, call_of c)) (take i commands) (get_or commands i command ∷ []))
 
 pub returns-in_err-serve_one-clause-stands : goal.returns-in_err-serve_one-clause-stands
-returns-in_err-serve_one-clause-stands g c start opened h = c.in_err-serve_one.ensures.stands start opened (c.loop-command.invariant.still start opened h)
+returns-in_err-serve_one-clause-stands g c start from opened h = c.in_err-serve_one.ensures.stands start from opened (c.loop-command.invariant.still start from opened h)
+
+pub returns-in_err-serve_one-clause-safe : goal.returns-in_err-serve_one-clause-safe
+returns-in_err-serve_one-clause-safe g c start from opened h counts safe =
+    let invariant = c.loop-command.invariant in
+    let still = invariant.still start from opened h in
+    c.in_err-serve_one.ensures.safe start from opened still counts (invariant.safe start from opened h (let later = c.in_err-serve_one.ensures.goes.later in omega arith) safe)
 
 pub returns-in_err-serve_one-clause-err : goal.returns-in_err-serve_one-clause-err
 returns-in_err-serve_one-clause-err g c =
@@ -36,8 +42,9 @@ loop-command-preserved g c =
     let somehow = invariant.somehow in
     record {
       large = let same = served.goes.size in let large = invariant.large in omega arith;
-      somehow = (somehow.0, somehow.1, served.stands somehow.0 somehow.1 somehow.2);
-      still = λ start opened h. served.stands start opened (invariant.still start opened h);
+      somehow = (somehow.0, somehow.1, somehow.2, served.stands somehow.0 somehow.1 somehow.2 somehow.3);
+      still = λ start from opened h. served.stands start from opened (invariant.still start from opened h);
+      safe = λ start from opened h counts safe. served.safe start from opened (invariant.still start from opened h) counts (invariant.safe start from opened h (let later = served.goes.later in omega arith) safe);
       follows = next_call c.args.commands.now c.loop-command.command-index c.command-item.result c.loop-command.engine.entries.items c.serve_one.new.engine.entries.items (let test = c.loop-command-test.true in let end = c.loop-command.auto.command-index-end in omega arith) c.command-item.is invariant.follows served.ok;
       goes = GoesOn-trans _ _ _ invariant.goes served.goes;
     }

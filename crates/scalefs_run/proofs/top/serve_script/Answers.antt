@@ -8,8 +8,10 @@ use Rattle.script.specs.Calls.{calls_of}
 use Rattle.scalefs_run.specs.declared.outcome.Status.{Status}
 use Rattle.scalefs_run.specs.declared.outcome.Status.TheVariants.{Done, DiskFault, NoMemory}
 use Rattle.scalefs_run.specs.Outcome.{HasText}
+use Rattle.scalefs_run.specs.Crash.{AreDated, Survives}
 use Rattle.scalefs_run.specs.Served.{Served}
 use Rattle.scalefs_run.proofs.Serving.{served_none, served_run, write_status, write_history}
+use Rattle.scalefs_run.proofs.Survived.{survives_none, survives_run}
 use Rattle.scalefs_run.proofs.top.serve_script.Goals.{in-Err, in-Ok-served}
 use Rattle.scalefs_run.proofs.top.serve_script.Goals as goal
 
@@ -63,3 +65,32 @@ returns-clause-served g c =
           subst (λ (s : Status). Served Done commands ⊥ (Rose (faults was) (faults is)) (written was) (written is) old new s history) (sym w.status-is)
           (subst (λ k. Served Done commands ⊥ (Rose (faults was) (faults k)) (written was) (written k) old new given history) (sym w.sink-is) served)
     ])
+
+pub returns-in-Err-DiskFailed-clause-survives : goal.returns-in-Err-DiskFailed-clause-survives
+returns-in-Err-DiskFailed-clause-survives g c =
+    let old = g.D.Disk.view c.args.disk.now in
+    let new = g.D.Disk.view c.mount.new.disk in
+    subst (λ (h : List Entry). Survives old new h) (sym c.new.ensures) (survives_none old new c.mount.ensures.moments)
+
+pub returns-in-Err-NoMemory-clause-survives : goal.returns-in-Err-NoMemory-clause-survives
+returns-in-Err-NoMemory-clause-survives g c =
+    let old = g.D.Disk.view c.args.disk.now in
+    let new = g.D.Disk.view c.mount.new.disk in
+    subst (λ (h : List Entry). Survives old new h) (sym c.new-in-Err-NoMemory.ensures) (survives_none old new c.mount.ensures.moments)
+
+pub returns-clause-survives : goal.returns-clause-survives
+returns-clause-survives g c =
+    let old = g.D.Disk.view c.args.disk.now in
+    let mid = g.D.Disk.view c.mount.new.disk in
+    let new = g.D.Disk.view c.serve-served.new.disk in
+    let served = c.serve-served.ensures in
+    subst (λ (h : List Entry). Survives old new h) (sym c.from_entries-history.ensures)
+    (survives_run c.in-Ok.engine c.serve-served.new.engine old mid new c.in-Ok.ensures.begins served.safe served.goes.later)
+
+pub returns-clause-dated : goal.returns-clause-dated
+returns-clause-dated g c =
+    let old = g.D.Disk.view c.args.disk.now in
+    let new = g.D.Disk.view c.serve-served.new.disk in
+    let begins = c.in-Ok.ensures.begins in
+    subst (λ (h : List Entry). AreDated old.now h new.now) (sym c.from_entries-history.ensures)
+    (c.serve-served.ensures.stands old.faults old.now begins.opened begins.stands).dated

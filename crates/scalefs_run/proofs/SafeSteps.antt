@@ -1,0 +1,168 @@
+-- A run that is safe goes on by one call.
+use Rattle.std.proofs.Common.{◌≡◌, ◌⊎◌, ◌↔◌, inl, inr, ⊎_elim, ℕ, ◌+◌, ◌-◌, ◌^◌, ◌<◌, ◌≤◌, min, Bool, true, false, cond, List, [], ◌∷◌, ◌++◌, length, Option, Some, None, is_some, IsSome, IsTrue, IfSome, unwrap_or, refl, sym, ap, subst, ◌∙◌, arith}
+use Rattle.std.proofs.lemmas.Bool.{cases_lt}
+use Rattle.sfs_base.specs.Ends.{Rose}
+use Rattle.sfs_base.specs.declared.numbers.Kind.TheVariants.{Directory}
+use Rattle.sfs_tree.specs.declared.call.Call.TheVariants.{Make, Fsync}
+use Rattle.sfs_tree.specs.declared.history.Entry.{Entry}
+use Rattle.sfs_tree.specs.declared.reply.Reply.{Reply}
+use Rattle.sfs_tree.specs.declared.reply.Reply.TheVariants as reply
+use Rattle.sfs_tree.specs.Tree.{TreeState}
+use Rattle.sfs_tree.specs.History.{IsLegal, tree_after, is_ok_reply}
+use Rattle.sfs_dev.specs.Disk.{View, images}
+use Rattle.sfs_dev.specs.Run.{CountsOn, GoesOn}
+use Rattle.area_pair.specs.declared.area.Row.{Row}
+use Rattle.area_pair.specs.Rows.{numbered, rows_of}
+use Rattle.area_pair.specs.Settled.{IsSettled, HasRowsBy}
+use Rattle.scalefs_run.specs.Crash.{StandsAtCut, is_failed_flush}
+use Rattle.scalefs_run.specs.First.{first_tree}
+use Rattle.scalefs_run.specs.Flushed.{HasFlushed, IsThere, Commits, Fails, rows_of_root, after_four}
+use Rattle.scalefs_run.specs.Replies.{root_rows}
+use Rattle.scalefs_run.specs.Safe.{IsSafe, IsSettledFlush}
+use Rattle.scalefs_run.specs.Shown.{shown, shown_at, is_flush, last_flush}
+use Rattle.scalefs_run.specs.Stands.{Stands, root_shown}
+use Rattle.scalefs_run.specs.declared.flush.Store.{Store}
+use Rattle.scalefs_run.proofs.Crashes.{at_cut_grown, at_cut_new, at_cut_last}
+use Rattle.scalefs_run.proofs.Pushed.{last_flush-push, shown_at-push, shown_at-end}
+use Rattle.scalefs_run.proofs.Shows.{shown-numbered}
+use Rattle.scalefs_run.proofs.Standing.{made_entry, flushed_entry, no_ack}
+
+never_both : {n : ℕ} → Some n ≡ None → ⊥
+never_both e = cc
+
+-- The history of a run that stands, one entry longer and legal still.
+module _ (start from : ℕ) (opened : List Row) (history : List Entry) (tree : TreeState) (store : Store) (disk : View) (so_far : Stands start from opened history tree store disk) (safe : IsSafe start from opened history store disk)
+    (entry : Entry) (more : IsLegal (first_tree opened) (history ++ entry ∷ [])) where
+  abbrev all : List Entry
+  all = history ++ entry ∷ []
+
+  -- an entry that is no flush leaves what the last flush shows
+  shows_still : is_flush entry ≡ false → shown_at (first_tree opened) history (last_flush history) ≡ shown_at (first_tree opened) all (last_flush all)
+  shows_still no_flush =
+      sym (ap (shown_at (first_tree opened) all) (last_flush-push history entry ∙ ap (λ b. cond b entry.stamp.0 (last_flush history)) no_flush)
+      ∙ shown_at-push (first_tree opened) history entry (last_flush history) so_far.legal more so_far.before)
+
+  -- a flush shows the root as it is
+  shows_here : is_flush entry ≡ true → entry.stamp.0 ≡ length history → root_shown tree ≡ shown_at (first_tree opened) all (last_flush all)
+  shows_here flush stamped =
+      sym (ap (shown_at (first_tree opened) all) (last_flush-push history entry ∙ ap (λ b. cond b entry.stamp.0 (last_flush history)) flush ∙ stamped)
+      ∙ shown_at-end (first_tree opened) history entry more
+      ∙ ap root_shown (sym so_far.tree_is))
+
+  -- the disk is as it was, and the entry was not acknowledged
+  pub safe_quiet : is_flush entry ≡ false → entry.ack ≡ None → IsSafe start from opened all store disk
+  safe_quiet no_flush no_ack = record {
+    settled = λ none. let found = safe.settled none in (found.0, found.1, found.2 ∙ shows_still no_flush);
+    moments = λ k image ge le left.
+        at_cut_grown (first_tree opened) history entry so_far.legal more (Rose start disk.faults) (Rose start disk.faults) k image (λ rose. rose)
+        (subst (λ (o : Option ℕ). IfSome o (λ a. k < a)) (sym no_ack) tt) (safe.moments k image ge le left);
+  }
+
+  module _ (flush : is_flush entry ≡ true) (stamped : entry.stamp.0 ≡ length history) where
+    -- the disk is as it was, and has the root's rows
+    pub safe_there : store.failed ≡ None → root_rows tree ≡ store.on_disk → entry.ack ≡ Some disk.now → IsSafe start from opened all store disk
+    safe_there working there acked =
+        let found = safe.settled working in
+        let shows : shown found.0 ≡ root_shown tree = found.2 ∙ so_far.same (sym there) in
+        record {
+          settled = λ none. (found.0, found.1, shows ∙ shows_here flush stamped);
+          moments = λ k image ge le left.
+              ⊎_elim
+              (λ lt. at_cut_grown (first_tree opened) history entry so_far.legal more (Rose start disk.faults) (Rose start disk.faults) k image (λ rose. rose)
+              (subst (λ (o : Option ℕ). IfSome o (λ a. k < a)) (sym acked) lt) (safe.moments k image ge le left))
+              (λ end.
+              let now : k ≡ disk.now = omega arith in
+              at_cut_new (first_tree opened) history entry so_far.legal more (Rose start disk.faults) k image stamped (inl flush)
+              (ap shown (found.1.left image (subst (λ n. disk.leaves n image) now left)).rows_are ∙ shows ∙ ap root_shown so_far.tree_is))
+              (cases_lt k disk.now);
+        }
+
+  module _ (after : Store) (disk_after : View) (goes : GoesOn disk disk_after) (counts : CountsOn disk_after) (working : store.failed ≡ None) where
+    rose_on : Rose start disk.faults → Rose start disk_after.faults
+    rose_on rose = let rises = goes.never_falls in omega arith
+
+    -- an image from before the commit
+    before_it : (k : ℕ) (image : List ℕ) → IfSome entry.ack (λ a. k < a) → from ≤ k → k ≤ disk.now → k ≤ disk_after.now → disk_after.leaves k image → StandsAtCut (Rose start disk_after.faults) (first_tree opened) all k image
+    before_it k image later ge le end left =
+        at_cut_grown (first_tree opened) history entry so_far.legal more (Rose start disk.faults) (Rose start disk_after.faults) k image rose_on later
+        (safe.moments k image ge le ((goes.past k image (let last = counts in omega arith) le).0 left))
+
+    -- an image with the rows of the last flush
+    old_rows : (rows : List Row) (k : ℕ) (image : List ℕ) → IfSome entry.ack (λ a. k < a) → shown rows ≡ shown_at (first_tree opened) history (last_flush history) → rows_of image ≡ rows → StandsAtCut (Rose start disk_after.faults) (first_tree opened) all k image
+    old_rows rows k image later shows is =
+        at_cut_grown (first_tree opened) history entry so_far.legal more (Rose start disk_after.faults) (Rose start disk_after.faults) k image (λ rose. rose) later
+        (at_cut_last (Rose start disk_after.faults) (first_tree opened) history k image so_far.last so_far.before (ap shown is ∙ shows))
+
+    -- an image with the root's rows
+    new_rows : (k : ℕ) (image : List ℕ) → entry.stamp.0 ≡ length history → ((is_flush entry ≡ true) ⊎ (Rose start disk_after.faults × (is_failed_flush entry ≡ true))) → rows_of image ≡ numbered (rows_of_root tree) → StandsAtCut (Rose start disk_after.faults) (first_tree opened) all k image
+    new_rows k image stamped reached is =
+        at_cut_new (first_tree opened) history entry so_far.legal more (Rose start disk_after.faults) k image stamped reached (ap shown is ∙ shown-numbered tree ∙ ap root_shown so_far.tree_is)
+
+    -- the rows were brought to the disk
+    pub safe_brought : is_flush entry ≡ true → entry.stamp.0 ≡ length history → Commits (rows_of_root tree) entry.ack store after disk disk_after → IsSafe start from opened all after disk_after
+    safe_brought flush stamped commits =
+        let found = safe.settled working in
+        let acked : (k : ℕ) → k < after_four disk → IfSome entry.ack (λ a. k < a) = (λ k lt. subst (λ (o : Option ℕ). IfSome o (λ a. k < a)) (sym commits.dated) lt) in
+        record {
+          settled = λ none. (numbered (rows_of_root tree), commits.settled found.0 found.1, shown-numbered tree ∙ shows_here flush stamped);
+          moments = λ k image ge le left.
+              ⊎_elim
+              (λ gt.
+              let by = commits.moments found.0 found.1 counts k image (omega arith) le left in
+              ⊎_elim
+              (λ lt. ⊎_elim (old_rows found.0 k image (acked k lt) found.2) (new_rows k image stamped (inl flush)) (by.before lt))
+              (λ past. new_rows k image stamped (inl flush) (by.after past))
+              (cases_lt k (after_four disk)))
+              (λ early. before_it k image (acked k (let last = counts in omega arith)) ge early le left)
+              (cases_lt disk.now k);
+        }
+
+    -- the disk failed
+    pub safe_failed : is_failed_flush entry ≡ true → entry.ack ≡ None → entry.stamp.0 ≡ length history → Fails (rows_of_root tree) store after disk disk_after → IsSafe start from opened all after disk_after
+    safe_failed failed unacked stamped fails =
+        let found = safe.settled working in
+        let never_acked : (k : ℕ) → IfSome entry.ack (λ a. k < a) = (λ k. subst (λ (o : Option ℕ). IfSome o (λ a. k < a)) (sym unacked) tt) in
+        let rose : Rose start disk_after.faults = let risen = fails.risen in let first_later = so_far.later in omega arith in
+        record {
+          settled = λ none. absurd (never_both (sym fails.kept ∙ none));
+          moments = λ k image ge le left.
+              ⊎_elim
+              (λ gt. ⊎_elim (old_rows found.0 k image (never_acked k) found.2) (new_rows k image stamped (inr (rose, failed)))
+              (fails.moments found.0 found.1 counts k image (omega arith) le left))
+              (λ early. before_it k image (never_acked k) ge early le left)
+              (cases_lt disk.now k);
+        }
+
+-- a run that is safe goes on by a directory that is made
+pub safe_made : (start from : ℕ) (opened : List Row) (history : List Entry) (tree : TreeState) (store : Store) (disk : View) → Stands start from opened history tree store disk → IsSafe start from opened history store disk → (name : List ℕ)
+    → IsLegal (first_tree opened) (history ++ made_entry (length history) tree name ∷ []) → IsSafe start from opened (history ++ made_entry (length history) tree name ∷ []) store disk
+safe_made start from opened history tree store disk so_far safe name more = safe_quiet start from opened history tree store disk so_far safe (made_entry (length history) tree name) more refl refl
+
+-- and by an fsync. `Same` says that the disk is as it was.
+pub safe_flushed : (start from : ℕ) (opened : List Row) (history : List Entry) (tree : TreeState) (store : Store) (disk : View) → Stands start from opened history tree store disk → IsSafe start from opened history store disk
+    → (Same : Type 0) (reply : Reply) (ack : Option ℕ) (after : Store) (disk_after : View)
+    → IsLegal (first_tree opened) (history ++ flushed_entry (length history) reply ack ∷ []) → (IsSome ack ↔ IsTrue (is_ok_reply reply)) → HasFlushed Same tree ack store after disk disk_after reply → GoesOn disk disk_after → CountsOn disk_after
+    → (Same → (h : List Entry) (s : Store) → IsSafe start from opened h s disk → IsSafe start from opened h s disk_after)
+    → IsSafe start from opened (history ++ flushed_entry (length history) reply ack ∷ []) after disk_after
+safe_flushed start from opened history tree store disk so_far safe Same given ack after disk_after more acknowledged flushed goes counts keeps = by given more acknowledged flushed
+  where
+    quiet : (r : Reply) → IsLegal (first_tree opened) (history ++ flushed_entry (length history) r ack ∷ []) → ack ≡ None → is_flush (flushed_entry (length history) r ack) ≡ false → Same → after ≡ store → IsSafe start from opened (history ++ flushed_entry (length history) r ack ∷ []) after disk_after
+    quiet r more unacked no_flush same is =
+        subst (λ (s : Store). IsSafe start from opened (history ++ flushed_entry (length history) r ack ∷ []) s disk_after) (sym is)
+        (keeps same (history ++ flushed_entry (length history) r ack ∷ []) store (safe_quiet start from opened history tree store disk so_far safe (flushed_entry (length history) r ack) more no_flush unacked))
+
+    by : (r : Reply) → IsLegal (first_tree opened) (history ++ flushed_entry (length history) r ack ∷ []) → (IsSome ack ↔ IsTrue (is_ok_reply r)) → HasFlushed Same tree ack store after disk disk_after r → IsSafe start from opened (history ++ flushed_entry (length history) r ack ∷ []) after disk_after
+    by reply.Ok more acknowledged flushed =
+        ⊎_elim
+        (λ there.
+        subst (λ (s : Store). IsSafe start from opened (history ++ flushed_entry (length history) reply.Ok ack ∷ []) s disk_after) (sym there.store)
+        (keeps there.still (history ++ flushed_entry (length history) reply.Ok ack ∷ []) store (safe_there start from opened history tree store disk so_far safe (flushed_entry (length history) reply.Ok ack) more refl refl flushed.0 there.there there.dated)))
+        (λ brought. safe_brought start from opened history tree store disk so_far safe (flushed_entry (length history) reply.Ok ack) more after disk_after goes counts flushed.0 refl refl brought.1)
+        flushed.1
+    by reply.DiskFailed more acknowledged flushed =
+        safe_failed start from opened history tree store disk so_far safe (flushed_entry (length history) reply.DiskFailed ack) more after disk_after goes counts flushed.0 refl (no_ack ack false acknowledged refl) refl flushed.1
+    by (reply.Node node kind) more acknowledged flushed = quiet (reply.Node node kind) more (no_ack ack false acknowledged refl) refl flushed.0 flushed.1
+    by (reply.Error code) more acknowledged flushed = quiet (reply.Error code) more (no_ack ack false acknowledged refl) refl flushed.0 flushed.1
+    by (reply.NoSpace kind need free) more acknowledged flushed = quiet (reply.NoSpace kind need free) more (no_ack ack false acknowledged refl) refl flushed.0 flushed.1
+    by (reply.Stopped faults) more acknowledged flushed = quiet (reply.Stopped faults) more (no_ack ack false acknowledged refl) refl flushed.0 flushed.1
+    by reply.NoMemory more acknowledged flushed = quiet reply.NoMemory more (no_ack ack false acknowledged refl) refl flushed.0 flushed.1

@@ -1,0 +1,67 @@
+-- What a crash leaves of a whole run.
+use Rattle.std.proofs.Common.{◌≡◌, ◌⊎◌, inl, ℕ, ◌<◌, ◌≤◌, true, false, List, [], ◌∷◌, length, Option, Some, None, IsSome, refl, sym, ap, subst, ◌∙◌, arith}
+use Rattle.std.proofs.lemmas.List.Elements.{All-nil}
+use Rattle.sfs_base.specs.Ends.{Rose}
+use Rattle.sfs_tree.specs.declared.history.Entry.{Entry}
+use Rattle.sfs_dev.specs.Disk.{View, OnlyTold, images}
+use Rattle.sfs_dev.specs.Run.{CountsOn, EachMoment}
+use Rattle.area_pair.specs.declared.area.Row.{Row}
+use Rattle.area_pair.specs.Put.{IsTold}
+use Rattle.area_pair.specs.Rows.{rows_of, KeepsApart}
+use Rattle.area_pair.specs.Settled.{IsSettled}
+use Rattle.area_pair.specs.Sound.{AreRoots}
+use Rattle.scalefs_run.specs.Crash.{StandsAtCut, IsCovered, Survives}
+use Rattle.scalefs_run.specs.First.{first_tree}
+use Rattle.scalefs_run.specs.Safe.{IsSafe, Begins, SafeStill}
+use Rattle.scalefs_run.specs.Shown.{shown, shown_at}
+use Rattle.scalefs_run.specs.Stands.{Stands}
+use Rattle.scalefs_run.specs.declared.engine.Engine.{Engine}
+use Rattle.scalefs_run.specs.declared.flush.Store.{Store}
+use Rattle.area_pair.proofs.Sound.{image_sound}
+use Rattle.scalefs_run.proofs.Crashes.{at_cut_earlier}
+use Rattle.scalefs_run.proofs.Rooted.{some_same}
+use Rattle.scalefs_run.proofs.Shows.{shown-first}
+
+-- what a disk tells that tells something
+pub told_here : (told : Option (List ℕ)) → IsSome told → (content : List ℕ) × (told ≡ Some content)
+told_here (Some content) some = (content, refl)
+told_here None some = absurd (let never : false ≡ true = some in cc)
+
+-- before the first call the root has the rows that were opened
+at_cut_first : (Failed : Type 0) (opened : List Row) (k : ℕ) (image : List ℕ) → KeepsApart opened → rows_of image ≡ opened → StandsAtCut Failed (first_tree opened) [] k image
+at_cut_first Failed opened k image apart is = record {
+  cut = 0;
+  is_cut = inl refl;
+  within = omega arith;
+  covers = All-nil (IsCovered k 0);
+  shows = ap shown is ∙ shown-first opened apart;
+}
+
+-- a disk whose every image meanwhile has the rows that it began with
+pub survives_none : (old new : View) → (OnlyTold old.told (images old) → CountsOn new → IsTold old.told (λ content. EachMoment old new (λ _ image. rows_of image ≡ rows_of content))) → Survives old new []
+survives_none old new moments only counts content told t image from to left =
+    at_cut_earlier (Rose old.faults new.faults) (first_tree (rows_of content)) [] t left.0 image left.1
+    (at_cut_first (Rose old.faults new.faults) (rows_of content) left.0 image (image_sound content).apart (moments only counts content told left.0 image (omega (arith, left.1)) left.2 left.3))
+
+-- a disk on which nothing was done
+pub survives_untouched : (disk : View) → Survives disk disk []
+survives_untouched disk = survives_none disk disk (λ only counts content told k image from to left.
+    let now : k ≡ disk.now = omega arith in
+    ap rows_of (subst (λ (t : Option (List ℕ)). OnlyTold t (images disk)) told only image (subst (λ n. disk.leaves n image) now left)))
+
+-- a disk with no calls yet
+pub safe_first : (start from : ℕ) (opened : List Row) (store : Store) (before after : View) → AreRoots opened → IsSettled after store.areas opened
+    → ((k : ℕ) (image : List ℕ) → from ≤ k → k ≤ after.now → after.leaves k image → rows_of image ≡ opened) → IsSafe start from opened [] store after
+safe_first start from opened store before after sound settled moments = record {
+  settled = λ none. (opened, settled, shown-first opened sound.apart);
+  moments = λ k image ge le left. at_cut_first (Rose start after.faults) opened k image sound.apart (moments k image ge le left);
+}
+
+-- a disk on which calls were made
+pub survives_run : (first engine : Engine) (old mid new : View) → Begins first old mid → SafeStill first engine mid new → mid.now ≤ new.now → Survives old new engine.entries.items
+survives_run first engine old mid new begins still later only counts content told t image from to left =
+    let tells : IsSome old.told = subst (λ (o : Option (List ℕ)). IsSome o) (sym told) refl in
+    let safe = still old.faults old.now begins.opened begins.stands counts (begins.safe only tells (omega (arith, counts))) in
+    let at = safe.moments left.0 image (omega (arith, left.1)) left.2 left.3 in
+    at_cut_earlier (Rose old.faults new.faults) (first_tree (rows_of content)) engine.entries.items t left.0 image left.1
+    (subst (λ (rows : List Row). StandsAtCut (Rose old.faults new.faults) (first_tree rows) engine.entries.items left.0 image) (begins.told content told) at)
