@@ -1,3 +1,4 @@
+pub mod Alike
 mod BodyWritten
 mod Commits
 mod Doubts

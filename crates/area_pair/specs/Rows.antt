@@ -102,3 +102,7 @@ names_and_kinds rows = map name_and_kind rows
 pub record KeepsNames (rows numbered_rows : List Row) : Type 0 where
   pub names : names_and_kinds numbered_rows ≡ names_and_kinds rows
   pub count : length numbered_rows ≡ length rows
+
+-- two rows with these inodes in place of their nodes are the same
+abbrev pub AreAlike : Row → ℕ → Row → ℕ → Type 0
+AreAlike row inode other other_inode = ◌≡◌ {A = Row} (record row { node = record { 0 = inode } }) (record other { node = record { 0 = other_inode } })

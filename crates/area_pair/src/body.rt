@@ -136,7 +136,7 @@ fn write_count(body: &mut [u8; BODY_BYTES], count: u64)
 }
 
 // The nodes that rows mention, each once, and how many there are.
-fn nodes_of(rows: &[Row]) -> ([u32; SLOTS], usize)
+pub fn nodes_of(rows: &[Row]) -> ([u32; SLOTS], usize)
     requires { length rows.now ≤ 15 }
     ensures within { result.1 ≤ length rows.now }
     ensures nodes { take result.1 result.0 ≡ mentions rows.now }
@@ -163,7 +163,7 @@ fn mention(nodes: &mut [u32; SLOTS], known: usize, node: NodeId) -> usize
 }
 
 // The inode of a node: one more than its place.
-fn inode_among(nodes: &[u32], node: NodeId) -> u32
+pub fn inode_among(nodes: &[u32], node: NodeId) -> u32
     requires { length nodes.now ≤ 15 }
     ensures { result ≡ place_of node.0 nodes.now + 1 }
 {

@@ -12,19 +12,21 @@ use Rattle.sfs_base.specs.Ends.{Rose}
 use Rattle.sfs_base.specs.declared.numbers.Kind.TheVariants.{File}
 use Rattle.sfs_tree.specs.History.{kind_of}
 use Rattle.sfs_tree.specs.Order.{key_cmp}
-use Rattle.scalefs_run.proofs.Rooted.{bytes_same, some_same}
+use Rattle.scalefs_run.proofs.Rooted.{bytes_same, some_same, length-rows_of_root}
+use Rattle.scalefs_run.specs.Shown.{shown}
+use Rattle.scalefs_run.specs.Stands.{root_shown}
 use Rattle.sfs_tree.specs.Tree.{TreeState, name_row}
 use Rattle.sfs_dev.specs.Disk.{View}
 use Rattle.area_pair.specs.declared.area.Row.{Row}
 use Rattle.area_pair.specs.Settled.{ReadsAs}
 use Rattle.area_pair.specs.Sound.{AreRoots}
 use Rattle.scalefs_run.specs.First.{first_tree, row_entry}
-use Rattle.scalefs_run.specs.Flushed.{IsLinked}
+use Rattle.scalefs_run.specs.Flushed.{IsLinked, rows_of_root}
 use Rattle.scalefs_run.specs.Replies.{root_rows}
 use Rattle.scalefs_run.specs.Stands.{Stands}
 use Rattle.scalefs_run.specs.declared.flush.Store.{Store}
 use Rattle.scalefs_run.proofs.Opened.{length-filter_map, named_inode, row_found, file_before}
-use Rattle.scalefs_run.proofs.Shows.{shown-first, first_kinds}
+use Rattle.scalefs_run.proofs.Shows.{shown-first, shown-root, first_kinds}
 
 -- the root has at most as many rows as were opened
 few_rows : (opened : List Row) → AreRoots opened → root_rows (first_tree opened) ≤ 15
@@ -68,9 +70,8 @@ linked_first opened sound = record {
 }
 
 -- no call was made yet, in the first tree
-begun : (opened : List Row) (store : Store) (disk : View) (start from : ℕ) → AreRoots opened → store.on_disk ≡ root_rows (first_tree opened) → store.failed ≡ None → ReadsAs disk store.areas opened → disk.faults ≡ start → from ≤ disk.now → Stands start from opened [] (first_tree opened) store disk
-begun opened store disk start from sound on_disk working reads faults later =
-    let few = few_rows opened sound in
+begun : (opened : List Row) (store : Store) (disk : View) (start from : ℕ) → AreRoots opened → length store.on_disk.items ≤ 15 → shown store.on_disk.items ≡ root_shown (first_tree opened) → store.failed ≡ None → ReadsAs disk store.areas opened → disk.faults ≡ start → from ≤ disk.now → Stands start from opened [] (first_tree opened) store disk
+begun opened store disk start from sound few on_disk working reads faults later =
     record {
       legal = tt;
       tree_is = refl;
@@ -80,10 +81,9 @@ begun opened store disk start from sound on_disk working reads faults later =
       halted = sym (ap is_some working);
       kept = subst (λ (o : Option ℕ). IfSome o (λ f. f ≡ disk.faults)) (sym working) tt;
       risen = subst (λ (o : Option ℕ). IfSome o (λ _. Rose start disk.faults)) (sym working) tt;
-      few = omega arith;
-      fewer = omega arith;
+      few = few;
       before = omega arith;
-      same = λ e. refl;
+      on_disk = on_disk;
       read = λ none. (opened, reads, shown-first opened sound.apart);
       later = omega arith;
       dated = later;
@@ -91,6 +91,9 @@ begun opened store disk start from sound on_disk working reads faults later =
     }
 
 -- no call was made yet
-pub stands_first : (opened : List Row) (tree : TreeState) (store : Store) (disk : View) (start from : ℕ) → AreRoots opened → tree ≡ first_tree opened → store.on_disk ≡ root_rows tree → store.failed ≡ None → ReadsAs disk store.areas opened → disk.faults ≡ start → from ≤ disk.now → Stands start from opened [] tree store disk
+pub stands_first : (opened : List Row) (tree : TreeState) (store : Store) (disk : View) (start from : ℕ) → AreRoots opened → tree ≡ first_tree opened → store.on_disk.items ≡ rows_of_root tree → store.failed ≡ None → ReadsAs disk store.areas opened → disk.faults ≡ start → from ≤ disk.now → Stands start from opened [] tree store disk
 stands_first opened tree store disk start from sound is on_disk working reads faults later =
-    subst (λ (t : TreeState). Stands start from opened [] t store disk) (sym is) (begun opened store disk start from sound (on_disk ∙ ap root_rows is) working reads faults later)
+    let here : store.on_disk.items ≡ rows_of_root (first_tree opened) = on_disk ∙ ap rows_of_root is in
+    subst (λ (t : TreeState). Stands start from opened [] t store disk) (sym is) (begun opened store disk start from sound
+    (let long = length-rows_of_root (first_tree opened) in let few = few_rows opened sound in let are = ap length here in omega arith)
+    (ap shown here ∙ shown-root (first_tree opened)) working reads faults later)

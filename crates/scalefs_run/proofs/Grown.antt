@@ -27,20 +27,10 @@ use Rattle.scalefs_run.proofs.Rooted.{bytes_same, some_same}
 pub record Grows (tree after : TreeState) (reply : Reply) : Type 0 where
   pub cores : 0 < length after.made
   pub linked : IsLinked after
-  pub more : root_rows tree ≤ root_rows after
-  pub same : root_rows after ≡ root_rows tree → root_shown after ≡ root_shown tree
   pub calm : is_failure reply ≡ false
 
 some_none : {A : Type 0} {x : A} → Some x ≡ None → ⊥
 some_none e = cc
-
--- a name that can be made is new
-no_row : (tree : TreeState) (name : List ℕ) → make_fault tree 0 0 name ≡ None → row_of tree 0 name ≡ None
-no_row tree name e =
-    elim (directory_fault tree 0) as (λ d. first_of_two d (cond (is_some (row_of tree 0 name)) (Some Exists) (cond (nat_le 4096 (len (bucket_rows 0 (bucket name) tree.rows))) (Some DirFull) (cond (nat_le tree.share (made_by tree 0)) (Some NoNodes) None))) ≡ None → row_of tree 0 name ≡ None) [
-      | Some code ↦ λ f. absurd (some_none f)
-      | None ↦ λ f. elim (row_of tree 0 name) as (λ o. cond (is_some o) (Some Exists) (cond (nat_le 4096 (len (bucket_rows 0 (bucket name) tree.rows))) (Some DirFull) (cond (nat_le tree.share (made_by tree 0)) (Some NoNodes) None)) ≡ None → o ≡ None) [ Some x ↦ λ g. absurd (some_none g) | None ↦ λ g. refl ] f
-    ] e
 
 -- the tree with the directory
 abbrev pub made_tree : TreeState → List ℕ → TreeState
@@ -95,23 +85,14 @@ linked_made tree name linked cores = record {
   ];
 }
 
-rows_made : (tree : TreeState) (name : List ℕ) → row_of tree 0 name ≡ None → root_rows (made_tree tree name) ≡ root_rows tree + 1
-rows_made tree name none =
-    ap len (names_of-insert 0 0 name (next_number tree 0) tree.rows)
-    ∙ len-insert nat_list_cmp_total (names_of 0 tree.rows) name (next_number tree 0)
-    ∙ ap (λ (o : Option ℕ). cond (is_some o) (len (names_of 0 tree.rows)) (len (names_of 0 tree.rows) + 1)) (get-names_where 0 (λ _. true) tree.rows name ∙ none)
-
 pub grown : (tree : TreeState) (name : List ℕ) → IsLinked tree → 0 < length tree.made → Grows tree (tree_after_call tree 0 (Make (record { 0 = 0 }) name Directory)) (verdict tree 0 (Make (record { 0 = 0 }) name Directory)).reply
 grown tree name linked cores =
     elim (make_fault tree 0 0 name) as (λ o. make_fault tree 0 0 name ≡ o → Grows tree (tree_with tree 0 (or_else o (make_node tree 0 0 name Directory)).effect (or_else o (make_node tree 0 0 name Directory)).makes) (or_else o (make_node tree 0 0 name Directory)).reply) [
-      | Some code ↦ λ e. record { cores = cores; linked = linked; more = omega arith; same = λ _. refl; calm = refl }
+      | Some code ↦ λ e. record { cores = cores; linked = linked; calm = refl }
       | None ↦ λ e.
-          let one_more = rows_made tree name (no_row tree name e) in
           record {
             cores = length-set_first tree.made (slice_index tree.made 0 + 1) cores;
             linked = linked_made tree name linked cores;
-            more = omega arith;
-            same = λ f. absurd (omega arith);
             calm = refl;
           }
     ] refl

@@ -24,7 +24,7 @@ use Rattle.scalefs_run.specs.Stands.{Stands, root_shown}
 use Rattle.scalefs_run.specs.declared.flush.Store.{Store}
 use Rattle.scalefs_run.proofs.Crashes.{at_cut_grown, at_cut_new, at_cut_last}
 use Rattle.scalefs_run.proofs.Pushed.{last_flush-push, shown_at-push, shown_at-end}
-use Rattle.scalefs_run.proofs.Shows.{shown-numbered}
+use Rattle.scalefs_run.proofs.Shows.{shown-numbered, shown_there}
 use Rattle.scalefs_run.proofs.Standing.{made_entry, flushed_entry, no_ack}
 
 never_both : {n : ℕ} → Some n ≡ None → ⊥
@@ -60,10 +60,10 @@ module _ (start from : ℕ) (opened : List Row) (history : List Entry) (tree : T
 
   module _ (flush : is_flush entry ≡ true) (stamped : entry.stamp.0 ≡ length history) where
     -- the disk is as it was, and has the root's rows
-    pub safe_there : store.failed ≡ None → root_rows tree ≡ store.on_disk → entry.ack ≡ Some disk.now → IsSafe start from opened all store disk
+    pub safe_there : store.failed ≡ None → shown store.on_disk.items ≡ root_shown tree → entry.ack ≡ Some disk.now → IsSafe start from opened all store disk
     safe_there working there acked =
         let found = safe.settled working in
-        let shows : shown found.0 ≡ root_shown tree = found.2 ∙ so_far.same (sym there) in
+        let shows : shown found.0 ≡ root_shown tree = found.2 ∙ sym so_far.on_disk ∙ there in
         record {
           settled = λ none. (found.0, found.1, shows ∙ shows_here flush stamped);
           moments = λ k image ge le left.
@@ -156,7 +156,7 @@ safe_flushed start from opened history tree store disk so_far safe Same given ac
         ⊎_elim
         (λ there.
         subst (λ (s : Store). IsSafe start from opened (history ++ flushed_entry (length history) reply.Ok ack ∷ []) s disk_after) (sym there.store)
-        (keeps there.still (history ++ flushed_entry (length history) reply.Ok ack ∷ []) store (safe_there start from opened history tree store disk so_far safe (flushed_entry (length history) reply.Ok ack) more refl refl flushed.0 there.there there.dated)))
+        (keeps there.still (history ++ flushed_entry (length history) reply.Ok ack ∷ []) store (safe_there start from opened history tree store disk so_far safe (flushed_entry (length history) reply.Ok ack) more refl refl flushed.0 (shown_there tree store.on_disk.items there.there) there.dated)))
         (λ brought. safe_brought start from opened history tree store disk so_far safe (flushed_entry (length history) reply.Ok ack) more after disk_after goes counts flushed.0 refl refl brought.1)
         flushed.1
     by reply.DiskFailed more acknowledged flushed =

@@ -42,6 +42,18 @@ kinds_given tree (e ∷ es) = ap (λ l. (e.0, kind_of tree e.1) ∷ l) (kinds_gi
 pub shown-numbered : (tree : TreeState) → shown (numbered (rows_of_root tree)) ≡ root_shown tree
 shown-numbered tree = ap (λ l. from_entries {R = name_cmp} l) (numbers_apart (mentions (rows_of_root tree)) (rows_of_root tree) ∙ kinds_given tree (entries (names_of 0 tree.rows)))
 
+-- numbering rows changes nothing of what they show
+pub numbered_shown : (rows : List Row) → shown (numbered rows) ≡ shown rows
+numbered_shown rows = ap (λ l. from_entries {R = name_cmp} l) (numbers_apart (mentions rows) rows)
+
+-- the root's rows show what the root shows
+pub shown-root : (tree : TreeState) → shown (rows_of_root tree) ≡ root_shown tree
+shown-root tree = sym (numbered_shown (rows_of_root tree)) ∙ shown-numbered tree
+
+-- rows that are the root's, once both are numbered, show what the root shows
+pub shown_there : (tree : TreeState) (rows : List Row) → numbered (rows_of_root tree) ≡ numbered rows → shown rows ≡ root_shown tree
+shown_there tree rows there = sym (numbered_shown rows) ∙ ap shown (sym there) ∙ shown-numbered tree
+
 -- the node of a row is found with the row's kind
 kind_first : (rows : List Row) (k : ℕ) (row : Row) → KeepsApart rows → slice_get rows k ≡ Some row → find nat_cmp row.node.0 (map node_entry rows ++ root_entry ∷ []) ≡ Some (record { kind = row.kind; bytes = [] })
 kind_first [] k row apart at = absurd (none_some at)

@@ -1,5 +1,5 @@
 -- A run goes on by one call.
-use Rattle.std.proofs.Common.{◌≡◌, ◌↔◌, ℕ, ◌+◌, ◌-◌, ◌^◌, ◌<◌, ◌≤◌, min, Bool, true, false, cond, ◌||◌, List, [], ◌∷◌, ◌++◌, length, Option, Some, None, inl, inr, is_some, IsSome, IsTrue, IfSome, unwrap_or, refl, sym, ap, subst, ◌∙◌, arith}
+use Rattle.std.proofs.Common.{Vec, Global, ◌≡◌, ◌↔◌, ℕ, ◌+◌, ◌-◌, ◌^◌, ◌<◌, ◌≤◌, min, Bool, true, false, cond, ◌||◌, List, [], ◌∷◌, ◌++◌, length, Option, Some, None, inl, inr, is_some, IsSome, IsTrue, IfSome, unwrap_or, refl, sym, ap, subst, ◌∙◌, arith}
 use Rattle.std.proofs.lemmas.List.{length-append}
 use Rattle.sfs_base.specs.Ends.{Rose}
 use Rattle.sfs_base.specs.declared.numbers.Kind.TheVariants.{Directory}
@@ -28,7 +28,7 @@ use Rattle.scalefs_run.proofs.Dated.{AreDated-push, FlushedLast-still, FlushedLa
 use Rattle.scalefs_run.proofs.Grown.{grown}
 use Rattle.scalefs_run.proofs.Pushed.{or_false, AreAnswered-push, has_failed-push, last_flush-push, shown_at-push, shown_at-end}
 use Rattle.scalefs_run.proofs.Rooted.{length-rows_of_root}
-use Rattle.scalefs_run.proofs.Shows.{shown-numbered}
+use Rattle.scalefs_run.proofs.Shows.{shown-numbered, shown-root, shown_there}
 
 -- the entry of a directory that is made
 abbrev pub made_entry : ℕ → TreeState → List ℕ → Entry
@@ -80,8 +80,6 @@ module _ (start from : ℕ) (opened : List Row) (history : List Entry) (tree : T
       let shows : shown_at first (history ++ entry ∷ []) (last_flush (history ++ entry ∷ [])) ≡ shown_at first history (last_flush history) = ap (shown_at first (history ++ entry ∷ [])) last ∙ shown_still in
       let long = longer history entry in
       let before = so_far.before in
-      let fewer = so_far.fewer in
-      let more = grows.more in
       record {
         legal = legal;
         tree_is = ap (λ (t : TreeState). tree_after_call t 0 (Make (record { 0 = 0 }) name Directory)) so_far.tree_is ∙ sym (tree_after-push first history entry);
@@ -92,11 +90,8 @@ module _ (start from : ℕ) (opened : List Row) (history : List Entry) (tree : T
         kept = so_far.kept;
         risen = so_far.risen;
         few = so_far.few;
-        fewer = omega arith;
         before = subst (λ n. n ≤ length (history ++ entry ∷ [])) (sym last) (omega arith);
-        same = λ e.
-            let back : root_rows (tree_after_call tree 0 (Make (record { 0 = 0 }) name Directory)) ≡ root_rows tree = omega arith in
-            shows ∙ so_far.same (omega arith) ∙ sym (grows.same back);
+        on_disk = so_far.on_disk ∙ sym shows;
         read = λ none. let found = so_far.read none in (found.0, found.1, found.2 ∙ sym shows);
         later = so_far.later;
         dated = AreDated-push from disk.now disk.now history entry so_far.dated tt (omega arith);
@@ -162,9 +157,8 @@ module _ (start from : ℕ) (opened : List Row) (history : List Entry) (tree : T
         kept = kept_on store.failed so_far.kept;
         risen = risen_on store.failed so_far.risen;
         few = so_far.few;
-        fewer = so_far.fewer;
         before = subst (λ n. n ≤ length (flushed_history reply ack)) (sym last) (omega arith);
-        same = λ e. shows ∙ so_far.same e;
+        on_disk = so_far.on_disk ∙ sym shows;
         read = λ none. let found = so_far.read none in (found.0, reads store.areas found.0 found.1, found.2 ∙ sym shows);
         later = let first_later = so_far.later in let then_later = goes.never_falls in omega arith;
         dated = AreDated-push from disk.now disk_after.now history entry so_far.dated (subst (λ (o : Option ℕ). IfSome o (λ a. (disk.now ≤ a) × (a ≤ disk_after.now))) (sym none_there) tt) goes.later;
@@ -180,8 +174,8 @@ module _ (start from : ℕ) (opened : List Row) (history : List Entry) (tree : T
       risen_on (Some f) h = subst (Rose start) (sym faults) h
 
   -- an fsync after which the disk shows what the root shows
-  stands_brought : (ack : Option ℕ) (after : Store) (disk_after : View) → IsAnswered (is_some store.failed) (unwrap_or store.failed 0) (root_rows tree) reply.Ok → (IsSome ack ↔ IsTrue true) → after.failed ≡ None → after.on_disk ≡ root_rows tree → ((rows : List Row) × ReadsAs disk_after after.areas rows × (shown rows ≡ root_shown tree)) → GoesOn disk disk_after → IfSome ack (λ a. (disk.now ≤ a) × (a ≤ disk_after.now)) → Stands start from opened (flushed_history reply.Ok ack) tree after disk_after
-  stands_brought ack after disk_after answered acknowledged working on_disk found goes between =
+  stands_brought : (ack : Option ℕ) (after : Store) (disk_after : View) → IsAnswered (is_some store.failed) (unwrap_or store.failed 0) (root_rows tree) reply.Ok → (IsSome ack ↔ IsTrue true) → after.failed ≡ None → length after.on_disk.items ≤ 15 → shown after.on_disk.items ≡ root_shown tree → ((rows : List Row) × ReadsAs disk_after after.areas rows × (shown rows ≡ root_shown tree)) → GoesOn disk disk_after → IfSome ack (λ a. (disk.now ≤ a) × (a ≤ disk_after.now)) → Stands start from opened (flushed_history reply.Ok ack) tree after disk_after
+  stands_brought ack after disk_after answered acknowledged working few on_disk found goes between =
       let entry = flushed_entry (length history) reply.Ok ack in
       let all = flushed_history reply.Ok ack in
       let legal = legal_flushed reply.Ok ack answered acknowledged in
@@ -189,7 +183,6 @@ module _ (start from : ℕ) (opened : List Row) (history : List Entry) (tree : T
       let shows : shown_at first all (last_flush all) ≡ root_shown tree = ap (shown_at first all) last ∙ shown_at-end first history entry legal ∙ ap root_shown (sym so_far.tree_is) in
       let long = longer history entry in
       let was_working : is_some store.failed ≡ false = answered.0 in
-      let rows_few = answered.1 in
       record {
         legal = legal;
         tree_is = tree_flushed reply.Ok ack;
@@ -199,10 +192,9 @@ module _ (start from : ℕ) (opened : List Row) (history : List Entry) (tree : T
         halted = has_failed-push history entry ∙ or_false (has_failed history) ∙ so_far.halted ∙ was_working ∙ sym (ap is_some working);
         kept = subst (λ (o : Option ℕ). IfSome o (λ f. f ≡ disk_after.faults)) (sym working) tt;
         risen = subst (λ (o : Option ℕ). IfSome o (λ _. Rose start disk_after.faults)) (sym working) tt;
-        few = omega arith;
-        fewer = omega arith;
+        few = few;
         before = subst (λ n. n ≤ length all) (sym last) (omega arith);
-        same = λ e. shows;
+        on_disk = on_disk ∙ sym shows;
         read = λ none. (found.0, found.1, found.2 ∙ sym shows);
         later = let first_later = so_far.later in let then_later = goes.never_falls in omega arith;
         dated = AreDated-push from disk.now disk_after.now history entry so_far.dated between goes.later;
@@ -224,9 +216,6 @@ module _ (start from : ℕ) (opened : List Row) (history : List Entry) (tree : T
       let shows : shown_at first all (last_flush all) ≡ shown_at first history (last_flush history) = ap (shown_at first all) last ∙ shown_at-push first history entry (last_flush history) so_far.legal legal so_far.before in
       let long = longer history entry in
       let before = so_far.before in
-      let few = so_far.few in
-      let fewer = so_far.fewer in
-      let on_disk = fails.on_disk in
       let none : (kept : ℕ) → IfSome store.failed (λ faults. faults ≡ kept) = (λ kept. subst (λ (o : Option ℕ). IfSome o (λ faults. faults ≡ kept)) (sym was_working) tt) in
       let later = so_far.later in
       let risen = fails.risen in
@@ -239,10 +228,9 @@ module _ (start from : ℕ) (opened : List Row) (history : List Entry) (tree : T
         halted = has_failed-push history entry ∙ or_true (has_failed history) ∙ sym (ap is_some fails.kept);
         kept = subst (λ (o : Option ℕ). IfSome o (λ f. f ≡ disk_after.faults)) (sym fails.kept) refl;
         risen = subst (λ (o : Option ℕ). IfSome o (λ _. Rose start disk_after.faults)) (sym fails.kept) (Rose-earlier start disk.faults disk_after.faults later risen);
-        few = omega arith;
-        fewer = omega arith;
+        few = subst (λ (v : Vec Row Global). length v.items ≤ 15) (sym fails.on_disk) so_far.few;
         before = subst (λ n. n ≤ length all) (sym last) (omega arith);
-        same = λ e. shows ∙ so_far.same (sym on_disk ∙ e);
+        on_disk = ap (λ (v : Vec Row Global). shown v.items) fails.on_disk ∙ so_far.on_disk ∙ sym shows;
         read = λ nothing. absurd (never_both (sym fails.kept ∙ nothing));
         later = let first_later = so_far.later in let then_later = goes.never_falls in omega arith;
         dated = AreDated-push from disk.now disk_after.now history entry so_far.dated (subst (λ (o : Option ℕ). IfSome o (λ a. (disk.now ≤ a) × (a ≤ disk_after.now))) (sym none_there) tt) goes.later;
@@ -261,13 +249,17 @@ module _ (start from : ℕ) (opened : List Row) (history : List Entry) (tree : T
       elim flushed.1 as (λ _. Stands start from opened (flushed_history reply.Ok ack) tree after disk_after) [
         | inl there ↦
             let found = so_far.read flushed.0 in
-            stands_brought ack after disk_after answered acknowledged (ap (λ (s : Store). s.failed) there.store ∙ flushed.0) (ap (λ (s : Store). s.on_disk) there.store ∙ sym there.there)
-            (found.0, subst (λ (s : Store). ReadsAs disk_after s.areas found.0) (sym there.store) (reads there.still store.areas found.0 found.1), found.2 ∙ so_far.same (sym there.there)) goes
+            stands_brought ack after disk_after answered acknowledged (ap (λ (s : Store). s.failed) there.store ∙ flushed.0)
+            (subst (λ (s : Store). length s.on_disk.items ≤ 15) (sym there.store) so_far.few)
+            (ap (λ (s : Store). shown s.on_disk.items) there.store ∙ shown_there tree store.on_disk.items there.there)
+            (found.0, subst (λ (s : Store). ReadsAs disk_after s.areas found.0) (sym there.store) (reads there.still store.areas found.0 found.1), found.2 ∙ sym so_far.on_disk ∙ shown_there tree store.on_disk.items there.there) goes
             (subst (λ (o : Option ℕ). IfSome o (λ a. (disk.now ≤ a) × (a ≤ disk_after.now))) (sym there.dated) (omega arith, goes.later))
         | inr brought ↦
             let commits = brought.1 in
             let found = so_far.read flushed.0 in
-            stands_brought ack after disk_after answered acknowledged commits.working (commits.on_disk ∙ length-rows_of_root tree)
+            stands_brought ack after disk_after answered acknowledged commits.working
+            (let long = length-rows_of_root tree in let rows_few = answered.1 in let are = ap length commits.on_disk in omega arith)
+            (ap shown commits.on_disk ∙ shown-root tree)
             (numbered (rows_of_root tree), commits.read found.0 found.1, shown-numbered tree) goes
             (subst (λ (o : Option ℕ). IfSome o (λ a. (disk.now ≤ a) × (a ≤ disk_after.now))) (sym commits.dated) commits.meanwhile)
       ]

@@ -35,7 +35,7 @@ after_four disk = min (disk.now + 4) (2 ^ 64 - 1)
 -- The rows were brought to the disk: what a read gives and every image have them now, in the course of it an image had the old rows or
 -- these, and from the acknowledgement on these.
 pub record Commits (rows : List Row) (ack : Option ℕ) (old new : Store) (before after : View) : Type 0 where
-  pub on_disk : new.on_disk ≡ length rows
+  pub on_disk : new.on_disk.items ≡ rows
   pub working : new.failed ≡ None
   pub dated : ack ≡ Some (after_four before)
   pub meanwhile : (before.now ≤ after_four before) × (after_four before ≤ after.now)
@@ -57,16 +57,22 @@ HasCommitted rows ack old new before after reply.DiskFailed = Fails rows old new
 HasCommitted rows ack old new before after _ = ⊥
 
 -- The rows were on the disk already, and it is acknowledged at once.
-pub record IsThere (Same : Type 0) (tree : TreeState) (ack : Option ℕ) (old new : Store) (before : View) : Type 0 where
+pub record IsThere (Same : Type 0) (rows : List Row) (ack : Option ℕ) (old new : Store) (before : View) : Type 0 where
   pub still : Same
   pub store : new ≡ old
-  pub there : root_rows tree ≡ old.on_disk
+  pub there : numbered rows ≡ numbered old.on_disk.items
   pub dated : ack ≡ Some before.now
 
--- What an fsync did, by its reply: where it is Ok, the rows were on the disk already, or they were not and are brought to it;
--- after any reply but that and DiskFailed, all is as it was. `Same` says that the disk is as it was, without one device call.
+-- What bringing rows to the disk did, by its reply: where it is Ok, they were there already, or they were not and are brought to it.
+-- `Same` says that the disk is as it was, without one device call.
+abbrev pub HasBrought : Type 0 → List Row → Option ℕ → Store → Store → View → View → Reply → Type 0
+HasBrought Same rows ack old new before after reply.Ok =
+    IsThere Same rows ack old new before ⊎ ((numbered rows ≢ numbered old.on_disk.items) × Commits rows ack old new before after)
+HasBrought Same rows ack old new before after reply.DiskFailed = Fails rows old new before after
+HasBrought Same rows ack old new before after _ = ⊥
+
+-- What an fsync did, by its reply: the root's rows were brought to the disk, or the disk failed; after any other reply all is as it was.
 abbrev pub HasFlushed : Type 0 → TreeState → Option ℕ → Store → Store → View → View → Reply → Type 0
-HasFlushed Same tree ack old new before after reply.Ok =
-    (old.failed ≡ None) × (IsThere Same tree ack old new before ⊎ ((root_rows tree ≢ old.on_disk) × Commits (rows_of_root tree) ack old new before after))
-HasFlushed Same tree ack old new before after reply.DiskFailed = (old.failed ≡ None) × Fails (rows_of_root tree) old new before after
+HasFlushed Same tree ack old new before after reply.Ok = (old.failed ≡ None) × HasBrought Same (rows_of_root tree) ack old new before after reply.Ok
+HasFlushed Same tree ack old new before after reply.DiskFailed = (old.failed ≡ None) × HasBrought Same (rows_of_root tree) ack old new before after reply.DiskFailed
 HasFlushed Same tree ack old new before after _ = Same × (new ≡ old)

@@ -43,10 +43,9 @@ pub record Stands (start from : ℕ) (opened : List Row) (history : List Entry) 
   pub halted : has_failed history ≡ is_some store.failed
   pub kept : IfSome store.failed (λ faults. faults ≡ disk.faults)
   pub risen : IfSome store.failed (λ _. Rose start disk.faults)
-  pub few : store.on_disk ≤ 15
-  pub fewer : store.on_disk ≤ root_rows tree
+  pub few : length store.on_disk.items ≤ 15
   pub before : last_flush history ≤ length history
-  pub same : store.on_disk ≡ root_rows tree → shown_at (first_tree opened) history (last_flush history) ≡ root_shown tree
+  pub on_disk : shown store.on_disk.items ≡ shown_at (first_tree opened) history (last_flush history)
   pub read : store.failed ≡ None → ReadsFlushed opened history store disk
   pub later : start ≤ disk.faults
   pub dated : AreDated from history disk.now

@@ -11,7 +11,7 @@ ghost use Rattle.scalefs_run.specs.Stands.{StandsSomehow, StandsStill};
 ghost use Rattle.scalefs_run.specs.Safe.{Begins, SafeStill};
 
 use crate::first::{ROOT, tree_of_rows};
-use crate::flush::{Flushed, Store, flush};
+use crate::flush::{Flushed, Store, flush, rows_of_root};
 use area_pair::{Areas, OpenFault};
 use script::Command;
 use sfs_base::{CoreId, Kind, NoMemory, Stamp};
@@ -45,7 +45,7 @@ pub fn mount<D: Disk>(alloc: Global, disk: &mut D) -> Result<Engine, OpenFault>
 {
     let (areas, rows) = Areas::open(alloc, disk)?;
     let tree = tree_of_rows(alloc, rows)?;
-    let on_disk = tree.row_count(ROOT);
+    let on_disk = rows_of_root(alloc, &tree)?;
     Ok(Engine {
         alloc,
         store: Store {

@@ -5,11 +5,11 @@ ghost use Rattle.sfs_tree.specs.NameRow.{entry_of};
 ghost use Rattle.sfs_tree.specs.History.{is_ok_reply, kind_of};
 ghost use Rattle.area_pair.specs.Rows.{KeepsApart};
 ghost use Rattle.scalefs_run.specs.Replies.{IsAnswered, root_rows};
-ghost use Rattle.scalefs_run.specs.Flushed.{HasFlushed, HasCommitted, IsLinked, row_with_kind, rows_of_root};
+ghost use Rattle.scalefs_run.specs.Flushed.{HasFlushed, HasBrought, HasCommitted, IsLinked, row_with_kind, rows_of_root};
 ghost use Rattle.sfs_tree.specs.declared.reply.Reply.TheVariants.{Ok as Fine};
 
 use crate::first::ROOT;
-use area_pair::{Areas, Row};
+use area_pair::{Areas, Row, same_when_numbered};
 use sfs_base::{Kind, NoMemory, NodeId, SpaceKind};
 use sfs_dev::Disk;
 use sfs_tree::{NameRow, Reply, Tree};
@@ -24,19 +24,19 @@ pub struct Flushed {
     pub ack: Option<u64>,
 }
 
-/// The disk under a run: its areas, how many of the root's rows are on it, and the count of its
-/// faults when a commit failed.
+/// The disk under a run: its areas, the rows of the root as the last flush brought them to it, and
+/// the count of its faults when a commit failed.
 #[derive(Drop)]
 pub struct Store {
     pub areas: Areas,
-    pub on_disk: u32,
+    pub on_disk: Vec<Row>,
     pub failed: Option<u64>,
 }
 
 /// Brings the root's rows to the disk. Once a commit has failed nothing more is written.
 pub fn flush<D: Disk>(alloc: Global, store: &mut Store, disk: &mut D, tree: &Tree) -> Flushed
     requires large { 4 ≤ (D.view disk.old).size }
-    requires few { store.old.on_disk ≤ 15 }
+    requires few { length store.old.on_disk.items ≤ 15 }
     requires linked { IsLinked tree.now }
     ensures reply { IsAnswered (is_some store.old.failed) (unwrap_or store.old.failed 0) (root_rows tree.now) result.reply }
     ensures acknowledged { IsSome result.ack ↔ IsTrue (is_ok_reply result.reply) }
@@ -47,9 +47,6 @@ pub fn flush<D: Disk>(alloc: Global, store: &mut Store, disk: &mut D, tree: &Tre
         return answer(Reply::Stopped { faults });
     }
     let count = tree.row_count(ROOT);
-    if count == store.on_disk {
-        return acknowledge(disk.now());
-    }
     if count > AREA_ROWS {
         return answer(Reply::NoSpace {
             kind: SpaceKind::Blocks,
@@ -59,23 +56,40 @@ pub fn flush<D: Disk>(alloc: Global, store: &mut Store, disk: &mut D, tree: &Tre
     }
     match rows_of_root(alloc, tree) {
         Err(_) => answer(Reply::NoMemory),
-        Ok(rows) => commit(store, disk, &rows),
+        Ok(rows) => bring(store, disk, rows),
     }
 }
 
-// Commits the rows of the root.
-fn commit<D: Disk>(store: &mut Store, disk: &mut D, rows: &[Row]) -> Flushed
+// Brings the rows of the root to the disk, unless they are there already.
+fn bring<D: Disk>(store: &mut Store, disk: &mut D, rows: Vec<Row>) -> Flushed
     requires large { 4 ≤ (D.view disk.old).size }
-    requires few { length rows.now ≤ 15 }
-    requires apart { KeepsApart rows.now }
+    requires few { length rows.items ≤ 15 }
+    requires few_on_disk { length store.old.on_disk.items ≤ 15 }
+    requires apart { KeepsApart rows.items }
     requires working { store.old.failed ≡ None }
     ensures acknowledged { IsSome result.ack ↔ IsTrue (is_ok_reply result.reply) }
-    ensures committed { HasCommitted rows.now result.ack store.old store.new (D.view disk.old) (D.view disk.new) result.reply }
+    ensures brought { HasBrought (disk.new ≡ disk.old) rows.items result.ack store.old store.new (D.view disk.old) (D.view disk.new) result.reply }
     ensures goes { GoesOn (D.view disk.old) (D.view disk.new) }
 {
-    match store.areas.commit(disk, rows) {
+    if same_when_numbered(&rows, &store.on_disk) {
+        return acknowledge(disk.now());
+    }
+    commit(store, disk, rows)
+}
+
+// Commits the rows of the root.
+fn commit<D: Disk>(store: &mut Store, disk: &mut D, rows: Vec<Row>) -> Flushed
+    requires large { 4 ≤ (D.view disk.old).size }
+    requires few { length rows.items ≤ 15 }
+    requires apart { KeepsApart rows.items }
+    requires working { store.old.failed ≡ None }
+    ensures acknowledged { IsSome result.ack ↔ IsTrue (is_ok_reply result.reply) }
+    ensures committed { HasCommitted rows.items result.ack store.old store.new (D.view disk.old) (D.view disk.new) result.reply }
+    ensures goes { GoesOn (D.view disk.old) (D.view disk.new) }
+{
+    match store.areas.commit(disk, &rows) {
         Ok(moment) => {
-            store.on_disk = rows.len() as u32;
+            store.on_disk = rows;
             acknowledge(moment)
         }
         Err(doubt) => {
@@ -102,8 +116,8 @@ fn acknowledge(moment: u64) -> Flushed
     }
 }
 
-// The rows of the root, ascending by their names.
-fn rows_of_root(alloc: Global, tree: &Tree) -> Result<Vec<Row>, NoMemory>
+/// The rows of the root, ascending by their names.
+pub fn rows_of_root(alloc: Global, tree: &Tree) -> Result<Vec<Row>, NoMemory>
     ensures { IfOk result (λ rows. rows.items ≡ rows_of_root tree.now) }
 {
     let names = tree.names(ROOT)?;

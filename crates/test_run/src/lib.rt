@@ -4,6 +4,8 @@
 #[cfg(test)]
 mod bench;
 #[cfg(test)]
+mod crashes;
+#[cfg(test)]
 mod ends;
 #[cfg(test)]
 mod histories;

@@ -17,9 +17,9 @@ returns-clause-begins g c =
     let after = view c.open.new.disk in
     let rows = c.in_ok-areas.rows.items in
     let tree = c.in_ok-tree.tree in
-    let store : Store = record { areas = c.in_ok-areas.areas; on_disk = c.row_count-on_disk.result; failed = None } in
+    let store : Store = record { areas = c.in_ok-areas.areas; on_disk = c.in_ok-on_disk.on_disk; failed = None } in
     let opened = c.in_ok-areas.ensures in
-    let stands : Stands before.faults before.now rows [] tree store after = stands_first rows tree store after before.faults before.now opened.sound c.in_ok-tree.ensures c.row_count-on_disk.ensures refl opened.read opened.calm c.open.ensures.goes.later in
+    let stands : Stands before.faults before.now rows [] tree store after = stands_first rows tree store after before.faults before.now opened.sound c.in_ok-tree.ensures c.in_ok-on_disk.ensures refl opened.read opened.calm c.open.ensures.goes.later in
     record {
       opened = rows;
       told = opened.rows;
