@@ -25,9 +25,9 @@ fn a_crash_leaves_a_tree_with_all_that_was_acknowledged(rt: HostRuntime) -> Resu
         ran.text.as_slice(),
         b"0 0 mkdir 0 a = node 64 dir\n1 0 fsync 0 = ok\n2 0 mkdir 0 b = node 65 dir\n3 0 fsync 0 = ok\n".as_slice()
     );
-    let mut none = 0;
-    let mut one = 0;
-    let mut both = 0;
+    let mut met_none = false;
+    let mut met_one = false;
+    let mut met_both = false;
     for moment in 0..=ran.disk.now() {
         let acknowledged = acknowledged_by(&ran.history, moment);
         for pending in [Pending::NotDone, Pending::Done, Pending::HalfDone] {
@@ -35,20 +35,20 @@ fn a_crash_leaves_a_tree_with_all_that_was_acknowledged(rt: HostRuntime) -> Resu
             let names = names_in(&rt, rt.alloc(), image)?;
             if names.is_empty() {
                 assert!(rt; acknowledged == 0);
-                none += 1;
+                met_none = true;
             } else if names.as_slice() == b"a".as_slice() {
                 assert!(rt; acknowledged <= 1);
-                one += 1;
+                met_one = true;
             } else {
                 assert_eq!(rt; names.as_slice(), b"ab".as_slice());
-                both += 1;
+                met_both = true;
             }
         }
     }
     // Each of the three trees was met.
-    assert!(rt; none > 0);
-    assert!(rt; one > 0);
-    assert!(rt; both > 0);
+    assert!(rt; met_none);
+    assert!(rt; met_one);
+    assert!(rt; met_both);
     Ok(())
 }
 
