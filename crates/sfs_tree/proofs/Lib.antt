@@ -21,6 +21,7 @@ pub mod Readings
 pub mod RowFacts
 pub mod RowsByName
 pub mod Search
+pub mod SoundOnce
 pub mod SoundTrees
 pub mod Stored
 pub mod Walks
