@@ -29,6 +29,7 @@ pub mod RowFacts
 pub mod RowsByName
 pub mod RowsRemoved
 pub mod Search
+pub mod SoundOnce
 pub mod SoundTree
 pub mod SoundTrees
 pub mod StoreKept

@@ -1,5 +1,5 @@
 -- The walk up from a directory meets the directories above it.
-use Rattle.std.proofs.Common.{◌≡◌, ◌≢◌, ℕ, zero, suc, ◌<◌, ◌≤◌, Bool, true, false, cond, ◌||◌, List, [], ◌∷◌, length, Option, Some, None, option_map, inl, inr, refl, sym, ap, subst, ◌∙◌, arith, nat_eq}
+use Rattle.std.proofs.Common.{◌≡◌, ◌≢◌, ℕ, zero, suc, ◌<◌, ◌≤◌, Bool, true, false, cond, ◌||◌, List, [], ◌∷◌, length, Option, Some, None, option_map, inl, inr, refl, sym, ap, ap₂, subst, ◌∙◌, arith, nat_eq}
 use borrow.Author.Tests.{eqb-true, eqb-false}
 use Rattle.std.specs.List as lists
 use Rattle.std.specs.FinMap.{entries, len, len-entries}
@@ -28,6 +28,18 @@ same_length f x (h ∷ l) (g ∷ k) a b =
 
     one_more : {a b : ℕ} → a ≡ b → suc a ≡ suc b
     one_more e = omega arith
+
+-- the steps from a number on are one list
+same_chain : (f : ℕ → Option ℕ) (x : ℕ) (l k : List ℕ) → Chain f x l → Chain f x k → l ≡ k
+same_chain f x [] [] a b = refl
+same_chain f x [] (h ∷ k) a b = cc
+same_chain f x (h ∷ l) [] a b = cc
+same_chain f x (h ∷ l) (g ∷ k) a b =
+    let same : g ≡ h = some_is g h (sym b.0 ∙ a.0) in
+    ap₂ (λ (y : ℕ) (ys : List ℕ). y ∷ ys) (sym same) (same_chain f h l k a.1 (subst (λ y. Chain f y k) same b.1))
+  where
+    some_is : (a b : ℕ) → Some a ≡ Some b → a ≡ b
+    some_is a b e = cc
 
 -- no step comes back
 no_loop : (f : ℕ → Option ℕ) (x n : ℕ) → ((k : List ℕ) → Chain f x k → length k ≡ n) → (y : ℕ) (l : List ℕ) → Chain f y l → length l < n → Lacks (y ∷ l) x
@@ -117,6 +129,10 @@ module _ (tree : TreeState) (s : IsSound tree) where
   above_chain : {node : ℕ} {above : List ℕ} → Above tree node above → is_directory tree node ≡ true → Chain (holder_of tree) node above
   above_chain at_root kind = elim (holder_found tree 0) [ inl f ↦ absurd (s.unnamed f.0 f.2.0 f.2.1) | inr none ↦ none.0 ]
   above_chain (below node holder name above row rest) kind = (holder_is node holder name row kind, above_chain rest (s.holds holder name node row).0)
+
+  -- the directories above one are one list
+  pub above_same : {node : ℕ} {above other : List ℕ} → Above tree node above → Above tree node other → is_directory tree node ≡ true → above ≡ other
+  above_same {node} {above} {other} way also kind = same_chain (holder_of tree) node above other (above_chain way kind) (above_chain also kind)
 
   -- a walk of as many steps as there are rows meets those above
   pub walk_is : {node : ℕ} {above : List ℕ} → Above tree node above → is_directory tree node ≡ true → walk_up (len tree.rows) tree node ≡ above

@@ -86,7 +86,7 @@ pub record LeavesNode (tree : TreeState) (core : ℕ) (effect : Effect) (makes :
   pub bytes : bytes_of (tree_with tree core effect makes) node ≡ bytes_after effect node (bytes_of tree node)
   pub kind : kind_of (tree_with tree core effect makes) node ≡ kind_after tree core makes node
 
--- What an effect that fits leaves of a node is made of what is said of that node alone.
+-- What an effect that fits leaves of a node is made of what was said of it and of the nodes that the effect's rows name.
 abbrev pub NodesAfter : Type 0
 NodesAfter = (tree : TreeState) (core : ℕ) (effect : Effect) (makes : Option Kind) (node : ℕ) → Fits tree core effect makes → LeavesNode tree core effect makes node
 
