@@ -9,3 +9,4 @@ pub mod FollowLemmas
 pub mod EndLemmas
 pub mod LimitLemmas
 pub mod HistoryLemmas
+pub mod NameLaws
