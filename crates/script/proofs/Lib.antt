@@ -4,6 +4,7 @@ pub mod FollowLemmas
 pub mod HistoryLemmas
 pub mod LimitLemmas
 pub mod LineLemmas
+pub mod NameLaws
 pub mod NumberLemmas
 pub mod PathLemmas
 pub mod PhaseLemmas

@@ -25,7 +25,7 @@ line_open b (c ∷ cs) none =
     ∙ ap (first_longer b) (line_open c cs (λ k below. none (suc k) (omega arith)))
 
 -- nothing passes where no first one is found
-none_passes : (p : ℕ → Bool) (xs : List ℕ) → position p xs ≡ None → (k : ℕ) → k < length xs → p (get_or xs k 0) ≡ false
+pub none_passes : (p : ℕ → Bool) (xs : List ℕ) → position p xs ≡ None → (k : ℕ) → k < length xs → p (get_or xs k 0) ≡ false
 none_passes p xs e k lt =
     elim (ltb (position_or_len p xs) (length xs)) as (λ t. ltb (position_or_len p xs) (length xs) ≡ t → cond t (Some (position_or_len p xs)) None ≡ None → p (get_or xs k 0) ≡ false) [
       | true ↦ λ t n. cc

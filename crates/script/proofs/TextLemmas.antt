@@ -34,7 +34,7 @@ all_same : list_all (λ b. same_bool (should_percent_encode ESCAPED b) (not (is_
 unfolding same_bool should_percent_encode
 all_same = refl
 
-tested : (p : ℕ → Bool) (from n b : ℕ) → list_all p (range_with_len from n) ≡ true → from ≤ b → b < from + n → p b ≡ true
+pub tested : (p : ℕ → Bool) (from n b : ℕ) → list_all p (range_with_len from n) ≡ true → from ≤ b → b < from + n → p b ≡ true
 tested p from zero b all low high = absurd (omega arith)
 tested p from (suc n) b all low high =
     elim (nat_eq b from) as (λ t. nat_eq b from ≡ t → p b ≡ true) [

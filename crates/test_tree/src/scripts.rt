@@ -1,7 +1,6 @@
-// Scripts: lines in and outside the grammar, phases, limits, and the calls of a worker.
-use script::{Command, LONGEST_SCRIPT, MOST_LINES, Script, ScriptFault, Worker, read, text};
-use sfs_base::{CoreId, Kind, Measure, Name, NodeId, Stamp};
-use sfs_tree::{Code, Entry, History, Reply};
+// Scripts: lines in and outside the grammar, phases and limits.
+use script::{Command, LONGEST_SCRIPT, MOST_LINES, ScriptFault, read};
+use sfs_base::Measure;
 use std::alloc::Global;
 use std::process::Abort;
 use std::test::Fail;
@@ -147,10 +146,9 @@ fn line_of(alloc: Global, count: usize) -> Result<Vec<u8>, Fail> {
     Ok(line)
 }
 
-#[test]
-fn lines_are_in_the_grammar_or_not(rt: HostRuntime) -> Result<(), Fail> {
-    let alloc = rt.alloc();
-    for (line, reason) in INSIDE {
+// Asserts that each of these lines is in the grammar.
+fn assert_inside(rt: &impl Abort, alloc: Global, lines: &[(&str, &str)]) {
+    for (line, reason) in lines {
         match read(alloc, line.as_bytes()) {
             Ok(script) => match script.phases() {
                 [phase] => assert_eq!(rt; phase.lines().len(), 1, "{line}: {reason}"),
@@ -159,12 +157,25 @@ fn lines_are_in_the_grammar_or_not(rt: HostRuntime) -> Result<(), Fail> {
             Err(_) => panic!(rt; "refused: {line}: {reason}"),
         }
     }
-    for (line, reason) in OUTSIDE {
-        assert_bad(&rt, alloc, line.as_bytes(), 1, reason);
+}
+
+// Asserts that each of these lines is outside the grammar.
+fn assert_outside(rt: &impl Abort, alloc: Global, lines: &[(&str, &str)]) {
+    for (line, reason) in lines {
+        assert_bad(rt, alloc, line.as_bytes(), 1, reason);
     }
-    for (line, reason) in ARGUMENTS {
-        assert_bad(&rt, alloc, line.as_bytes(), 1, reason);
-    }
+}
+
+#[test]
+fn lines_are_in_the_grammar(rt: HostRuntime) {
+    assert_inside(&rt, rt.alloc(), INSIDE.as_slice());
+}
+
+#[test]
+fn lines_are_outside_the_grammar(rt: HostRuntime) {
+    let alloc = rt.alloc();
+    assert_outside(&rt, alloc, OUTSIDE.as_slice());
+    assert_outside(&rt, alloc, ARGUMENTS.as_slice());
     assert_bad(
         &rt,
         alloc,
@@ -173,7 +184,6 @@ fn lines_are_in_the_grammar_or_not(rt: HostRuntime) -> Result<(), Fail> {
         "a byte above 126",
     );
     assert_bad(&rt, alloc, b"0 mkdir /a\0".as_slice(), 1, "a byte below 33");
-    Ok(())
 }
 
 #[test]
@@ -371,120 +381,4 @@ fn assert_write(rt: &impl Abort, command: &Command) {
         }
         _ => panic!(rt; "another command"),
     }
-}
-
-// The reply that names a node.
-fn node(number: u32, kind: Kind) -> Reply {
-    Reply::Node {
-        node: NodeId(number),
-        kind,
-    }
-}
-
-// The text of the calls that worker 3 makes in the first phase of a script, where these are the
-// replies. It has to be at its end then.
-fn calls(
-    rt: &impl Abort,
-    alloc: Global,
-    script: &[u8],
-    replies: Vec<Reply>,
-) -> Result<Vec<u8>, Fail> {
-    let script = read(alloc, script)?;
-    let mut entries = Vec::new(alloc);
-    match script.phases() {
-        [] => panic!(rt; "no phase"),
-        [phase, ..] => {
-            let mut worker = Worker::new(3, phase);
-            for reply in replies {
-                let call = worker.next_call()?;
-                let call = call.ok_or("no call is left")?;
-                worker.take(&reply);
-                entries.push(Entry {
-                    stamp: Stamp(entries.len() as u64),
-                    core: CoreId(3),
-                    call,
-                    reply,
-                    ack: None,
-                })?;
-            }
-            assert!(rt; worker.next_call()?.is_none());
-        }
-    }
-    Ok(text(alloc, &History::from_entries(entries))?)
-}
-
-#[test]
-fn a_worker_walks_names_and_makes_its_call(rt: HostRuntime) -> Result<(), Fail> {
-    let alloc = rt.alloc();
-    let replies = vec![in alloc;
-        node(64, Kind::File),
-        node(64, Kind::File),
-        Reply::Ok,
-        Reply::Ok,
-        node(64, Kind::Directory),
-        node(65, Kind::Directory),
-        Reply::Error {
-            code: Code::Invalid
-        },
-    ]?;
-    let script =
-        b"3 create /a\n0 mkdir /x\n3 link /a /b\n3 rename /a /b\n3 rename /a /a/b/c\n---\n3 stat /\n";
-    let due =
-        b"0 3 create 0 a = node 64 file\n1 3 look 0 a = node 64 file\n2 3 link 64 0 b = ok\n3 3 rename 0 a 0 b = ok\n4 3 look 0 a = node 64 dir\n5 3 look 64 b = node 65 dir\n6 3 rename 0 a 65 c = error Invalid\n";
-    assert_eq!(rt;
-        calls(&rt, alloc, script.as_slice(), replies)?.as_slice(),
-        due.as_slice()
-    );
-    Ok(())
-}
-
-#[test]
-fn a_walk_ends_with_the_first_other_reply(rt: HostRuntime) -> Result<(), Fail> {
-    let alloc = rt.alloc();
-    let refused = Reply::Error {
-        code: Code::NoEntry,
-    };
-    let replies = vec![in alloc;
-        node(64, Kind::Directory),
-        refused,
-        node(64, Kind::Directory),
-        Reply::Error { code: Code::NotDir },
-        Reply::Error {
-            code: Code::NoEntry
-        },
-        node(64, Kind::Directory),
-        Reply::Error {
-            code: Code::NoEntry
-        },
-        Reply::Ok,
-    ]?;
-    let script =
-        b"3 stat /a/b/c\n3 rename /a/b/c /d/e\n3 link /f /g/h\n3 link /f /g/h\n3 fsync /\n";
-    let due =
-        b"0 3 look 0 a = node 64 dir\n1 3 look 64 b = error NoEntry\n2 3 look 0 a = node 64 dir\n3 3 look 64 b = error NotDir\n4 3 look 0 f = error NoEntry\n5 3 look 0 f = node 64 dir\n6 3 look 0 g = error NoEntry\n7 3 fsync 0 = ok\n";
-    assert_eq!(rt;
-        calls(&rt, alloc, script.as_slice(), replies)?.as_slice(),
-        due.as_slice()
-    );
-    Ok(())
-}
-
-#[test]
-fn each_command_ends_with_its_call(rt: HostRuntime) -> Result<(), Fail> {
-    let alloc = rt.alloc();
-    let mut replies = Vec::new(alloc);
-    for _ in 0..7 {
-        replies.push(node(7, Kind::Directory))?;
-        replies.push(Reply::Ok)?;
-    }
-    replies.push(Reply::Ok)?;
-    let script =
-        b"3 mkdir /d/n\n3 unlink /d/n\n3 rmdir /d/n\n3 write /f 5 00ff\n3 read /f 5 6\n3 trunc /f 9\n3 list /d\n3 fsync /\n";
-    let due =
-        b"0 3 look 0 d = node 7 dir\n1 3 mkdir 7 n = ok\n2 3 look 0 d = node 7 dir\n3 3 unlink 7 n = ok\n4 3 look 0 d = node 7 dir\n5 3 rmdir 7 n = ok\n6 3 look 0 f = node 7 dir\n7 3 write 7 5 00ff = ok\n8 3 look 0 f = node 7 dir\n9 3 read 7 5 6 = ok\n10 3 look 0 f = node 7 dir\n11 3 trunc 7 9 = ok\n12 3 look 0 d = node 7 dir\n13 3 list 7 = ok\n14 3 fsync 0 = ok\n";
-    assert_eq!(rt;
-        calls(&rt, alloc, script.as_slice(), replies)?.as_slice(),
-        due.as_slice()
-    );
-    Ok(())
 }

@@ -1,5 +1,5 @@
-// The text of each call and each reply.
-use script::text;
+// The text of each call and each reply, and of the calls that a worker makes.
+use script::{Worker, read, text};
 use sfs_base::{Chunk, CoreId, Kind, Name, NodeId, SpaceKind, Stamp};
 use sfs_tree::{Call, Code, Entry, History, Reply};
 use std::alloc::Global;
@@ -47,48 +47,22 @@ fn assert_name(rt: &impl Abort, alloc: Global, name: &[u8], due: &[u8]) -> Resul
 #[test]
 fn each_reply_of_an_fsync_has_its_text(rt: HostRuntime) -> Result<(), Fail> {
     let alloc = rt.alloc();
-    assert_fsync(&rt, alloc, Reply::Ok, b"10 1 fsync 0 = ok\n".as_slice())?;
-    assert_fsync(
-        &rt,
-        alloc,
-        Reply::DiskFailed,
-        b"10 1 fsync 0 = failed\n".as_slice(),
-    )?;
-    assert_fsync(
-        &rt,
-        alloc,
-        Reply::Stopped { faults: 1 },
-        b"10 1 fsync 0 = stopped 1\n".as_slice(),
-    )?;
-    assert_fsync(
-        &rt,
-        alloc,
-        Reply::NoMemory,
-        b"10 1 fsync 0 = nomemory\n".as_slice(),
-    )?;
-    let inodes = Reply::NoSpace {
-        kind: SpaceKind::Inodes,
-        need: 16,
-        free: 15,
-    };
-    assert_fsync(
-        &rt,
-        alloc,
-        inodes,
-        b"10 1 fsync 0 = nospace inodes need 16 free 15\n".as_slice(),
-    )?;
-    let blocks = Reply::NoSpace {
-        kind: SpaceKind::Blocks,
-        need: 2,
-        free: 1,
-    };
-    assert_fsync(
-        &rt,
-        alloc,
-        blocks,
-        b"10 1 fsync 0 = nospace blocks need 2 free 1\n".as_slice(),
-    )?;
-    Ok(())
+    let due = b"10 1 fsync 0 = ok\n".as_slice();
+    assert_fsync(&rt, alloc, Reply::Ok, due)?;
+    let due = b"10 1 fsync 0 = failed\n".as_slice();
+    assert_fsync(&rt, alloc, Reply::DiskFailed, due)?;
+    let due = b"10 1 fsync 0 = stopped 1\n".as_slice();
+    assert_fsync(&rt, alloc, Reply::Stopped { faults: 1 }, due)?;
+    let due = b"10 1 fsync 0 = nomemory\n".as_slice();
+    assert_fsync(&rt, alloc, Reply::NoMemory, due)?;
+    let kind = SpaceKind::Inodes;
+    let (need, free) = (16, 15);
+    let due = b"10 1 fsync 0 = nospace inodes need 16 free 15\n".as_slice();
+    assert_fsync(&rt, alloc, Reply::NoSpace { kind, need, free }, due)?;
+    let kind = SpaceKind::Blocks;
+    let (need, free) = (2, 1);
+    let due = b"10 1 fsync 0 = nospace blocks need 2 free 1\n".as_slice();
+    assert_fsync(&rt, alloc, Reply::NoSpace { kind, need, free }, due)
 }
 
 #[test]
@@ -218,5 +192,121 @@ fn replies_with_values_have_their_text(rt: HostRuntime) -> Result<(), Fail> {
     let due = b"10 1 fsync 0 = stat file 65535 67551232\n".as_slice();
     assert_fsync(&rt, alloc, Reply::Stat { kind, links, size }, due)?;
     assert_eq!(rt; text(alloc, &History::new(alloc))?.len(), 0);
+    Ok(())
+}
+
+// The reply that names a node.
+fn node(number: u32, kind: Kind) -> Reply {
+    Reply::Node {
+        node: NodeId(number),
+        kind,
+    }
+}
+
+// The text of the calls that worker 3 makes in the first phase of a script, where these are the
+// replies. It has to be at its end then.
+fn calls(
+    rt: &impl Abort,
+    alloc: Global,
+    script: &[u8],
+    replies: Vec<Reply>,
+) -> Result<Vec<u8>, Fail> {
+    let script = read(alloc, script)?;
+    let mut entries = Vec::new(alloc);
+    match script.phases() {
+        [] => panic!(rt; "no phase"),
+        [phase, ..] => {
+            let mut worker = Worker::new(3, phase);
+            for reply in replies {
+                let call = worker.next_call()?;
+                let call = call.ok_or("no call is left")?;
+                worker.take(&reply);
+                entries.push(Entry {
+                    stamp: Stamp(entries.len() as u64),
+                    core: CoreId(3),
+                    call,
+                    reply,
+                    ack: None,
+                })?;
+            }
+            assert!(rt; worker.next_call()?.is_none());
+        }
+    }
+    Ok(text(alloc, &History::from_entries(entries))?)
+}
+
+#[test]
+fn a_worker_walks_names_and_makes_its_call(rt: HostRuntime) -> Result<(), Fail> {
+    let alloc = rt.alloc();
+    let replies = vec![in alloc;
+        node(64, Kind::File),
+        node(64, Kind::File),
+        Reply::Ok,
+        Reply::Ok,
+        node(64, Kind::Directory),
+        node(65, Kind::Directory),
+        Reply::Error {
+            code: Code::Invalid
+        },
+    ]?;
+    let script =
+        b"3 create /a\n0 mkdir /x\n3 link /a /b\n3 rename /a /b\n3 rename /a /a/b/c\n---\n3 stat /\n";
+    let due =
+        b"0 3 create 0 a = node 64 file\n1 3 look 0 a = node 64 file\n2 3 link 64 0 b = ok\n3 3 rename 0 a 0 b = ok\n4 3 look 0 a = node 64 dir\n5 3 look 64 b = node 65 dir\n6 3 rename 0 a 65 c = error Invalid\n";
+    assert_eq!(rt;
+        calls(&rt, alloc, script.as_slice(), replies)?.as_slice(),
+        due.as_slice()
+    );
+    Ok(())
+}
+
+#[test]
+fn a_walk_ends_with_the_first_other_reply(rt: HostRuntime) -> Result<(), Fail> {
+    let alloc = rt.alloc();
+    let refused = Reply::Error {
+        code: Code::NoEntry,
+    };
+    let replies = vec![in alloc;
+        node(64, Kind::Directory),
+        refused,
+        node(64, Kind::Directory),
+        Reply::Error { code: Code::NotDir },
+        Reply::Error {
+            code: Code::NoEntry
+        },
+        node(64, Kind::Directory),
+        Reply::Error {
+            code: Code::NoEntry
+        },
+        Reply::Ok,
+    ]?;
+    let script =
+        b"3 stat /a/b/c\n3 rename /a/b/c /d/e\n3 link /f /g/h\n3 link /f /g/h\n3 fsync /\n";
+    let due =
+        b"0 3 look 0 a = node 64 dir\n1 3 look 64 b = error NoEntry\n2 3 look 0 a = node 64 dir\n3 3 look 64 b = error NotDir\n4 3 look 0 f = error NoEntry\n5 3 look 0 f = node 64 dir\n6 3 look 0 g = error NoEntry\n7 3 fsync 0 = ok\n";
+    assert_eq!(rt;
+        calls(&rt, alloc, script.as_slice(), replies)?.as_slice(),
+        due.as_slice()
+    );
+    Ok(())
+}
+
+#[test]
+fn each_command_ends_with_its_call(rt: HostRuntime) -> Result<(), Fail> {
+    let alloc = rt.alloc();
+    let mut replies = Vec::new(alloc);
+    for _ in 0..7 {
+        replies.push(node(7, Kind::Directory))?;
+        replies.push(Reply::Ok)?;
+    }
+    replies.push(Reply::Ok)?;
+    let script =
+        b"3 mkdir /d/n\n3 unlink /d/n\n3 rmdir /d/n\n3 write /f 5 00ff\n3 read /f 5 6\n3 trunc /f 9\n3 list /d\n3 fsync /\n";
+    let due =
+        b"0 3 look 0 d = node 7 dir\n1 3 mkdir 7 n = ok\n2 3 look 0 d = node 7 dir\n3 3 unlink 7 n = ok\n4 3 look 0 d = node 7 dir\n5 3 rmdir 7 n = ok\n6 3 look 0 f = node 7 dir\n7 3 write 7 5 00ff = ok\n8 3 look 0 f = node 7 dir\n9 3 read 7 5 6 = ok\n10 3 look 0 f = node 7 dir\n11 3 trunc 7 9 = ok\n12 3 look 0 d = node 7 dir\n13 3 list 7 = ok\n14 3 fsync 0 = ok\n";
+    assert_eq!(rt;
+        calls(&rt, alloc, script.as_slice(), replies)?.as_slice(),
+        due.as_slice()
+    );
     Ok(())
 }
