@@ -87,9 +87,8 @@ module _ (nodes : FinMap nat_cmp Node) (first share : ℕ) (made : List ℕ) (h 
   }
 
   module _ (core : ℕ) (within : core < length made) (room : slice_index made core < share) where
-    -- the number that a core draws is new
-    pub new_number : get nodes (first + core * share + slice_index made core) ≡ None
-    new_number = none_there _ (λ (some : IsSome (get nodes (first + core * share + slice_index made core))). elim (h.drawn.known (first + core * share + slice_index made core) some) as (λ _. ⊥) [
+    not_there : IsSome (get nodes (first + core * share + slice_index made core)) → ⊥
+    not_there some = elim (h.drawn.known (first + core * share + slice_index made core) some) as (λ _. ⊥) [
       | inl below ↦ omega arith
       | inr other ↦
           let le = h.allowed.within other.0 in
@@ -99,7 +98,11 @@ module _ (nodes : FinMap nat_cmp Node) (first share : ℕ) (made : List ℕ) (h 
           let remainder : slice_index made core ≡ other.1 = sym (mod-mul-add core share (slice_index made core) room) ∙ ap (λ n. n % share) same ∙ mod-mul-add other.0 share other.1 (omega arith) in
           let there : slice_index made core ≡ slice_index made other.0 = ap (slice_index made) quotient in
           omega arith
-    ])
+    ]
+
+    -- the number that a core draws is new
+    pub new_number : get nodes (first + core * share + slice_index made core) ≡ None
+    new_number = none_there _ not_there
 
     more_made : (k : ℕ) → slice_index made k ≤ slice_index (set made core (slice_index made core + 1)) k
     more_made k = elim (nat_eq k core) as (λ b. nat_eq k core ≡ b → slice_index made k ≤ slice_index (set made core (slice_index made core + 1)) k) [

@@ -1,11 +1,11 @@
 // Calls on a tree, what they are answered, and what they leave.
-ghost use Rattle.std.specs.Prelude.{◌≡◌, ◌*◌, ◌<◌, ◌≤◌, length};
-ghost use Rattle.sfs_tree.specs.Sound.{IsSound};
+ghost use Rattle.std.specs.Prelude.{◌*◌, ◌<◌, ◌≤◌};
 ghost use Rattle.sfs_tree.specs.Step.{IsReadable};
 
 use sfs_base::{Chunk, CoreId, Kind, Name, NodeId};
 use sfs_tree::{Call, Code, NameKind, Reply, Tree};
 use std::alloc::Global;
+use std::marker::Model;
 use std::test::Fail;
 
 mod bytes;
@@ -16,10 +16,23 @@ mod table;
 // A sound tree of two cores, on which calls are tried.
 #[derive(Drop)]
 pub(crate) struct Trial {
-    pub(crate) alloc: Global,
-    pub(crate) tree: Tree,
-    ghost sound: { IsSound tree },
-    ghost cores: { length tree.made ≡ 2 },
+    alloc: Global,
+    tree: Tree,
+}
+
+impl Model for Trial {
+    ghost use Rattle.std.specs.Prelude.{◌≡◌, length};
+    ghost use Rattle.sfs_tree.specs.Tree.{TreeState, tree_code};
+
+    ghost Value = { TreeState };
+
+    ghost coded = { tree_code };
+
+    ghost use Rattle.sfs_tree.specs.Sound.{IsSound};
+
+    ghost view = { λ trial. trial.tree };
+
+    ghost invariant = { λ trial. IsSound trial.tree × (length trial.tree.made ≡ 2) };
 }
 
 // The root alone, with this number for the first new node, and this share for each of two cores.

@@ -73,5 +73,8 @@ fn nodes_are_met_by_their_numbers(rt: HostRuntime) -> Result<(), Fail> {
     assert_eq!(rt; tree.kind(seven), Some(Kind::File));
     assert_eq!(rt; tree.kind(NodeId(0)), Some(Kind::Directory));
     assert_eq!(rt; tree.bytes(seven), b"hi".as_slice());
+    assert_eq!(rt; tree.row_count(NodeId(0)), 0);
+    assert_eq!(rt; tree.names(NodeId(0))?.len(), 0);
+    assert!(rt; tree.row(NodeId(0), 7, 0).is_none());
     Ok(())
 }

@@ -1,4 +1,6 @@
 // Links, numbers and listings, with expected values worked out by hand.
+ghost use Rattle.std.specs.Prelude.{◌<◌};
+
 use super::{is_error, is_node, is_ok, is_stat, lists, lists_at, root_alone};
 use sfs_base::Kind;
 use sfs_tree::Code;

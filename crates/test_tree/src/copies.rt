@@ -1,0 +1,72 @@
+// Copies of calls, replies and changes.
+use crate::calls::{is_stat, lists, lists_at};
+use sfs_base::{Kind, Name, NodeId, NodeList, Stamp};
+use sfs_tree::{Act, Call, Change, NameKind, NameRows, Reply};
+use std::test::Fail;
+
+#[test]
+fn a_call_and_its_copy_are_equal(rt: HostRuntime) -> Result<(), Fail> {
+    let name = Name::new(rt.alloc(), b"a".as_slice())?;
+    let call = Call::Look {
+        dir: NodeId(3),
+        name,
+    };
+    match call.copy()? {
+        Call::Look { dir, name } => {
+            assert_eq!(rt; dir, NodeId(3));
+            assert_eq!(rt; name.bytes(), b"a".as_slice());
+        }
+        _ => panic!(rt; "another call"),
+    }
+    match (Call::Stat { node: NodeId(4) }).copy()? {
+        Call::Stat { node } => assert_eq!(rt; node, NodeId(4)),
+        _ => panic!(rt; "another call"),
+    }
+    Ok(())
+}
+
+#[test]
+fn a_reply_and_its_copy_are_equal(rt: HostRuntime) -> Result<(), Fail> {
+    let alloc = rt.alloc();
+    let mut rows = Vec::new(alloc);
+    rows.push(NameKind {
+        name: Name::new(alloc, b"a".as_slice())?,
+        kind: Kind::Directory,
+    })?;
+    let rows = NameRows::from_rows(rows);
+    let copy = (Reply::Names { rows }).copy()?;
+    assert!(rt; lists(&copy, 1));
+    assert!(rt; lists_at(&copy, 0, b"a".as_slice(), Kind::Directory));
+    let stat = Reply::Stat {
+        kind: Kind::File,
+        links: 2,
+        size: 5,
+    };
+    assert!(rt; is_stat(&stat.copy()?, Kind::File, 2, 5));
+    Ok(())
+}
+
+#[test]
+fn a_change_and_its_copy_are_equal(rt: HostRuntime) -> Result<(), Fail> {
+    let alloc = rt.alloc();
+    let mut above = NodeList::new(alloc);
+    above.reserve(1)?;
+    above.push(NodeId(0));
+    let change = Change {
+        stamp: Stamp(9),
+        dir: NodeId(3),
+        name: Name::new(alloc, b"a".as_slice())?,
+        child: NodeId(4),
+        kind: Kind::File,
+        act: Act::Remove,
+        other: None,
+        above,
+    };
+    let copy = change.copy()?;
+    assert_eq!(rt; copy.stamp, Stamp(9));
+    assert_eq!(rt; copy.name.bytes(), b"a".as_slice());
+    assert_eq!(rt; copy.act, Act::Remove);
+    assert_eq!(rt; copy.other, None);
+    assert_eq!(rt; copy.above.len(), 1);
+    Ok(())
+}
