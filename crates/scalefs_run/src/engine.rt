@@ -65,11 +65,7 @@ pub fn mount<D: Disk>(alloc: Global, share: u32, disk: &mut D) -> Result<Engine,
 }
 
 /// Runs the phases in their order. Want of memory before a call's stamp ends the run.
-pub fn serve<D: Disk>(
-    engine: &mut Engine,
-    disk: &mut D,
-    phases: &[Phase],
-) -> Result<(), NoMemory>
+pub fn serve<D: Disk>(engine: &mut Engine, disk: &mut D, phases: &[Phase]) -> Result<(), NoMemory>
     requires large { 4 ≤ (D.view disk.old).size }
     requires stands { StandsSomehow engine.old (D.view disk.old) }
     requires none { engine.old.entries.items ≡ [] }

@@ -62,7 +62,9 @@ pub fn status_line(alloc: Global, status: &Status) -> Result<String, NoMemory>
         Status::WriteFault => Ok(String::from_str(alloc, "cannot write the answer")?),
         Status::DiskFault => Ok(String::from_str(alloc, "the disk failed")?),
         Status::NoMemory => Ok(String::from_str(alloc, "out of memory")?),
-        Status::TooManyWorkers { asked, have } => Ok(format!(in alloc; "worker {asked} of {have}")?),
+        Status::TooManyWorkers { asked, have } => Ok(format!(in alloc;
+            "worker {asked} of {have}"
+        )?),
         Status::TooLong { measure: _ } => Ok(String::from_str(alloc, "script too long")?),
     }
 }

@@ -72,13 +72,7 @@ fn nodes_in(number: &[u8]) -> Result<u32, u32>
     ensures within { IfOk result (λ nodes. nodes ≤ 65536) }
 {
     match number_up_to(MOST_NODES, number) {
-        Some(nodes) => {
-            if nodes >= 1 {
-                Ok(nodes as u32)
-            } else {
-                Err(1)
-            }
-        }
+        Some(nodes) => { if nodes >= 1 { Ok(nodes as u32) } else { Err(1) } }
         None => Err(1),
     }
 }

@@ -1,5 +1,4 @@
 // Copies of calls, replies and changes.
-use crate::calls::{is_stat, lists, lists_at};
 use sfs_base::{Kind, Name, NodeId, NodeList, Stamp};
 use sfs_tree::{Act, Call, Change, NameKind, NameRows, Reply};
 use std::test::Fail;
@@ -69,4 +68,36 @@ fn a_change_and_its_copy_are_equal(rt: HostRuntime) -> Result<(), Fail> {
     assert_eq!(rt; copy.other, None);
     assert_eq!(rt; copy.above.len(), 1);
     Ok(())
+}
+
+fn is_stat(reply: &Reply, due_kind: Kind, due_links: u32, due_size: u64) -> bool {
+    match reply {
+        Reply::Stat { kind, links, size } => {
+            *kind == due_kind && *links == due_links && *size == due_size
+        }
+        _ => false,
+    }
+}
+
+// Whether the reply lists so many names.
+fn lists(reply: &Reply, due: u64) -> bool {
+    match reply {
+        Reply::Names { rows } => rows.len() == due,
+        _ => false,
+    }
+}
+
+// Whether the reply lists this name, with this kind, at a place.
+fn lists_at(reply: &Reply, place: u64, due: &[u8], due_kind: Kind) -> bool {
+    match reply {
+        Reply::Names { rows } => match rows.get(place) {
+            Some(row) => is_row(row, due, due_kind),
+            None => false,
+        },
+        _ => false,
+    }
+}
+
+fn is_row(row: &NameKind, due: &[u8], due_kind: Kind) -> bool {
+    row.name.bytes() == due && row.kind == due_kind
 }

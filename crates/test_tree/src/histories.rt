@@ -66,7 +66,10 @@ fn a_cursor_goes_over_lists_by_their_stamps(rt: HostRuntime) -> Result<(), Fail>
     let history = History::from_parts(two_lists(rt.alloc())?);
     assert_eq!(rt; history.len(), 4);
     let mut cursor = history.first();
-    assert_eq!(rt; stamps(rt.alloc(), &history, &mut cursor)?.as_slice(), [0, 1, 2, 3].as_slice());
+    assert_eq!(rt;
+        stamps(rt.alloc(), &history, &mut cursor)?.as_slice(),
+        [0, 1, 2, 3].as_slice()
+    );
     assert!(rt; history.next(&mut cursor).is_none());
     Ok(())
 }
@@ -79,7 +82,10 @@ fn a_cursor_that_began_elsewhere_finds_the_same_entries(rt: HostRuntime) -> Resu
     let mut cursor = one.first();
     assert!(rt; one.next(&mut cursor).is_some());
     let history = History::from_parts(two_lists(rt.alloc())?);
-    assert_eq!(rt; stamps(rt.alloc(), &history, &mut cursor)?.as_slice(), [1, 2, 3].as_slice());
+    assert_eq!(rt;
+        stamps(rt.alloc(), &history, &mut cursor)?.as_slice(),
+        [1, 2, 3].as_slice()
+    );
     Ok(())
 }
 
