@@ -1,0 +1,205 @@
+// Calls on a tree, and what they are answered, as texts that were worked out by hand.
+ghost use Rattle.std.specs.Prelude.{◌<◌, ◌≤◌, IfOk};
+ghost use Rattle.sfs_tree.specs.Step.{IsReadable};
+
+use script::text;
+use sfs_base::{Chunk, CoreId, Kind, Name, NodeId, Stamp};
+use sfs_tree::{Call, Entry, History, Reply, Tree};
+use std::alloc::Global;
+use std::marker::Model;
+use std::process::Abort;
+use std::test::Fail;
+
+mod limits;
+mod table;
+
+// A call, as the tables have it.
+pub(crate) enum Asked {
+    Look(u32, &'static str),
+    Create(u32, &'static str),
+    Mkdir(u32, &'static str),
+    Link(u32, u32, &'static str),
+    Unlink(u32, &'static str),
+    Rmdir(u32, &'static str),
+    Rename(u32, &'static str, u32, &'static str),
+    Write(u32, u64, &'static str),
+    Read(u32, u64, u16),
+    Trunc(u32, u64),
+    Stat(u32),
+    List(u32),
+    Fsync(u32),
+}
+
+// A sound tree of two cores, on which calls are tried. Contracts see the number of its cores alone, so
+// that tests stay cheap to prove.
+#[derive(Drop)]
+pub(crate) struct Trial {
+    alloc: Global,
+    tree: Tree,
+}
+
+impl Model for Trial {
+    ghost use Rattle.std.specs.Prelude.{◌≡◌, ℕ, length};
+
+    ghost Value = { ℕ };
+
+    ghost use Rattle.sfs_tree.specs.Laws.{IsSoundTree};
+
+    ghost view = { λ trial. length trial.tree.made };
+
+    ghost invariant = { λ trial. IsSoundTree trial.tree × (length trial.tree.made ≡ 2) };
+}
+
+// The root alone, with 64 for the first new node, and this share for each of two cores.
+pub(crate) fn root_alone(alloc: Global, share: u32) -> Result<Trial, Fail>
+    requires share { share ≤ 32768 }
+{
+    let tree = Tree::empty(alloc, 64, share, 2)?;
+    Ok(Trial { alloc, tree })
+}
+
+fn named(alloc: Global, dir: u32, name: &str) -> Result<(NodeId, Name), Fail> {
+    Ok((NodeId(dir), Name::new(alloc, name.as_bytes())?))
+}
+
+fn made(alloc: Global, dir: u32, name: &str, kind: Kind) -> Result<Call, Fail>
+    ensures { IfOk result (λ call. IsReadable call) }
+{
+    let (dir, name) = named(alloc, dir, name)?;
+    Ok(Call::Make { dir, name, kind })
+}
+
+fn renamed(alloc: Global, from: (u32, &str), to: (u32, &str)) -> Result<Call, Fail>
+    ensures { IfOk result (λ call. IsReadable call) }
+{
+    let (dir, name) = named(alloc, from.0, from.1)?;
+    let (to_dir, to_name) = named(alloc, to.0, to.1)?;
+    Ok(Call::Rename {
+        dir,
+        name,
+        to_dir,
+        to_name,
+    })
+}
+
+fn written(alloc: Global, file: u32, at: u64, bytes: &str) -> Result<Call, Fail>
+    ensures { IfOk result (λ call. IsReadable call) }
+{
+    match Chunk::new(bytes.as_bytes().to_vec(alloc)?) {
+        Ok(bytes) => Ok(Call::Write {
+            file: NodeId(file),
+            at,
+            bytes,
+        }),
+        Err(_) => Err(Fail::new("more bytes than one write has")),
+    }
+}
+
+// The call that is asked.
+fn call_of(alloc: Global, asked: &Asked) -> Result<Call, Fail>
+    ensures { IfOk result (λ call. IsReadable call) }
+{
+    match *asked {
+        Asked::Look(dir, name) => {
+            let (dir, name) = named(alloc, dir, name)?;
+            Ok(Call::Look { dir, name })
+        }
+        Asked::Create(dir, name) => made(alloc, dir, name, Kind::File),
+        Asked::Mkdir(dir, name) => made(alloc, dir, name, Kind::Directory),
+        Asked::Link(file, dir, name) => {
+            let (dir, name) = named(alloc, dir, name)?;
+            Ok(Call::Link {
+                file: NodeId(file),
+                dir,
+                name,
+            })
+        }
+        Asked::Unlink(dir, name) => {
+            let (dir, name) = named(alloc, dir, name)?;
+            Ok(Call::Unlink { dir, name })
+        }
+        Asked::Rmdir(dir, name) => {
+            let (dir, name) = named(alloc, dir, name)?;
+            Ok(Call::Rmdir { dir, name })
+        }
+        Asked::Rename(dir, name, to_dir, to_name) => {
+            renamed(alloc, (dir, name), (to_dir, to_name))
+        }
+        Asked::Write(file, at, bytes) => written(alloc, file, at, bytes),
+        Asked::Read(file, at, count) => Ok(Call::Read {
+            file: NodeId(file),
+            at,
+            count: u32::from(count),
+        }),
+        Asked::Trunc(file, size) => Ok(Call::Trunc {
+            file: NodeId(file),
+            size,
+        }),
+        Asked::Stat(node) => Ok(Call::Stat { node: NodeId(node) }),
+        Asked::List(dir) => Ok(Call::List { dir: NodeId(dir) }),
+        Asked::Fsync(node) => Ok(Call::Fsync { node: NodeId(node) }),
+    }
+}
+
+impl Trial {
+    // What a call of a core is answered.
+    pub(crate) fn step(&mut self, core: u8, call: &Call) -> Result<Reply, Fail>
+        requires core { core < 2 }
+        requires readable { IsReadable call.now }
+    {
+        Ok(self.tree.step(CoreId(core), call)?)
+    }
+
+    // The text of a call of a core with its reply, behind the stamp 0.
+    fn shown(&mut self, core: u8, call: Call) -> Result<Vec<u8>, Fail>
+        requires core { core < 2 }
+        requires readable { IsReadable call }
+    {
+        let alloc = self.alloc;
+        let reply = self.step(core, &call)?;
+        let mut entries = Vec::new(alloc);
+        entries.push(Entry {
+            stamp: Stamp(0),
+            core: CoreId(core),
+            call,
+            reply,
+            ack: None,
+        })?;
+        Ok(text(alloc, &History::from_entries(entries))?)
+    }
+
+    // Asserts that a call of core 0 has a text that ends so.
+    pub(crate) fn assert_call(&mut self, rt: &impl Abort, call: Call, due: &str) -> Result<(), Fail>
+        requires { IsReadable call }
+    {
+        let text = self.shown(0, call)?;
+        assert!(rt; text.ends_with(due.as_bytes()), "{due}");
+        Ok(())
+    }
+
+    // Asserts the text of each of these calls of core 0, one after another.
+    pub(crate) fn assert_all(
+        &mut self,
+        rt: &impl Abort,
+        cases: &[(Asked, &str)],
+    ) -> Result<(), Fail> {
+        for (asked, due) in cases {
+            let call = call_of(self.alloc, asked)?;
+            self.assert_call(rt, call, due)?;
+        }
+        Ok(())
+    }
+}
+
+// Asserts the text of each of these calls, on a tree that is the root alone.
+pub(crate) fn assert_from_root(
+    rt: &impl Abort,
+    alloc: Global,
+    share: u32,
+    cases: &[(Asked, &str)],
+) -> Result<(), Fail>
+    requires share { share ≤ 32768 }
+{
+    let mut trial = root_alone(alloc, share)?;
+    trial.assert_all(rt, cases)
+}

@@ -1,0 +1,163 @@
+// Limits, and the numbers of two cores.
+ghost use Rattle.std.specs.Prelude.{◌<◌, IfOk};
+ghost use Rattle.sfs_tree.specs.Step.{IsReadable};
+
+use super::Asked::{self, Create, Link, List, Mkdir, Rename, Stat, Unlink};
+use super::{Trial, made, root_alone};
+use sfs_base::{Kind, Name, NodeId};
+use sfs_tree::{Call, Code, Reply};
+use std::alloc::Global;
+use std::process::Abort;
+use std::test::Fail;
+
+// The file that many rows name.
+const FILE: [(Asked, &str); 1] = [(Create(0, "000000"), " create 0 000000 = node 64 file\n")];
+
+// Behind a full bucket of the root, in which each row names the file.
+const FULL: [(Asked, &str); 10] = [
+    (Link(64, 0, "gggggg"), " link 64 0 gggggg = error DirFull\n"),
+    (Create(0, "gggggg"), " create 0 gggggg = error DirFull\n"),
+    (Link(64, 0, "a"), " link 64 0 a = ok\n"),
+    (
+        Rename(0, "a", 0, "gggggg"),
+        " rename 0 a 0 gggggg = error DirFull\n",
+    ),
+    (
+        Rename(0, "000000", 0, "gggggg"),
+        " rename 0 000000 0 gggggg = error DirFull\n",
+    ),
+    (Rename(0, "a", 0, "000000"), " rename 0 a 0 000000 = ok\n"),
+    (Unlink(0, "000000"), " unlink 0 000000 = ok\n"),
+    (Link(64, 0, "gggggg"), " link 64 0 gggggg = ok\n"),
+    (List(0), " ffffee ffffff gggggg\n"),
+    (Stat(0), " stat 0 = stat dir 2 4097\n"),
+];
+
+// Directories in which the file gets its names.
+const DIRECTORIES: [(Asked, &str); 16] = [
+    (Mkdir(0, "A"), " mkdir 0 A = node 65 dir\n"),
+    (Mkdir(0, "B"), " mkdir 0 B = node 66 dir\n"),
+    (Mkdir(0, "C"), " mkdir 0 C = node 67 dir\n"),
+    (Mkdir(0, "D"), " mkdir 0 D = node 68 dir\n"),
+    (Mkdir(0, "E"), " mkdir 0 E = node 69 dir\n"),
+    (Mkdir(0, "F"), " mkdir 0 F = node 70 dir\n"),
+    (Mkdir(0, "G"), " mkdir 0 G = node 71 dir\n"),
+    (Mkdir(0, "H"), " mkdir 0 H = node 72 dir\n"),
+    (Mkdir(0, "I"), " mkdir 0 I = node 73 dir\n"),
+    (Mkdir(0, "J"), " mkdir 0 J = node 74 dir\n"),
+    (Mkdir(0, "K"), " mkdir 0 K = node 75 dir\n"),
+    (Mkdir(0, "L"), " mkdir 0 L = node 76 dir\n"),
+    (Mkdir(0, "M"), " mkdir 0 M = node 77 dir\n"),
+    (Mkdir(0, "N"), " mkdir 0 N = node 78 dir\n"),
+    (Mkdir(0, "O"), " mkdir 0 O = node 79 dir\n"),
+    (Mkdir(0, "P"), " mkdir 0 P = node 80 dir\n"),
+];
+
+// Behind 65,535 links of the file, 4,094 of them in the last directory.
+const LINKED: [(Asked, &str); 5] = [
+    (Stat(64), " stat 64 = stat file 65535 0\n"),
+    (Link(64, 80, "a"), " link 64 80 a = error TooManyLinks\n"),
+    (Unlink(0, "000000"), " unlink 0 000000 = ok\n"),
+    (Link(64, 80, "a"), " link 64 80 a = ok\n"),
+    (Stat(0), " stat 0 = stat dir 18 16\n"),
+];
+
+// The digit with this value.
+fn hex_digit(value: u16) -> u8 {
+    b"0123456789abcdef"
+        .get(value as usize)
+        .copied()
+        .unwrap_or(b'?')
+}
+
+// A link of the file in a directory: the name has three hex digits, each twice, so all lie in one bucket.
+fn linked(alloc: Global, dir: u32, number: u16) -> Result<Call, Fail>
+    ensures { IfOk result (λ call. IsReadable call) }
+{
+    let (high, middle, low) = (
+        hex_digit(number / 256),
+        hex_digit(number / 16 % 16),
+        hex_digit(number % 16),
+    );
+    let name = Name::new(alloc, &[high, high, middle, middle, low, low])?;
+    Ok(Call::Link {
+        file: NodeId(64),
+        dir: NodeId(dir),
+        name,
+    })
+}
+
+// Links the file in a directory by the names from one number up to another.
+fn link_all(
+    trial: &mut Trial,
+    rt: &impl Abort,
+    alloc: Global,
+    dir: u32,
+    from: u16,
+    to: u16,
+) -> Result<(), Fail> {
+    for number in from..to {
+        trial.assert_call(rt, linked(alloc, dir, number)?, " = ok\n")?;
+    }
+    Ok(())
+}
+
+#[test]
+fn a_bucket_is_full_at_4096_rows(rt: HostRuntime) -> Result<(), Fail> {
+    let alloc = rt.alloc();
+    let mut trial = root_alone(alloc, 2048)?;
+    trial.assert_all(&rt, &FILE)?;
+    link_all(&mut trial, &rt, alloc, 0, 1, 4096)?;
+    trial.assert_all(&rt, &FULL)
+}
+
+// Links the file in fifteen directories by 4,096 names, and in the sixteenth by 4,094.
+fn link_in_all(trial: &mut Trial, rt: &impl Abort, alloc: Global) -> Result<(), Fail> {
+    for dir in 65..80u32 {
+        link_all(trial, rt, alloc, dir, 0, 4096)?;
+    }
+    link_all(trial, rt, alloc, 80, 0, 4094)
+}
+
+#[test]
+fn a_file_has_at_most_65535_links(rt: HostRuntime) -> Result<(), Fail> {
+    let alloc = rt.alloc();
+    let mut trial = root_alone(alloc, 2048)?;
+    trial.assert_all(&rt, &FILE)?;
+    trial.assert_all(&rt, &DIRECTORIES)?;
+    link_in_all(&mut trial, &rt, alloc)?;
+    trial.assert_all(&rt, &LINKED)
+}
+
+// Makes a file in the root by a core.
+fn make_by(trial: &mut Trial, alloc: Global, core: u8, name: &str) -> Result<Reply, Fail>
+    requires { core < 2 }
+{
+    let call = made(alloc, 0, name, Kind::File)?;
+    trial.step(core, &call)
+}
+
+fn is_node(reply: &Reply, due: u32) -> bool {
+    match reply {
+        Reply::Node { node, kind: _ } => node.0 == due,
+        _ => false,
+    }
+}
+
+fn is_error(reply: &Reply, due: Code) -> bool {
+    match reply {
+        Reply::Error { code } => *code == due,
+        _ => false,
+    }
+}
+
+#[test]
+fn two_cores_number_their_own_nodes(rt: HostRuntime) -> Result<(), Fail> {
+    let alloc = rt.alloc();
+    let mut trial = root_alone(alloc, 1)?;
+    assert!(rt; is_node(&make_by(&mut trial, alloc, 0, "a")?, 64));
+    assert!(rt; is_error(&make_by(&mut trial, alloc, 0, "b")?, Code::NoNodes));
+    assert!(rt; is_error(&make_by(&mut trial, alloc, 1, "a")?, Code::Exists));
+    assert!(rt; is_node(&make_by(&mut trial, alloc, 1, "b")?, 65));
+    Ok(())
+}
