@@ -1,0 +1,10 @@
+mod CutRows
+pub mod Nodes
+pub mod Own
+pub mod Placed
+pub mod Runs
+pub mod Seen
+pub mod Fit
+pub mod Along
+pub mod CutNodes
+pub mod Closed

@@ -1,0 +1,6 @@
+//! What an fsync flushes: cuts of a history, their rules, and what is proved of them.
+#![tactic(auto)]
+
+mod laws;
+
+pub use laws::{closed_cuts_are_sound, directories_are_cut};
