@@ -15,7 +15,7 @@ use Rattle.sfs_tree.specs.History.{tree_after, IsLegal}
 use Rattle.sfs_tree.specs.Laws.{IsSoundTree}
 use Rattle.sfs_tree.proofs.KeepsSound.{with_rows}
 use Rattle.sfs_tree.proofs.KeepsNodes.{IsSound-nodes, directory_node}
-use Rattle.flush_core.specs.Cut.{Cut, cut_of, is_within, with_own, nodes_at_cut, tree_at_cut}
+use Rattle.flush_core.specs.Cut.{Cut, cut_of, is_within, with_own, rows_at_cut, nodes_at_cut, tree_at_cut}
 use Rattle.flush_core.specs.Rules.{IsOneOf, IsChange, births_by, IsLastPlacing, IsClosed}
 use Rattle.flush_core.specs.Laws.{ClosedCutsAreSound}
 use Rattle.flush_core.proofs.Own.{stamp_of, comes_in}
@@ -128,6 +128,11 @@ module _ (first : TreeState) (history : List Entry) (is : IsSoundTree first) (le
       nothing [] = refl
       nothing (e ∷ h) = refl
 
+  -- past the last stamp they are the rows at the cut
+  pub seen_end : seen_of.rows (length history) ≡ rows_at_cut first history cut
+  unfolding seen_of
+  seen_end = ap (λ cs. fold with_own first.rows (filter (is_within cut) cs)) (changes_till-end first history)
+
   abbrev whole : TreeState
   whole = tree_at_cut first history cut
 
@@ -155,9 +160,8 @@ module _ (first : TreeState) (history : List Entry) (is : IsSoundTree first) (le
       kind_first (e ∷ h) x = refl
 
   cut_sound : IsClosed first history cut → IsSound whole
-  unfolding seen_of
   cut_sound closed =
-      subst (λ (rows : FinMap key_cmp ℕ). IsSound (with_rows whole rows)) (ap (λ cs. fold with_own first.rows (filter (is_within cut) cs)) (changes_till-end first history))
+      subst (λ (rows : FinMap key_cmp ℕ). IsSound (with_rows whole rows)) seen_end
       (seen_sound run (cut_of cut) seen_of (keeps_of closed) whole has_nodes (subst (λ (rows : FinMap key_cmp ℕ). IsSound (with_rows whole rows)) (sym (seen_of.begin ∙ rows_first history)) begins) (length history))
     where
       rows_first : (h : List Entry) → (tree_at first h 0).rows ≡ first.rows

@@ -4,6 +4,12 @@ use Rattle.std.specs.Option.{option_map_or}
 use Rattle.std.specs.Ordering.{nat_cmp, eq_by_cmp}
 use Rattle.std.specs.FinMap.{FinMap, find, entries, get, from_sorted, is_sorted, get-from_sorted, get-entries, entries_sorted}
 use Rattle.std.specs.FinMap.Entries.{below_all}
+use Rattle.std.specs.Cmp.{unsigned_ties}
+use borrow.Author.Tests.{eqb-true}
+use Rattle.sfs_tree.specs.Changes.{bytes_at}
+use Rattle.sfs_tree.specs.History.{tree_after}
+use Rattle.flush_core.specs.Cut.{cut_of}
+use Rattle.flush_core.specs.Laws.{FilesAreCut}
 use Rattle.sfs_tree.specs.Tree.{Node, is_directory_kind}
 
 -- nodes that get other bytes, each by its number
@@ -44,3 +50,20 @@ module _ (bytes : ℕ → List ℕ) where
 
   pub still_kind : (nodes : FinMap nat_cmp Node) (x : ℕ) → option_map_or (λ (n : Node). is_directory_kind n.kind) (get (from_sorted {R = nat_cmp} (map with_bytes (entries nodes))) x) false ≡ option_map_or (λ (n : Node). is_directory_kind n.kind) (get nodes x) false
   still_kind nodes x = ap kind_in (get_kept nodes x) ∙ kinds x (entries nodes) ∙ ap kind_in (sym (get-entries nodes x))
+
+  -- what is found has its own bytes
+  abbrev bytes_in : Option Node → List ℕ
+  bytes_in o = option_map_or (λ (n : Node). n.bytes) o []
+
+  bytes_found : (q : ℕ) (es : List (ℕ × Node)) → IsSome (find nat_cmp q es) → bytes_in (find nat_cmp q (map with_bytes es)) ≡ bytes q
+  bytes_found q [] some = cc
+  bytes_found q (e ∷ es) some = elim (eq_by_cmp nat_cmp q e.0) as (λ b. eq_by_cmp nat_cmp q e.0 ≡ b → IsSome (cond b (Some e.1) (find nat_cmp q es)) → bytes_in (cond b (Some (record e.1 { bytes = bytes e.0 })) (find nat_cmp q (map with_bytes es))) ≡ bytes q) [
+    | true ↦ λ t _. ap bytes (sym (eqb-true q e.0 (unsigned_ties q e.0 ∙ t)))
+    | false ↦ λ _ h. bytes_found q es h
+  ] refl some
+
+  pub own_bytes : (nodes : FinMap nat_cmp Node) (x : ℕ) → IsSome (get nodes x) → option_map_or (λ (n : Node). n.bytes) (get (from_sorted {R = nat_cmp} (map with_bytes (entries nodes))) x) [] ≡ bytes x
+  own_bytes nodes x some = ap bytes_in (get_kept nodes x) ∙ bytes_found x (entries nodes) (subst IsSome (get-entries nodes x) some)
+
+pub files_are_cut : FilesAreCut
+files_are_cut first history cut node some = own_bytes (λ (x : ℕ). bytes_at first history x (cut_of cut x)) (tree_after first history).nodes node some

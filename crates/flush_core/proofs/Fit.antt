@@ -19,7 +19,7 @@ use Rattle.flush_core.specs.Rules.{IsOneOf}
 use Rattle.flush_core.proofs.Own.{both, folds, stamp_of, sides, comes_in, replaced_in, filter_all, filter_none}
 use Rattle.flush_core.proofs.Nodes.{node_stays}
 use Rattle.flush_core.proofs.Runs.{Run, Made, IsLast, Keeps, Seen, below_cut, below_or, not_below}
-use Rattle.flush_core.proofs.Seen.{ahead, behind, held, all_seen, other_end, stays_named}
+use Rattle.flush_core.proofs.Seen.{ahead, behind, held, all_seen, other_end, first_end, stays_named}
 
 -- the nodes of all trees of a run, each with its kind
 pub record HasNodes (r : Run) (whole : TreeState) : Type 0 where
@@ -159,14 +159,6 @@ module _ (r : Run) (cut : ℕ → ℕ) (s : Seen r cut) (keeps : Keeps r cut) (w
     | inr le ↦ spared t (Removes d n c) sound (λ y one. one_dir (λ k. cut k ≤ t) (removed t d n c None (is_directory (r.tree t) c)) y le one)
   ]
 
-  -- a move below the cut of its new directory lies below that of the old one
-  first_end : (t p : ℕ) (n : List ℕ) (q : ℕ) (m : List ℕ) (c : ℕ) → r.effect t ≡ Moves p n q m c → t < cut q → t < cut p
-  first_end t p n q m c e lt =
-      elim (nat_eq q p) as (λ b. nat_eq q p ≡ b → t < cut p) [
-        | true ↦ λ same. subst (λ (k : ℕ). t < cut k) (eqb-true _ _ same) lt
-        | false ↦ λ apart. keeps.renames t (added t q m c (other_side q p)) p (made t (Moves p n q m c) (added t q m c (other_side q p)) e (comes_in (r.tree t) t p n q m c)) (ap (λ b. cond b None (Some p)) apart) lt
-      ] refl
-
   moves_next : (t p : ℕ) (n : List ℕ) (q : ℕ) (m : List ℕ) (c : ℕ) → r.effect t ≡ Moves p n q m c → FitsMoves (r.tree t) p n q m c → IsSound (seen_tree t) → Next t (Moves p n q m c)
   moves_next t p n q m c e f sound = elim (below_or t (cut p)) [
     | inl lp ↦
@@ -178,7 +170,7 @@ module _ (r : Run) (cut : ℕ → ℕ) (s : Seen r cut) (keeps : Keeps r cut) (w
     | inr le ↦ spared t (Moves p n q m c) sound (λ y one. elim (sides (r.tree t) t p n q m c y one) [
       | inl same ↦ subst (λ (k : ℕ). cut k ≤ t) (sym same) le
       | inr same ↦ subst (λ (k : ℕ). cut k ≤ t) (sym same) (elim (below_or t (cut q)) [
-        | inl lq ↦ absurd (no_less t (cut p) (first_end t p n q m c e lq) le)
+        | inl lq ↦ absurd (no_less t (cut p) (first_end r cut s keeps t p n q m c e lq) le)
         | inr above ↦ above
       ])
     ])

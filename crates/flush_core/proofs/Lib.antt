@@ -8,3 +8,5 @@ pub mod Fit
 pub mod Along
 pub mod CutNodes
 pub mod Closed
+pub mod Lives
+pub mod Commit

@@ -6,11 +6,11 @@ use Rattle.sfs_base.specs.declared.numbers.Kind.{Kind}
 use Rattle.sfs_tree.specs.Order.{key_cmp}
 use Rattle.sfs_tree.specs.Tree.{TreeState, row_of, is_directory}
 use Rattle.sfs_tree.specs.Effect.{Effect, Adds, Moves, tree_with}
-use Rattle.sfs_tree.specs.Changes.{RowChange, removed, other_side, changes_by}
+use Rattle.sfs_tree.specs.Changes.{RowChange, added, removed, other_side, changes_by}
 use Rattle.sfs_tree.proofs.RowFacts.{IsNamed, added_there}
 use Rattle.sfs_tree.proofs.Holders.{directory_stays}
 use Rattle.flush_core.specs.Rules.{IsOneOf}
-use Rattle.flush_core.proofs.Own.{skip, keep, folds, stamp_of, goes_in}
+use Rattle.flush_core.proofs.Own.{skip, keep, folds, stamp_of, goes_in, comes_in}
 use Rattle.flush_core.proofs.Placed.{placed, came, named_before, row_stays}
 use Rattle.flush_core.proofs.Runs.{Run, changes_at, Made, IsLast, Keeps, Seen, below_cut, below_or, not_below}
 
@@ -105,6 +105,14 @@ module _ (r : Run) (cut : ℕ → ℕ) (s : Seen r cut) where
         elim (nat_eq p q) as (λ b. nat_eq p q ≡ b → t < cut q) [
           | true ↦ λ same. subst (λ (k : ℕ). t < cut k) (eqb-true _ _ same) lt
           | false ↦ λ apart. keeps.renames t (removed t p n c (other_side p q) false) q (subst (λ (f : Effect). IsOneOf (changes_by (r.tree t) t f) (removed t p n c (other_side p q) false)) (sym e) (goes_in (r.tree t) t p n q m c)) (ap (λ b. Rattle.std.proofs.Common.cond b None (Some q)) apart) lt
+        ] refl
+
+    -- a move below the cut of its new directory lies below that of the old one
+    pub first_end : (t p : ℕ) (n : List ℕ) (q : ℕ) (m : List ℕ) (c : ℕ) → r.effect t ≡ Moves p n q m c → t < cut q → t < cut p
+    first_end t p n q m c e lt =
+        elim (nat_eq q p) as (λ b. nat_eq q p ≡ b → t < cut p) [
+          | true ↦ λ same. subst (λ (k : ℕ). t < cut k) (eqb-true _ _ same) lt
+          | false ↦ λ apart. keeps.renames t (added t q m c (other_side q p)) p (subst (λ (f : Effect). IsOneOf (changes_by (r.tree t) t f) (added t q m c (other_side q p))) (sym e) (comes_in (r.tree t) t p n q m c)) (ap (λ b. Rattle.std.proofs.Common.cond b None (Some p)) apart) lt
         ] refl
 
     -- a directory that was made below the cut of its birth place is named where the tree names it

@@ -1,13 +1,15 @@
 -- The laws of cuts, each of which a function of the module laws proves.
-use Rattle.std.specs.Prelude.{◌≡◌, ℕ, List}
+use Rattle.std.specs.Prelude.{◌≡◌, ℕ, Bool, List, IsSome}
 use Rattle.sfs_tree.specs.declared.history.Entry.{Entry}
-use Rattle.sfs_tree.specs.Tree.{TreeState, names_of}
+use Rattle.std.specs.FinMap.{get}
+use Rattle.sfs_tree.specs.Tree.{TreeState, names_of, bytes_of}
 use Rattle.sfs_tree.specs.Sound.{IsSound}
-use Rattle.sfs_tree.specs.History.{IsLegal}
-use Rattle.sfs_tree.specs.Changes.{rows_at}
+use Rattle.sfs_tree.specs.History.{tree_after, IsLegal}
+use Rattle.sfs_tree.specs.Changes.{rows_at, bytes_at}
 use Rattle.sfs_tree.specs.Laws.{IsSoundTree}
 use Rattle.flush_core.specs.Cut.{Cut, cut_of, tree_at_cut}
 use Rattle.flush_core.specs.Rules.{IsClosed}
+use Rattle.flush_core.specs.Closure.{Flush, IsRaised, AreInodesAfter, IsKept}
 
 -- In the tree at a cut a directory has its rows at its own stamp.
 abbrev pub DirectoriesAreCut : Type 0
@@ -16,3 +18,12 @@ DirectoriesAreCut = (first : TreeState) (history : List Entry) (cut : Cut) (dire
 -- A closed cut of a legal history from a sound tree gives a sound tree.
 abbrev pub ClosedCutsAreSound : Type 0
 ClosedCutsAreSound = (first : TreeState) (history : List Entry) (cut : Cut) → IsSoundTree first → IsLegal first history → IsClosed first history cut → IsSound (tree_at_cut first history cut)
+
+-- In the tree at a cut each node has its bytes at its own stamp.
+abbrev pub FilesAreCut : Type 0
+FilesAreCut = (first : TreeState) (history : List Entry) (cut : Cut) (node : ℕ) → IsSome (get (tree_after first history).nodes node) → bytes_of (tree_at_cut first history cut) node ≡ bytes_at first history node (cut_of cut node)
+
+-- An fsync keeps the cut closed, and each directory with an inode has its making below its birth place's cut.
+abbrev pub FsyncsKeep : Type 0
+FsyncsKeep = (first : TreeState) (history : List Entry) (cut raised : Cut) (inodes after : ℕ → Bool) (flush : Flush) → IsSoundTree first → IsLegal first history
+    → IsKept first history cut inodes → IsRaised first history cut inodes flush raised → AreInodesAfter first history cut inodes flush raised after → IsKept first history raised after

@@ -1,3 +1,4 @@
+pub mod Closure
 pub mod Cut
 pub mod Laws
 pub mod Rules

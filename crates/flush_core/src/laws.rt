@@ -1,12 +1,22 @@
 // What is proved of cuts: each function's contract is a law.
-ghost use Rattle.flush_core.specs.Laws.{ClosedCutsAreSound, DirectoriesAreCut};
+ghost use Rattle.flush_core.specs.Laws.{ClosedCutsAreSound, DirectoriesAreCut, FilesAreCut, FsyncsKeep};
 
 /// In the tree at a cut a directory has its rows at its own stamp.
 pub fn directories_are_cut()
     ensures { DirectoriesAreCut }
 {}
 
+/// In the tree at a cut each node has its bytes at its own stamp.
+pub fn files_are_cut()
+    ensures { FilesAreCut }
+{}
+
 /// A closed cut gives a sound tree.
 pub fn closed_cuts_are_sound()
     ensures { ClosedCutsAreSound }
+{}
+
+/// An fsync keeps the cut closed, and each directory with an inode has its making below its birth place's cut.
+pub fn fsyncs_keep()
+    ensures { FsyncsKeep }
 {}

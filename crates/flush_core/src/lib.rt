@@ -3,4 +3,4 @@
 
 mod laws;
 
-pub use laws::{closed_cuts_are_sound, directories_are_cut};
+pub use laws::{closed_cuts_are_sound, directories_are_cut, files_are_cut, fsyncs_keep};
