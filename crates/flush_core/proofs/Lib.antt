@@ -10,3 +10,5 @@ pub mod CutNodes
 pub mod Closed
 pub mod Lives
 pub mod Commit
+pub mod Stamps
+pub mod Lists

@@ -1,5 +1,6 @@
 -- What one fsync flushes, and what it makes of the cut and of the nodes that have an inode.
-use Rattle.std.specs.Prelude.{◌≡◌, ◌≢◌, ◌⊎◌, ◌↔◌, ℕ, ◌<◌, ◌≤◌, Bool, true, false, List, Some, max, take}
+use Rattle.std.specs.Prelude.{◌≡◌, ◌≢◌, ◌⊎◌, ◌↔◌, ℕ, ◌<◌, ◌≤◌, Bool, true, false, List, [], ◌∷◌, ◌++◌, Some, is_some, max, take}
+use Rattle.std.specs.FinMap.{get, empty}
 use Rattle.sfs_tree.specs.declared.history.Entry.{Entry}
 use Rattle.sfs_tree.specs.Tree.{TreeState, row_of, is_directory}
 use Rattle.sfs_tree.specs.Sound.{Above}
@@ -82,3 +83,9 @@ AreBorn first history cut inodes = (birth : Birth) → IsOneOf (births_of first 
 pub record IsKept (first : TreeState) (history : List Entry) (cut : Cut) (inodes : ℕ → Bool) : Type 0 where
   pub closed : IsClosed first history cut
   pub born : AreBorn first history cut inodes
+
+-- The cut and the nodes with an inode after a list of fsyncs, one after the other, from the cut 0 and the nodes of the first tree.
+pub data AreFlushed (first : TreeState) (history : List Entry) : List Flush → Cut → (ℕ → Bool) → Type 0 where
+  none : (inodes : ℕ → Bool) → ((node : ℕ) → inodes node ≡ is_some (get first.nodes node)) → AreFlushed first history [] empty inodes
+  one_more : (flushes : List Flush) (flush : Flush) (cut raised : Cut) (inodes after : ℕ → Bool) → AreFlushed first history flushes cut inodes → IsRaised first history cut inodes flush raised
+      → AreInodesAfter first history cut inodes flush raised after → AreFlushed first history (flushes ++ flush ∷ []) raised after

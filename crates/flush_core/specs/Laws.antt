@@ -9,7 +9,7 @@ use Rattle.sfs_tree.specs.Changes.{rows_at, bytes_at}
 use Rattle.sfs_tree.specs.Laws.{IsSoundTree}
 use Rattle.flush_core.specs.Cut.{Cut, cut_of, tree_at_cut}
 use Rattle.flush_core.specs.Rules.{IsClosed}
-use Rattle.flush_core.specs.Closure.{Flush, IsRaised, AreInodesAfter, IsKept}
+use Rattle.flush_core.specs.Closure.{Flush, IsRaised, AreInodesAfter, IsKept, AreFlushed}
 
 -- In the tree at a cut a directory has its rows at its own stamp.
 abbrev pub DirectoriesAreCut : Type 0
@@ -27,3 +27,12 @@ FilesAreCut = (first : TreeState) (history : List Entry) (cut : Cut) (node : ℕ
 abbrev pub FsyncsKeep : Type 0
 FsyncsKeep = (first : TreeState) (history : List Entry) (cut raised : Cut) (inodes after : ℕ → Bool) (flush : Flush) → IsSoundTree first → IsLegal first history
     → IsKept first history cut inodes → IsRaised first history cut inodes flush raised → AreInodesAfter first history cut inodes flush raised after → IsKept first history raised after
+
+-- After any list of fsyncs the cut is closed, each directory with an inode has its making below its birth place's cut, and the tree
+-- at the cut is sound.
+pub record KeepsAll (first : TreeState) (history : List Entry) (cut : Cut) (inodes : ℕ → Bool) : Type 0 where
+  pub kept : IsKept first history cut inodes
+  pub sound : IsSound (tree_at_cut first history cut)
+
+abbrev pub ListsKeep : Type 0
+ListsKeep = (first : TreeState) (history : List Entry) (flushes : List Flush) (cut : Cut) (inodes : ℕ → Bool) → IsSoundTree first → IsLegal first history → AreFlushed first history flushes cut inodes → KeepsAll first history cut inodes

@@ -2,3 +2,4 @@ pub mod Closure
 pub mod Cut
 pub mod Laws
 pub mod Rules
+pub mod Stamps

@@ -1,5 +1,5 @@
 // What is proved of cuts: each function's contract is a law.
-ghost use Rattle.flush_core.specs.Laws.{ClosedCutsAreSound, DirectoriesAreCut, FilesAreCut, FsyncsKeep};
+ghost use Rattle.flush_core.specs.Laws.{ClosedCutsAreSound, DirectoriesAreCut, FilesAreCut, FsyncsKeep, ListsKeep};
 
 /// In the tree at a cut a directory has its rows at its own stamp.
 pub fn directories_are_cut()
@@ -19,4 +19,9 @@ pub fn closed_cuts_are_sound()
 /// An fsync keeps the cut closed, and each directory with an inode has its making below its birth place's cut.
 pub fn fsyncs_keep()
     ensures { FsyncsKeep }
+{}
+
+/// After any list of fsyncs the cut is closed and the tree at it is sound.
+pub fn lists_keep()
+    ensures { ListsKeep }
 {}

@@ -1,6 +1,10 @@
 //! What an fsync flushes: cuts of a history, their rules, and what is proved of them.
 #![tactic(auto)]
 
+mod cut;
 mod laws;
 
-pub use laws::{closed_cuts_are_sound, directories_are_cut, files_are_cut, fsyncs_keep};
+pub use cut::Cut;
+pub use laws::{
+    closed_cuts_are_sound, directories_are_cut, files_are_cut, fsyncs_keep, lists_keep,
+};
