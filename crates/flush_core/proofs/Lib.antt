@@ -12,3 +12,4 @@ pub mod Lives
 pub mod Commit
 pub mod Stamps
 pub mod Lists
+pub mod Covered

@@ -9,6 +9,7 @@ use Rattle.sfs_tree.specs.Changes.{rows_at, bytes_at}
 use Rattle.sfs_tree.specs.Laws.{IsSoundTree}
 use Rattle.flush_core.specs.Cut.{Cut, cut_of, tree_at_cut}
 use Rattle.flush_core.specs.Rules.{IsClosed}
+use Rattle.flush_core.specs.Covers.{ArePlaced, IsThere, Covers}
 use Rattle.flush_core.specs.Closure.{Flush, IsRaised, AreInodesAfter, IsKept, AreFlushed}
 
 -- In the tree at a cut a directory has its rows at its own stamp.
@@ -36,3 +37,8 @@ pub record KeepsAll (first : TreeState) (history : List Entry) (cut : Cut) (inod
 
 abbrev pub ListsKeep : Type 0
 ListsKeep = (first : TreeState) (history : List Entry) (flushes : List Flush) (cut : Cut) (inodes : ℕ → Bool) → IsSoundTree first → IsLegal first history → AreFlushed first history flushes cut inodes → KeepsAll first history cut inodes
+
+-- An fsync of a node that is there covers itself and leaves covered what was, where each node with an inode is placed; and each is again.
+abbrev pub FsyncsCover : Type 0
+FsyncsCover = (first : TreeState) (history : List Entry) (cut raised : Cut) (inodes after : ℕ → Bool) (flush : Flush) → IsSoundTree first → IsLegal first history
+    → ArePlaced first history cut inodes → IsThere first history flush → IsRaised first history cut inodes flush raised → AreInodesAfter first history cut inodes flush raised after → Covers first history cut raised after flush

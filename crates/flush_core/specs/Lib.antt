@@ -1,4 +1,5 @@
 pub mod Closure
+pub mod Covers
 pub mod Cut
 pub mod Laws
 pub mod Rules

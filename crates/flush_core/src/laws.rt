@@ -1,5 +1,5 @@
 // What is proved of cuts: each function's contract is a law.
-ghost use Rattle.flush_core.specs.Laws.{ClosedCutsAreSound, DirectoriesAreCut, FilesAreCut, FsyncsKeep, ListsKeep};
+ghost use Rattle.flush_core.specs.Laws.{ClosedCutsAreSound, DirectoriesAreCut, FilesAreCut, FsyncsCover, FsyncsKeep, ListsKeep};
 
 /// In the tree at a cut a directory has its rows at its own stamp.
 pub fn directories_are_cut()
@@ -19,6 +19,11 @@ pub fn closed_cuts_are_sound()
 /// An fsync keeps the cut closed, and each directory with an inode has its making below its birth place's cut.
 pub fn fsyncs_keep()
     ensures { FsyncsKeep }
+{}
+
+/// An fsync is covered by the cut that it leaves, and so is what was covered before.
+pub fn fsyncs_cover()
+    ensures { FsyncsCover }
 {}
 
 /// After any list of fsyncs the cut is closed and the tree at it is sound.

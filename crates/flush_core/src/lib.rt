@@ -6,5 +6,6 @@ mod laws;
 
 pub use cut::Cut;
 pub use laws::{
-    closed_cuts_are_sound, directories_are_cut, files_are_cut, fsyncs_keep, lists_keep,
+    closed_cuts_are_sound, directories_are_cut, files_are_cut, fsyncs_cover, fsyncs_keep,
+    lists_keep,
 };
