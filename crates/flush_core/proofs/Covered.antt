@@ -1,0 +1,156 @@
+-- An fsync is covered by the cut that it leaves.
+use Rattle.std.proofs.Common.{◌≡◌, ℕ, ◌<◌, ◌≤◌, Bool, true, false, cond, List, [], ◌∷◌, take, Some, None, IsSome, ◌⊎◌, inl, inr, refl, sym, subst, arith}
+use borrow.Author.Tests.{ltb-true}
+use Rattle.std.specs.Prelude.{filter, fold}
+use Rattle.std.proofs.Math.Nat.{le-max_left, le-max_right}
+use Rattle.std.specs.FinMap.{FinMap, get, insert, remove}
+use Rattle.sfs_tree.specs.declared.history.Entry.{Entry}
+use Rattle.sfs_tree.specs.Order.{key_cmp}
+use Rattle.sfs_tree.specs.Tree.{TreeState}
+use Rattle.sfs_tree.specs.Effect.{Effect}
+use Rattle.sfs_tree.specs.Changes.{RowChange, added, changes_by, changes_of}
+use Rattle.sfs_tree.specs.History.{tree_after, IsLegal}
+use Rattle.sfs_tree.specs.Laws.{IsSoundTree}
+use Rattle.sfs_tree.proofs.RowFacts.{added_cases, removed_cases}
+use Rattle.flush_core.specs.Cut.{Cut, cut_of, is_within, with_own, rows_at_cut}
+use Rattle.flush_core.specs.Rules.{IsOneOf, Birth, births_of}
+use Rattle.flush_core.specs.Closure.{Flush, HasNaming, Closure, itself, birth_place, IsRaised, AreInodesAfter}
+use Rattle.flush_core.specs.Covers.{IsPlaced, IsCovered, ArePlaced, IsThere}
+use Rattle.flush_core.specs.Laws.{FsyncsCover}
+use Rattle.flush_core.proofs.Runs.{below_or}
+use Rattle.flush_core.proofs.Along.{tree_at, tree_at-after, run_of, change_in}
+use Rattle.flush_core.proofs.Lives.{no_node_yet}
+use Rattle.flush_core.proofs.Commit.{IsBornAt, birth_at}
+
+-- a change of a list that passes a test and places a node
+record IsFrom (w : RowChange → Bool) (cs : List RowChange) (x : ℕ) : Type 0 where
+  change : RowChange
+  one : IsOneOf cs change
+  passes : w change ≡ true
+  places : change.places ≡ true
+  child : change.child ≡ x
+
+further : (w : RowChange → Bool) (c : RowChange) (cs : List RowChange) (x : ℕ) → IsFrom w cs x → IsFrom w (c ∷ cs) x
+further w c cs x f = record { change = f.change; one = inr f.one; passes = f.passes; places = f.places; child = f.child }
+
+by_one : (d : ℕ) (n : List ℕ) (rows : FinMap key_cmp ℕ) (c : RowChange) (x : ℕ) → get (with_own rows c) (d, n) ≡ Some x → (get rows (d, n) ≡ Some x) ⊎ ((c.places ≡ true) × (c.child ≡ x))
+by_one d n rows c x row =
+    elim c.places as (λ b. get (cond b (insert rows (c.directory, c.name) c.child) (remove rows (c.directory, c.name))) (d, n) ≡ Some x → (get rows (d, n) ≡ Some x) ⊎ ((b ≡ true) × (c.child ≡ x))) [
+      | true ↦ λ r. elim (added_cases rows d c.directory n c.name c.child x r) [ inl new ↦ inr (refl, sym new.2) | inr old ↦ inl old.1 ]
+      | false ↦ λ r. inl (removed_cases rows d c.directory n c.name x r).1
+    ] row
+
+-- a row was there, or a change placed it
+from_rows : (w : RowChange → Bool) (cs : List RowChange) (d : ℕ) (n : List ℕ) (rows : FinMap key_cmp ℕ) (x : ℕ) → get (fold with_own rows (filter w cs)) (d, n) ≡ Some x → (get rows (d, n) ≡ Some x) ⊎ IsFrom w cs x
+from_rows w [] d n rows x row = inl row
+from_rows w (c ∷ cs) d n rows x row =
+    elim (w c) as (λ b. w c ≡ b → get (fold with_own rows (cond b (c ∷ filter w cs) (filter w cs))) (d, n) ≡ Some x → (get rows (d, n) ≡ Some x) ⊎ IsFrom w (c ∷ cs) x) [
+      | true ↦ λ t r. elim (from_rows w cs d n (with_own rows c) x r) [
+        | inl there ↦ elim (by_one d n rows c x there) [
+          | inl before ↦ inl before
+          | inr here ↦ inr (record { change = c; one = inl refl; passes = t; places = here.0; child = here.1 })
+        ]
+        | inr f ↦ inr (further w c cs x f)
+      ]
+      | false ↦ λ _ r. elim (from_rows w cs d n rows x r) [ inl there ↦ inl there | inr f ↦ inr (further w c cs x f) ]
+    ] refl row
+
+module _ (first : TreeState) (history : List Entry) (is : IsSoundTree first) (legal : IsLegal first history) (cut : Cut) (inodes : ℕ → Bool) (flush : Flush) (raised : Cut) (placed : ArePlaced first history cut inodes) (there : IsThere first history flush) (raise : IsRaised first history cut inodes flush raised) where
+  low : (d : ℕ) → cut_of cut d ≤ cut_of raised d
+  low d = elim (raise.other d) [
+    | inl member ↦ let e = raise.member d member in let le = le-max_left (cut_of cut d) flush.stamp in omega arith
+    | inr e ↦ omega arith
+  ]
+
+  member_low : (d : ℕ) → Closure first history cut inodes flush d → flush.stamp ≤ cut_of raised d
+  member_low d member = let e = raise.member d member in let le = le-max_right (cut_of cut d) flush.stamp in omega arith
+
+  up : (node : ℕ) → IsPlaced first history cut node → IsPlaced first history raised node
+  up node p = record { change = p.change; is_change = p.is_change; places = p.places; child = p.child; within = let lt = p.within in let le = low p.change.directory in omega arith }
+
+  -- the making of a node is a change that places it
+  by_birth : (birth : Birth) → IsOneOf (births_of first history) birth → birth.stamp < cut_of raised birth.directory → IsPlaced first history raised birth.node
+  by_birth birth one lt = record {
+    change = added birth.stamp birth.directory born.name birth.node None;
+    is_change = change_in first history birth.stamp (added birth.stamp birth.directory born.name birth.node None) legal (subst (λ (f : Effect). IsOneOf (changes_by (tree_at first history birth.stamp) birth.stamp f) (added birth.stamp birth.directory born.name birth.node None)) (sym born.adds) (inl refl));
+    places = refl;
+    child = refl;
+    within = lt;
+  }
+    where
+      born : IsBornAt first history birth birth.stamp
+      born = birth_at first history birth legal one
+
+  -- the fsync's own node is placed, with an inode or without
+  own_without : (birth : Birth) → IsOneOf (births_of first history) birth → birth.node ≡ flush.node → inodes birth.node ≡ false → IsPlaced first history raised birth.node
+  own_without birth one same out = elim (below_or birth.stamp (cut_of raised birth.directory)) [
+    | inl lt ↦ by_birth birth one lt
+    | inr le ↦
+        let naming : HasNaming first history cut birth.node = record {
+          change = added birth.stamp birth.directory born.name birth.node None;
+          is_change = change_in first history birth.stamp (added birth.stamp birth.directory born.name birth.node None) legal (subst (λ (f : Effect). IsOneOf (changes_by (tree_at first history birth.stamp) birth.stamp f) (added birth.stamp birth.directory born.name birth.node None)) (sym born.adds) (inl refl));
+          child = refl;
+          unflushed = let lower = low birth.directory in omega arith;
+        } in
+        let most = member_low birth.directory (birth_place birth (subst (λ (y : ℕ). Closure first history cut inodes flush y) (sym same) itself) one out naming) in
+        let earlier = made_before in
+        by_birth birth one (omega arith)
+  ]
+    where
+      born : IsBornAt first history birth birth.stamp
+      born = birth_at first history birth legal one
+
+      made_before : birth.stamp < flush.stamp
+      made_before = elim (below_or birth.stamp flush.stamp) [
+        | inl lt ↦ lt
+        | inr le ↦ absurd (no_node_yet (run_of first history is legal) birth.stamp birth.directory born.name birth.node born.kind born.adds born.made flush.stamp le (subst (λ (tree : TreeState). IsSome (get tree.nodes birth.node)) (sym (tree_at-after first history flush.stamp)) (subst (λ (y : ℕ). IsSome (get (tree_after first (take flush.stamp history)).nodes y)) (sym same) there)))
+      ]
+
+  own_placed : (birth : Birth) → IsOneOf (births_of first history) birth → birth.node ≡ flush.node → IsPlaced first history raised birth.node
+  own_placed birth one same = elim (inodes birth.node) as (λ b. inodes birth.node ≡ b → IsPlaced first history raised birth.node) [
+    | true ↦ λ e. up birth.node (placed birth one e)
+    | false ↦ λ e. own_without birth one same e
+  ] refl
+
+  -- a node that a row at the raised cut names is placed
+  row_placed : (birth : Birth) → IsOneOf (births_of first history) birth → (d : ℕ) (n : List ℕ) → get (rows_at_cut first history raised) (d, n) ≡ Some birth.node → IsPlaced first history raised birth.node
+  row_placed birth one d n row = elim (from_rows (is_within raised) (changes_of first history) d n first.rows birth.node row) [
+    | inl before ↦ absurd (no_node_yet (run_of first history is legal) birth.stamp birth.directory born.name birth.node born.kind born.adds born.made 0 (omega arith) (at_first history (is.sound.node d n birth.node before)))
+    | inr f ↦ record { change = f.change; is_change = f.one; places = f.places; child = f.child; within = ltb-true _ _ f.passes }
+  ]
+    where
+      born : IsBornAt first history birth birth.stamp
+      born = birth_at first history birth legal one
+
+      at_first : (h : List Entry) → IsSome (get first.nodes birth.node) → IsSome (get (tree_at first h 0).nodes birth.node)
+      at_first [] some = some
+      at_first (e ∷ h) some = some
+
+  all_placed : (after : ℕ → Bool) → AreInodesAfter first history cut inodes flush raised after → ArePlaced first history raised after
+  all_placed after sets birth one has =
+      elim (inodes birth.node) as (λ b. inodes birth.node ≡ b → IsPlaced first history raised birth.node) [
+        | true ↦ λ e. up birth.node (placed birth one e)
+        | false ↦ λ e. elim ((sets.enters birth.node e).0 has).1 [
+          | inl named ↦ row_placed birth one named.directory named.name named.row
+          | inr file ↦ own_placed birth one file.0
+        ]
+      ] refl
+
+  own_covered : IsCovered first history raised flush
+  own_covered = record {
+    stamp = member_low flush.node itself;
+    placed = λ birth one same. subst (λ (y : ℕ). IsPlaced first history raised y) same (own_placed birth one same);
+  }
+
+  still_covered : (other : Flush) → IsCovered first history cut other → IsCovered first history raised other
+  still_covered other c = record {
+    stamp = let before = c.stamp in let le = low other.node in omega arith;
+    placed = λ birth one same. up other.node (c.placed birth one same);
+  }
+
+pub fsyncs_cover : FsyncsCover
+fsyncs_cover first history cut raised inodes after flush is legal placed there raise sets = record {
+  own = own_covered first history is legal cut inodes flush raised placed there raise;
+  earlier = still_covered first history is legal cut inodes flush raised placed there raise;
+  placed = all_placed first history is legal cut inodes flush raised placed there raise after sets;
+}

@@ -1,0 +1,57 @@
+-- A list of fsyncs, from the cut 0 and the nodes of the first tree.
+use Rattle.std.proofs.Common.{◌≡◌, ℕ, ◌<◌, Bool, true, List, [], ◌∷◌, Option, Some, None, IsSome, is_some, refl, sym, ap, ◌∙◌, arith}
+use Rattle.std.specs.Option.{unwrap_or}
+use Rattle.std.specs.Ordering.{nat_cmp}
+use Rattle.std.specs.FinMap.{get, empty, get-empty}
+use Rattle.sfs_tree.specs.declared.history.Entry.{Entry}
+use Rattle.sfs_tree.specs.Tree.{TreeState, Node}
+use Rattle.sfs_tree.specs.History.{IsLegal}
+use Rattle.sfs_tree.specs.Laws.{IsSoundTree}
+use Rattle.flush_core.specs.Cut.{Cut, cut_of}
+use Rattle.flush_core.specs.Rules.{IsClosed}
+use Rattle.flush_core.specs.Closure.{Flush, AreFlushed, none, one_more, IsKept}
+use Rattle.flush_core.specs.Laws.{ListsKeep}
+use Rattle.flush_core.proofs.Along.{tree_at, run_of}
+use Rattle.flush_core.proofs.Closed.{closed_cuts_are_sound}
+use Rattle.flush_core.proofs.Lives.{no_node_yet}
+use Rattle.flush_core.proofs.Commit.{birth_at, fsyncs_keep}
+
+-- nothing lies below the cut 0
+nothing_within : {P : Type 0} (t d : ℕ) → t < cut_of empty d → P
+nothing_within t d lt = absurd (no_less (ap (λ o. unwrap_or o 0) (get-empty nat_cmp d)) lt)
+  where
+    no_less : cut_of empty d ≡ 0 → t < cut_of empty d → ⊥
+    no_less e lt = omega arith
+
+empty_closed : (first : TreeState) (history : List Entry) → IsClosed first history empty
+empty_closed first history = record {
+  renames = λ change other one two within. nothing_within change.stamp change.directory within;
+  removals = λ change own one ends within own_is same. nothing_within change.stamp change.directory within;
+  births = λ birth own one own_is same within. nothing_within own.stamp own.directory within;
+  ancestors = λ change above node holder name last move within way among row placing. nothing_within change.stamp change.directory within;
+}
+
+first_kept : (first : TreeState) (history : List Entry) (inodes : ℕ → Bool) → IsSoundTree first → IsLegal first history → ((node : ℕ) → inodes node ≡ is_some (get first.nodes node)) → IsKept first history empty inodes
+first_kept first history inodes is legal same = record {
+  closed = empty_closed first history;
+  born = λ birth one has kind.
+      let born = birth_at first history birth legal one in
+      absurd (no_node_yet (run_of first history is legal) birth.stamp birth.directory born.name birth.node born.kind born.adds born.made 0 (omega arith) (at_first history birth.node (some (get first.nodes birth.node) (sym (same birth.node) ∙ has))));
+}
+  where
+    some : (o : Option Node) → is_some o ≡ true → IsSome o
+    some (Some x) e = refl
+    some None e = cc
+
+    at_first : (h : List Entry) (x : ℕ) → IsSome (get first.nodes x) → IsSome (get (tree_at first h 0).nodes x)
+    at_first [] x some = some
+    at_first (e ∷ h) x some = some
+
+all_kept : (first : TreeState) (history : List Entry) → IsSoundTree first → IsLegal first history → {flushes : List Flush} {cut : Cut} {inodes : ℕ → Bool} → AreFlushed first history flushes cut inodes → IsKept first history cut inodes
+all_kept first history is legal (none inodes same) = first_kept first history inodes is legal same
+all_kept first history is legal (one_more flushes flush cut raised inodes after before raise sets) = fsyncs_keep first history cut raised inodes after flush is legal (all_kept first history is legal before) raise sets
+
+pub lists_keep : ListsKeep
+lists_keep first history flushes cut inodes is legal flushed =
+    let kept = all_kept first history is legal flushed in
+    record { kept = kept; sound = closed_cuts_are_sound first history cut is legal kept.closed }

@@ -1,0 +1,32 @@
+// What is proved of cuts: each function's contract is a law.
+ghost use Rattle.flush_core.specs.Laws.{ClosedCutsAreSound, DirectoriesAreCut, FilesAreCut, FsyncsCover, FsyncsKeep, ListsKeep};
+
+/// In the tree at a cut a directory has its rows at its own stamp.
+pub fn directories_are_cut()
+    ensures { DirectoriesAreCut }
+{}
+
+/// In the tree at a cut each node has its bytes at its own stamp.
+pub fn files_are_cut()
+    ensures { FilesAreCut }
+{}
+
+/// A closed cut gives a sound tree.
+pub fn closed_cuts_are_sound()
+    ensures { ClosedCutsAreSound }
+{}
+
+/// An fsync keeps the cut closed, and each directory with an inode has its making below its birth place's cut.
+pub fn fsyncs_keep()
+    ensures { FsyncsKeep }
+{}
+
+/// An fsync is covered by the cut that it leaves, and so is what was covered before.
+pub fn fsyncs_cover()
+    ensures { FsyncsCover }
+{}
+
+/// After any list of fsyncs the cut is closed and the tree at it is sound.
+pub fn lists_keep()
+    ensures { ListsKeep }
+{}

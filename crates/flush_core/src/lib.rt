@@ -1,0 +1,11 @@
+//! What an fsync flushes: cuts of a history, their rules, and what is proved of them.
+#![tactic(auto)]
+
+mod cut;
+mod laws;
+
+pub use cut::Cut;
+pub use laws::{
+    closed_cuts_are_sound, directories_are_cut, files_are_cut, fsyncs_cover, fsyncs_keep,
+    lists_keep,
+};
