@@ -1,10 +1,12 @@
-//! The tree of one thread, its history, and the script with its texts, with values worked out by hand.
+//! The tree of one thread, its history, cuts, and the script with its texts, with values worked out by hand.
 #![tactic(auto)]
 
 #[cfg(test)]
 mod calls;
 #[cfg(test)]
 mod copies;
+#[cfg(test)]
+mod cuts;
 #[cfg(test)]
 mod histories;
 #[cfg(test)]
