@@ -1,5 +1,5 @@
 -- A list of fsyncs, from the cut 0 and the nodes of the first tree.
-use Rattle.std.proofs.Common.{◌≡◌, ℕ, ◌<◌, Bool, true, List, [], ◌∷◌, Option, Some, None, IsSome, is_some, refl, sym, ap, ◌∙◌, arith}
+use Rattle.std.proofs.Common.{◌≡◌, ℕ, ◌<◌, Bool, true, List, [], ◌∷◌, Option, Some, None, IsSome, is_some, inl, inr, refl, sym, ap, subst, ◌∙◌, arith}
 use Rattle.std.specs.Option.{unwrap_or}
 use Rattle.std.specs.Ordering.{nat_cmp}
 use Rattle.std.specs.FinMap.{get, empty, get-empty}
@@ -8,10 +8,12 @@ use Rattle.sfs_tree.specs.Tree.{TreeState, Node}
 use Rattle.sfs_tree.specs.History.{IsLegal}
 use Rattle.sfs_tree.specs.Laws.{IsSoundTree}
 use Rattle.flush_core.specs.Cut.{Cut, cut_of}
-use Rattle.flush_core.specs.Rules.{IsClosed}
+use Rattle.flush_core.specs.Rules.{IsClosed, IsOneOf}
+use Rattle.flush_core.specs.Covers.{ArePlaced, IsCovered, IsThere}
 use Rattle.flush_core.specs.Closure.{Flush, AreFlushed, none, one_more, IsKept}
-use Rattle.flush_core.specs.Laws.{ListsKeep}
-use Rattle.flush_core.proofs.Along.{tree_at, run_of}
+use Rattle.flush_core.specs.Laws.{ListsCover, ListsKeep}
+use Rattle.flush_core.proofs.Along.{tree_at, run_of, in_left, in_right, in_either}
+use Rattle.flush_core.proofs.Covered.{fsyncs_cover}
 use Rattle.flush_core.proofs.Closed.{closed_cuts_are_sound}
 use Rattle.flush_core.proofs.Lives.{no_node_yet}
 use Rattle.flush_core.proofs.Commit.{birth_at, fsyncs_keep}
@@ -55,3 +57,40 @@ pub lists_keep : ListsKeep
 lists_keep first history flushes cut inodes is legal flushed =
     let kept = all_kept first history is legal flushed in
     record { kept = kept; sound = closed_cuts_are_sound first history cut is legal kept.closed }
+
+first_placed : (first : TreeState) (history : List Entry) (inodes : ℕ → Bool) → IsSoundTree first → IsLegal first history → ((node : ℕ) → inodes node ≡ is_some (get first.nodes node)) → ArePlaced first history empty inodes
+first_placed first history inodes is legal same birth one has =
+    let born = birth_at first history birth legal one in
+    absurd (no_node_yet (run_of first history is legal) birth.stamp birth.directory born.name birth.node born.kind born.adds born.made 0 (omega arith) (at_first history birth.node (some (get first.nodes birth.node) (sym (same birth.node) ∙ has))))
+  where
+    some : (o : Option Node) → is_some o ≡ true → IsSome o
+    some (Some x) e = refl
+    some None e = cc
+
+    at_first : (h : List Entry) (x : ℕ) → IsSome (get first.nodes x) → IsSome (get (tree_at first h 0).nodes x)
+    at_first [] x some = some
+    at_first (e ∷ h) x some = some
+
+-- what a list of fsyncs leaves: nodes with an inode are placed, and each fsync of the list is covered
+record AreCovered (first : TreeState) (history : List Entry) (flushes : List Flush) (cut : Cut) (inodes : ℕ → Bool) : Type 0 where
+  placed : ArePlaced first history cut inodes
+  each : (flush : Flush) → IsOneOf flushes flush → IsCovered first history cut flush
+
+all_covered : (first : TreeState) (history : List Entry) → IsSoundTree first → IsLegal first history → {flushes : List Flush} {cut : Cut} {inodes : ℕ → Bool} → AreFlushed first history flushes cut inodes → ((flush : Flush) → IsOneOf flushes flush → IsThere first history flush) → AreCovered first history flushes cut inodes
+all_covered first history is legal (none inodes same) there = record { placed = first_placed first history inodes is legal same; each = λ flush one. absurd one }
+all_covered first history is legal (one_more flushes flush cut raised inodes after before raise sets) there =
+    let was = all_covered first history is legal before (λ other one. there other (in_left flushes (flush ∷ []) other one)) in
+    let now = fsyncs_cover first history cut raised inodes after flush is legal was.placed (there flush (in_right flushes (flush ∷ []) flush (inl refl))) raise sets in
+    record {
+      placed = now.placed;
+      each = λ other one. elim (in_either flushes (flush ∷ []) other one) [
+        | inl old ↦ now.earlier other (was.each other old)
+        | inr new ↦ elim new [
+          | inl e ↦ subst (λ (f : Flush). IsCovered first history raised f) e now.own
+          | inr nothing ↦ absurd nothing
+        ]
+      ];
+    }
+
+pub lists_cover : ListsCover
+lists_cover first history flushes cut inodes is legal flushed there flush one = (all_covered first history is legal flushed there).each flush one

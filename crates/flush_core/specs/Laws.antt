@@ -8,8 +8,8 @@ use Rattle.sfs_tree.specs.History.{tree_after, IsLegal}
 use Rattle.sfs_tree.specs.Changes.{rows_at, bytes_at}
 use Rattle.sfs_tree.specs.Laws.{IsSoundTree}
 use Rattle.flush_core.specs.Cut.{Cut, cut_of, tree_at_cut}
-use Rattle.flush_core.specs.Rules.{IsClosed}
-use Rattle.flush_core.specs.Covers.{ArePlaced, IsThere, Covers}
+use Rattle.flush_core.specs.Rules.{IsClosed, IsOneOf}
+use Rattle.flush_core.specs.Covers.{ArePlaced, IsCovered, IsThere, Covers}
 use Rattle.flush_core.specs.Closure.{Flush, IsRaised, AreInodesAfter, IsKept, AreFlushed}
 
 -- In the tree at a cut a directory has its rows at its own stamp.
@@ -42,3 +42,8 @@ ListsKeep = (first : TreeState) (history : List Entry) (flushes : List Flush) (c
 abbrev pub FsyncsCover : Type 0
 FsyncsCover = (first : TreeState) (history : List Entry) (cut raised : Cut) (inodes after : ℕ → Bool) (flush : Flush) → IsSoundTree first → IsLegal first history
     → ArePlaced first history cut inodes → IsThere first history flush → IsRaised first history cut inodes flush raised → AreInodesAfter first history cut inodes flush raised after → Covers first history cut raised after flush
+
+-- After a list of fsyncs of nodes that are there, each of them is covered.
+abbrev pub ListsCover : Type 0
+ListsCover = (first : TreeState) (history : List Entry) (flushes : List Flush) (cut : Cut) (inodes : ℕ → Bool) → IsSoundTree first → IsLegal first history → AreFlushed first history flushes cut inodes
+    → ((flush : Flush) → IsOneOf flushes flush → IsThere first history flush) → (flush : Flush) → IsOneOf flushes flush → IsCovered first history cut flush

@@ -1,5 +1,5 @@
 // What is proved of cuts: each function's contract is a law.
-ghost use Rattle.flush_core.specs.Laws.{ClosedCutsAreSound, DirectoriesAreCut, FilesAreCut, FsyncsCover, FsyncsKeep, ListsKeep};
+ghost use Rattle.flush_core.specs.Laws.{ClosedCutsAreSound, DirectoriesAreCut, FilesAreCut, FsyncsCover, FsyncsKeep, ListsCover, ListsKeep};
 
 /// In the tree at a cut a directory has its rows at its own stamp.
 pub fn directories_are_cut()
@@ -29,4 +29,9 @@ pub fn fsyncs_cover()
 /// After any list of fsyncs the cut is closed and the tree at it is sound.
 pub fn lists_keep()
     ensures { ListsKeep }
+{}
+
+/// After a list of fsyncs each of them is covered.
+pub fn lists_cover()
+    ensures { ListsCover }
 {}

@@ -7,5 +7,5 @@ mod laws;
 pub use cut::Cut;
 pub use laws::{
     closed_cuts_are_sound, directories_are_cut, files_are_cut, fsyncs_cover, fsyncs_keep,
-    lists_keep,
+    lists_cover, lists_keep,
 };
