@@ -1,4 +1,4 @@
-//! The program: `scalefs IMAGE run` runs the script on standard input over a disk in memory, and
+//! The program: `scalefs IMAGE run [NODES]` runs the script on standard input over a disk in memory, and
 //! writes the text of its history to standard output.
 #![tactic(auto)]
 
@@ -17,16 +17,15 @@ fn main(rt: HostRuntime) -> io::Result<ExitCode> {
     let alloc = rt.alloc();
     let mut source = StdSource::new(rt.reader());
     let mut sink = StdSink::new(io::writer(&rt));
-    let words: Option<Vec<String>> = match env::args(&rt) {
-        Ok(args) => args.collect(alloc).ok(),
-        Err(_) => None,
-    };
-    let status = match &words {
-        Some(words) => match command_words(words) {
-            Some(words) => answer(&rt, alloc, BLOCKS, words, &mut source, &mut sink),
-            None => Status::BadWords { place: 0 },
+    let status = match env::args(&rt) {
+        Ok(args) => match args.collect::<Vec<String>>(alloc) {
+            Ok(words) => match command_words(&words) {
+                Some(words) => answer(&rt, alloc, BLOCKS, words, &mut source, &mut sink),
+                None => Status::BadWords { place: 0 },
+            },
+            Err(_) => Status::NoMemory,
         },
-        None => Status::BadWords { place: 0 },
+        Err(error) => fault_of(&error),
     };
     if status != Status::Done {
         if let Ok(line) = status_line(alloc, &status) {
@@ -34,4 +33,13 @@ fn main(rt: HostRuntime) -> io::Result<ExitCode> {
         }
     }
     Ok(ExitCode::from(status.number()))
+}
+
+// The status of words that can't be had: memory was refused, or one is not UTF-8.
+fn fault_of(error: &io::Error) -> Status {
+    if error.kind() == io::ErrorKind::OutOfMemory {
+        Status::NoMemory
+    } else {
+        Status::BadWords { place: 0 }
+    }
 }
