@@ -95,17 +95,6 @@ fn written(alloc: Global, file: u32, at: u64, bytes: &str) -> Result<Call, Fail>
     }
 }
 
-fn linked(alloc: Global, file: u32, dir: u32, name: &str) -> Result<Call, Fail>
-    ensures { IfOk result (λ call. IsReadable call) }
-{
-    let (dir, name) = named(alloc, dir, name)?;
-    Ok(Call::Link {
-        file: NodeId(file),
-        dir,
-        name,
-    })
-}
-
 // The call that is asked.
 fn call_of(alloc: Global, asked: &Asked) -> Result<Call, Fail>
     ensures { IfOk result (λ call. IsReadable call) }
@@ -117,7 +106,14 @@ fn call_of(alloc: Global, asked: &Asked) -> Result<Call, Fail>
         }
         Asked::Create(dir, name) => made(alloc, dir, name, Kind::File),
         Asked::Mkdir(dir, name) => made(alloc, dir, name, Kind::Directory),
-        Asked::Link(file, dir, name) => linked(alloc, file, dir, name),
+        Asked::Link(file, dir, name) => {
+            let (dir, name) = named(alloc, dir, name)?;
+            Ok(Call::Link {
+                file: NodeId(file),
+                dir,
+                name,
+            })
+        }
         Asked::Unlink(dir, name) => {
             let (dir, name) = named(alloc, dir, name)?;
             Ok(Call::Unlink { dir, name })
