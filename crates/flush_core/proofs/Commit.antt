@@ -17,7 +17,7 @@ use Rattle.sfs_tree.proofs.KeepsNodes.{directory_node}
 use Rattle.sfs_tree.proofs.FileHistories.{histories_keep_sound}
 use Rattle.flush_core.specs.Cut.{Cut, cut_of, IsWithin, rows_at_cut}
 use Rattle.flush_core.specs.Rules.{IsOneOf, IsChange, Birth, births_by, births_of, IsLastPlacing, IsMove, IsClosed}
-use Rattle.flush_core.specs.Closure.{Flush, InSpan, Closure, other_side, ended, ancestor, birth_place, IsRaised, AreInodesAfter, AreBorn, IsKept}
+use Rattle.flush_core.specs.Closure.{every_entry, Flush, InSpan, Closure, other_side, ended, ancestor, birth_place, IsRaised, AreInodesAfter, AreBorn, IsKept}
 use Rattle.flush_core.specs.Laws.{FsyncsKeep}
 use Rattle.flush_core.proofs.Runs.{Run, Made, below_or}
 use Rattle.flush_core.proofs.Along.{tree_at, effect_at, makes_at, tree_at-after, run_of, change_in, change_of, in_either, nodes_at}
@@ -71,12 +71,12 @@ birth_at first history birth legal one =
     zero_plus : (n : ℕ) → 0 + n ≡ n
     zero_plus n = omega arith
 
-module _ (first : TreeState) (history : List Entry) (is : IsSoundTree first) (legal : IsLegal first history) (cut : Cut) (inodes : ℕ → Bool) (flush : Flush) (raised : Cut) (kept : IsKept first history cut inodes) (raise : IsRaised first history cut inodes flush raised) where
+module _ (first : TreeState) (history : List Entry) (is : IsSoundTree first) (legal : IsLegal first history) (cut : Cut) (inodes : ℕ → Bool) (flush : Flush) (raised : Cut) (kept : IsKept first history cut inodes) (raise : IsRaised first history every_entry cut inodes flush raised) where
   abbrev run : Run
   run = run_of first history is legal
 
   abbrev Member : ℕ → Type 0
-  Member node = Closure first history cut inodes flush node
+  Member node = Closure first history every_entry cut inodes flush node
 
   made : (x : RowChange) → IsChange first history x → Made run x.stamp x
   made x one = change_of first history x legal one
@@ -111,8 +111,8 @@ module _ (first : TreeState) (history : List Entry) (is : IsSoundTree first) (le
         | inr more ↦ absurd (no_less (subst (λ (k : ℕ). t < k) e lt) (max-le le more))
       ]
 
-  span : (x : RowChange) → IsChange first history x → cut_of cut x.directory ≤ x.stamp → x.stamp < flush.stamp → InSpan first history cut flush.stamp x
-  span x one from lt = record { is_change = one; from = from; below = lt }
+  span : (x : RowChange) → IsChange first history x → cut_of cut x.directory ≤ x.stamp → x.stamp < flush.stamp → InSpan first history every_entry cut flush.stamp x
+  span x one from lt = record { is_change = one; counted = refl; from = from; below = lt }
 
   -- a directory with a change is one of the last tree
   kind_of_own : (own : RowChange) → IsChange first history own → is_directory (tree_after first history) own.directory ≡ true
@@ -125,7 +125,7 @@ module _ (first : TreeState) (history : List Entry) (is : IsSoundTree first) (le
   makes_up birth own one own_is same member none lt =
       elim (below_or birth.stamp (cut_of cut birth.directory)) [
         | inl less ↦ up birth.stamp birth.directory less
-        | inr le ↦ member_up birth.stamp birth.directory (birth_place birth member one none (record { change = naming; is_change = naming_is; child = refl; unflushed = le })) (earlier birth.stamp own.stamp (born_before run birth.stamp birth.directory born.name birth.node born.kind born.adds born.made own.stamp own (made own own_is) same) lt)
+        | inr le ↦ member_up birth.stamp birth.directory (birth_place birth member one none (record { change = naming; is_change = naming_is; counted = refl; child = refl; unflushed = le })) (earlier birth.stamp own.stamp (born_before run birth.stamp birth.directory born.name birth.node born.kind born.adds born.made own.stamp own (made own own_is) same) lt)
       ]
     where
       born : IsBornAt first history birth birth.stamp
@@ -189,7 +189,7 @@ module _ (first : TreeState) (history : List Entry) (is : IsSoundTree first) (le
       named_born run (cut_of raised) (seen_of first history is legal raised) (keeps_of first history is legal raised closed_raised) birth.node birth.stamp birth.directory born.name born.kind born.adds born.made (λ t some. sym (nodes_at first history t is legal birth.node some).1 ∙ kind) (length history) d n
       (ap (λ (rows : FinMap key_cmp ℕ). get rows (d, n)) (seen_end first history is legal raised) ∙ row)
 
-  pub born_raised : (after : ℕ → Bool) → AreInodesAfter first history cut inodes flush raised after → AreBorn first history raised after
+  pub born_raised : (after : ℕ → Bool) → AreInodesAfter first history every_entry cut inodes flush raised after → AreBorn first history raised after
   born_raised after sets birth one has kind =
       elim (inodes birth.node) as (λ b. inodes birth.node ≡ b → birth.stamp < cut_of raised birth.directory) [
         | true ↦ λ e. up birth.stamp birth.directory (kept.born birth one e kind)

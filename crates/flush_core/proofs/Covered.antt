@@ -14,7 +14,7 @@ use Rattle.sfs_tree.specs.Laws.{IsSoundTree}
 use Rattle.sfs_tree.proofs.RowFacts.{added_cases, removed_cases}
 use Rattle.flush_core.specs.Cut.{Cut, cut_of, is_within, with_own, rows_at_cut}
 use Rattle.flush_core.specs.Rules.{IsOneOf, Birth, births_of}
-use Rattle.flush_core.specs.Closure.{Flush, HasNaming, Closure, itself, birth_place, IsRaised, AreInodesAfter}
+use Rattle.flush_core.specs.Closure.{every_entry, Flush, HasNaming, Closure, itself, birth_place, IsRaised, AreInodesAfter}
 use Rattle.flush_core.specs.Covers.{IsPlaced, IsCovered, ArePlaced, IsThere}
 use Rattle.flush_core.specs.Laws.{FsyncsCover}
 use Rattle.flush_core.proofs.Runs.{below_or}
@@ -55,14 +55,14 @@ from_rows w (c ∷ cs) d n rows x row =
       | false ↦ λ _ r. elim (from_rows w cs d n rows x r) [ inl there ↦ inl there | inr f ↦ inr (further w c cs x f) ]
     ] refl row
 
-module _ (first : TreeState) (history : List Entry) (is : IsSoundTree first) (legal : IsLegal first history) (cut : Cut) (inodes : ℕ → Bool) (flush : Flush) (raised : Cut) (placed : ArePlaced first history cut inodes) (there : IsThere first history flush) (raise : IsRaised first history cut inodes flush raised) where
+module _ (first : TreeState) (history : List Entry) (is : IsSoundTree first) (legal : IsLegal first history) (cut : Cut) (inodes : ℕ → Bool) (flush : Flush) (raised : Cut) (placed : ArePlaced first history cut inodes) (there : IsThere first history flush) (raise : IsRaised first history every_entry cut inodes flush raised) where
   low : (d : ℕ) → cut_of cut d ≤ cut_of raised d
   low d = elim (raise.other d) [
     | inl member ↦ let e = raise.member d member in let le = le-max_left (cut_of cut d) flush.stamp in omega arith
     | inr e ↦ omega arith
   ]
 
-  member_low : (d : ℕ) → Closure first history cut inodes flush d → flush.stamp ≤ cut_of raised d
+  member_low : (d : ℕ) → Closure first history every_entry cut inodes flush d → flush.stamp ≤ cut_of raised d
   member_low d member = let e = raise.member d member in let le = le-max_right (cut_of cut d) flush.stamp in omega arith
 
   up : (node : ℕ) → IsPlaced first history cut node → IsPlaced first history raised node
@@ -86,13 +86,14 @@ module _ (first : TreeState) (history : List Entry) (is : IsSoundTree first) (le
   own_without birth one same out = elim (below_or birth.stamp (cut_of raised birth.directory)) [
     | inl lt ↦ by_birth birth one lt
     | inr le ↦
-        let naming : HasNaming first history cut birth.node = record {
+        let naming : HasNaming first history every_entry cut birth.node = record {
           change = added birth.stamp birth.directory born.name birth.node None;
           is_change = change_in first history birth.stamp (added birth.stamp birth.directory born.name birth.node None) legal (subst (λ (f : Effect). IsOneOf (changes_by (tree_at first history birth.stamp) birth.stamp f) (added birth.stamp birth.directory born.name birth.node None)) (sym born.adds) (inl refl));
+          counted = refl;
           child = refl;
           unflushed = let lower = low birth.directory in omega arith;
         } in
-        let most = member_low birth.directory (birth_place birth (subst (λ (y : ℕ). Closure first history cut inodes flush y) (sym same) itself) one out naming) in
+        let most = member_low birth.directory (birth_place birth (subst (λ (y : ℕ). Closure first history every_entry cut inodes flush y) (sym same) itself) one out naming) in
         let earlier = made_before in
         by_birth birth one (omega arith)
   ]
@@ -126,7 +127,7 @@ module _ (first : TreeState) (history : List Entry) (is : IsSoundTree first) (le
       at_first [] some = some
       at_first (e ∷ h) some = some
 
-  all_placed : (after : ℕ → Bool) → AreInodesAfter first history cut inodes flush raised after → ArePlaced first history raised after
+  all_placed : (after : ℕ → Bool) → AreInodesAfter first history every_entry cut inodes flush raised after → ArePlaced first history raised after
   all_placed after sets birth one has =
       elim (inodes birth.node) as (λ b. inodes birth.node ≡ b → IsPlaced first history raised birth.node) [
         | true ↦ λ e. up birth.node (placed birth one e)

@@ -10,7 +10,7 @@ use Rattle.sfs_tree.specs.Laws.{IsSoundTree}
 use Rattle.flush_core.specs.Cut.{Cut, cut_of}
 use Rattle.flush_core.specs.Rules.{IsClosed, IsOneOf}
 use Rattle.flush_core.specs.Covers.{ArePlaced, IsCovered, IsThere}
-use Rattle.flush_core.specs.Closure.{Flush, AreFlushed, none, one_more, IsKept}
+use Rattle.flush_core.specs.Closure.{every_entry, Flush, AreFlushed, none, one_more, IsKept}
 use Rattle.flush_core.specs.Laws.{ListsCover, ListsKeep}
 use Rattle.flush_core.proofs.Along.{tree_at, run_of, in_left, in_right, in_either}
 use Rattle.flush_core.proofs.Covered.{fsyncs_cover}
@@ -49,7 +49,7 @@ first_kept first history inodes is legal same = record {
     at_first [] x some = some
     at_first (e ∷ h) x some = some
 
-all_kept : (first : TreeState) (history : List Entry) → IsSoundTree first → IsLegal first history → {flushes : List Flush} {cut : Cut} {inodes : ℕ → Bool} → AreFlushed first history flushes cut inodes → IsKept first history cut inodes
+all_kept : (first : TreeState) (history : List Entry) → IsSoundTree first → IsLegal first history → {flushes : List Flush} {cut : Cut} {inodes : ℕ → Bool} → AreFlushed first history every_entry flushes cut inodes → IsKept first history cut inodes
 all_kept first history is legal (none inodes same) = first_kept first history inodes is legal same
 all_kept first history is legal (one_more flushes flush cut raised inodes after before raise sets) = fsyncs_keep first history cut raised inodes after flush is legal (all_kept first history is legal before) raise sets
 
@@ -76,7 +76,7 @@ record AreCovered (first : TreeState) (history : List Entry) (flushes : List Flu
   placed : ArePlaced first history cut inodes
   each : (flush : Flush) → IsOneOf flushes flush → IsCovered first history cut flush
 
-all_covered : (first : TreeState) (history : List Entry) → IsSoundTree first → IsLegal first history → {flushes : List Flush} {cut : Cut} {inodes : ℕ → Bool} → AreFlushed first history flushes cut inodes → ((flush : Flush) → IsOneOf flushes flush → IsThere first history flush) → AreCovered first history flushes cut inodes
+all_covered : (first : TreeState) (history : List Entry) → IsSoundTree first → IsLegal first history → {flushes : List Flush} {cut : Cut} {inodes : ℕ → Bool} → AreFlushed first history every_entry flushes cut inodes → ((flush : Flush) → IsOneOf flushes flush → IsThere first history flush) → AreCovered first history flushes cut inodes
 all_covered first history is legal (none inodes same) there = record { placed = first_placed first history inodes is legal same; each = λ flush one. absurd one }
 all_covered first history is legal (one_more flushes flush cut raised inodes after before raise sets) there =
     let was = all_covered first history is legal before (λ other one. there other (in_left flushes (flush ∷ []) other one)) in

@@ -1,5 +1,5 @@
 -- Cuts, and the tree at a cut.
-use Rattle.std.specs.Prelude.{ℕ, ◌<◌, Bool, List, nat_lt, filter, fold, map, if◌then◌else◌}
+use Rattle.std.specs.Prelude.{ℕ, ◌<◌, Bool, List, nat_lt, ◌&&◌, filter, fold, map, if◌then◌else◌}
 use Rattle.std.specs.Option.{unwrap_or}
 use Rattle.std.specs.Ordering.{nat_cmp}
 use Rattle.std.specs.FinMap.{FinMap, get, insert, remove, entries, from_sorted}
@@ -33,6 +33,14 @@ with_own rows change =
 -- the rows at a cut: those of the first tree, with each change made that lies below the cut of its directory
 abbrev pub rows_at_cut : TreeState → List Entry → Cut → FinMap key_cmp ℕ
 rows_at_cut first history cut = fold with_own first.rows (filter (is_within cut) (changes_of first history))
+
+-- whether a change is of an entry that counts, and lies below the cut of its directory
+abbrev pub is_counted_within : (ℕ → Bool) → Cut → RowChange → Bool
+is_counted_within counts cut change = counts change.stamp && is_within cut change
+
+-- the rows at a cut where only some entries count, which their stamps tell
+abbrev pub counted_rows_at_cut : TreeState → List Entry → (ℕ → Bool) → Cut → FinMap key_cmp ℕ
+counted_rows_at_cut first history counts cut = fold with_own first.rows (filter (is_counted_within counts cut) (changes_of first history))
 
 -- a node with the bytes that it has at a cut
 abbrev pub node_at_cut : TreeState → List Entry → Cut → ℕ × Node → ℕ × Node

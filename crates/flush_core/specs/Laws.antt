@@ -10,7 +10,7 @@ use Rattle.sfs_tree.specs.Laws.{IsSoundTree}
 use Rattle.flush_core.specs.Cut.{Cut, cut_of, tree_at_cut}
 use Rattle.flush_core.specs.Rules.{IsClosed, IsOneOf}
 use Rattle.flush_core.specs.Covers.{ArePlaced, IsCovered, IsThere, Covers}
-use Rattle.flush_core.specs.Closure.{Flush, IsRaised, AreInodesAfter, IsKept, AreFlushed}
+use Rattle.flush_core.specs.Closure.{every_entry, Flush, IsRaised, AreInodesAfter, IsKept, AreFlushed}
 
 -- In the tree at a cut a directory has its rows at its own stamp.
 abbrev pub DirectoriesAreCut : Type 0
@@ -27,7 +27,7 @@ FilesAreCut = (first : TreeState) (history : List Entry) (cut : Cut) (node : ℕ
 -- An fsync keeps the cut closed, and each directory with an inode has its making below its birth place's cut.
 abbrev pub FsyncsKeep : Type 0
 FsyncsKeep = (first : TreeState) (history : List Entry) (cut raised : Cut) (inodes after : ℕ → Bool) (flush : Flush) → IsSoundTree first → IsLegal first history
-    → IsKept first history cut inodes → IsRaised first history cut inodes flush raised → AreInodesAfter first history cut inodes flush raised after → IsKept first history raised after
+    → IsKept first history cut inodes → IsRaised first history every_entry cut inodes flush raised → AreInodesAfter first history every_entry cut inodes flush raised after → IsKept first history raised after
 
 -- After any list of fsyncs the cut is closed, each directory with an inode has its making below its birth place's cut, and the tree
 -- at the cut is sound.
@@ -36,14 +36,14 @@ pub record KeepsAll (first : TreeState) (history : List Entry) (cut : Cut) (inod
   pub sound : IsSound (tree_at_cut first history cut)
 
 abbrev pub ListsKeep : Type 0
-ListsKeep = (first : TreeState) (history : List Entry) (flushes : List Flush) (cut : Cut) (inodes : ℕ → Bool) → IsSoundTree first → IsLegal first history → AreFlushed first history flushes cut inodes → KeepsAll first history cut inodes
+ListsKeep = (first : TreeState) (history : List Entry) (flushes : List Flush) (cut : Cut) (inodes : ℕ → Bool) → IsSoundTree first → IsLegal first history → AreFlushed first history every_entry flushes cut inodes → KeepsAll first history cut inodes
 
 -- An fsync of a node that is there covers itself and leaves covered what was, where each node with an inode is placed; and each is again.
 abbrev pub FsyncsCover : Type 0
 FsyncsCover = (first : TreeState) (history : List Entry) (cut raised : Cut) (inodes after : ℕ → Bool) (flush : Flush) → IsSoundTree first → IsLegal first history
-    → ArePlaced first history cut inodes → IsThere first history flush → IsRaised first history cut inodes flush raised → AreInodesAfter first history cut inodes flush raised after → Covers first history cut raised after flush
+    → ArePlaced first history cut inodes → IsThere first history flush → IsRaised first history every_entry cut inodes flush raised → AreInodesAfter first history every_entry cut inodes flush raised after → Covers first history cut raised after flush
 
 -- After a list of fsyncs of nodes that are there, each of them is covered.
 abbrev pub ListsCover : Type 0
-ListsCover = (first : TreeState) (history : List Entry) (flushes : List Flush) (cut : Cut) (inodes : ℕ → Bool) → IsSoundTree first → IsLegal first history → AreFlushed first history flushes cut inodes
+ListsCover = (first : TreeState) (history : List Entry) (flushes : List Flush) (cut : Cut) (inodes : ℕ → Bool) → IsSoundTree first → IsLegal first history → AreFlushed first history every_entry flushes cut inodes
     → ((flush : Flush) → IsOneOf flushes flush → IsThere first history flush) → (flush : Flush) → IsOneOf flushes flush → IsCovered first history cut flush
