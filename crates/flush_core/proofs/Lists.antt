@@ -50,7 +50,7 @@ first_kept first history inodes is legal same = record {
     at_first (e ∷ h) x some = some
 
 all_kept : (first : TreeState) (history : List Entry) → IsSoundTree first → IsLegal first history → {flushes : List Flush} {cut : Cut} {inodes : ℕ → Bool} → AreFlushed first history every_entry flushes cut inodes → IsKept first history cut inodes
-all_kept first history is legal (none inodes same) = first_kept first history inodes is legal same
+all_kept first history is legal none = first_kept first history (λ node. is_some (get first.nodes node)) is legal (λ _. refl)
 all_kept first history is legal (one_more flushes flush cut raised inodes after before raise sets) = fsyncs_keep first history cut raised inodes after flush is legal (all_kept first history is legal before) raise sets
 
 pub lists_keep : ListsKeep
@@ -77,7 +77,7 @@ record AreCovered (first : TreeState) (history : List Entry) (flushes : List Flu
   each : (flush : Flush) → IsOneOf flushes flush → IsCovered first history cut flush
 
 all_covered : (first : TreeState) (history : List Entry) → IsSoundTree first → IsLegal first history → {flushes : List Flush} {cut : Cut} {inodes : ℕ → Bool} → AreFlushed first history every_entry flushes cut inodes → ((flush : Flush) → IsOneOf flushes flush → IsThere first history flush) → AreCovered first history flushes cut inodes
-all_covered first history is legal (none inodes same) there = record { placed = first_placed first history inodes is legal same; each = λ flush one. absurd one }
+all_covered first history is legal none there = record { placed = first_placed first history (λ node. is_some (get first.nodes node)) is legal (λ _. refl); each = λ flush one. absurd one }
 all_covered first history is legal (one_more flushes flush cut raised inodes after before raise sets) there =
     let was = all_covered first history is legal before (λ other one. there other (in_left flushes (flush ∷ []) other one)) in
     let now = fsyncs_cover first history cut raised inodes after flush is legal was.placed (there flush (in_right flushes (flush ∷ []) flush (inl refl))) raise sets in

@@ -95,8 +95,12 @@ pub record IsKept (first : TreeState) (history : List Entry) (cut : Cut) (inodes
   pub closed : IsClosed first history cut
   pub born : AreBorn first history cut inodes
 
--- The cut and the nodes with an inode after a list of fsyncs, one after the other, from the cut 0 and the nodes of the first tree.
-pub data AreFlushed (first : TreeState) (history : List Entry) (counts : Counts) : List Flush → Cut → (ℕ → Bool) → Type 0 where
-  none : (inodes : ℕ → Bool) → ((node : ℕ) → inodes node ≡ is_some (get first.nodes node)) → AreFlushed first history counts [] empty inodes
-  one_more : (flushes : List Flush) (flush : Flush) (cut raised : Cut) (inodes after : ℕ → Bool) → AreFlushed first history counts flushes cut inodes → IsRaised first history counts cut inodes flush raised
-      → AreInodesAfter first history counts cut inodes flush raised after → AreFlushed first history counts (flushes ++ flush ∷ []) raised after
+-- The cut and the nodes with an inode after a list of fsyncs, one after the other.
+pub data AreRaised (first : TreeState) (history : List Entry) (counts : Counts) (cut : Cut) (inodes : ℕ → Bool) : List Flush → Cut → (ℕ → Bool) → Type 0 where
+  none : AreRaised first history counts cut inodes [] cut inodes
+  one_more : (flushes : List Flush) (flush : Flush) (before raised : Cut) (inodes_before after : ℕ → Bool) → AreRaised first history counts cut inodes flushes before inodes_before → IsRaised first history counts before inodes_before flush raised
+      → AreInodesAfter first history counts before inodes_before flush raised after → AreRaised first history counts cut inodes (flushes ++ flush ∷ []) raised after
+
+-- The same from the cut 0 and the nodes of the first tree.
+abbrev pub AreFlushed : TreeState → List Entry → Counts → List Flush → Cut → (ℕ → Bool) → Type 0
+AreFlushed first history counts = AreRaised first history counts empty (λ node. is_some (get first.nodes node))

@@ -1,5 +1,5 @@
 -- The laws of cuts, each of which a function of the module laws proves.
-use Rattle.std.specs.Prelude.{◌≡◌, ℕ, Bool, List, IsSome}
+use Rattle.std.specs.Prelude.{◌≡◌, ◌≢◌, ℕ, ◌≤◌, Bool, List, length, take, map, IsSome}
 use Rattle.sfs_tree.specs.declared.history.Entry.{Entry}
 use Rattle.std.specs.FinMap.{get}
 use Rattle.sfs_tree.specs.Tree.{TreeState, names_of, bytes_of}
@@ -10,7 +10,10 @@ use Rattle.sfs_tree.specs.Laws.{IsSoundTree}
 use Rattle.flush_core.specs.Cut.{Cut, cut_of, tree_at_cut}
 use Rattle.flush_core.specs.Rules.{IsClosed, IsOneOf}
 use Rattle.flush_core.specs.Covers.{ArePlaced, IsCovered, IsThere, Covers}
-use Rattle.flush_core.specs.Closure.{every_entry, Flush, IsRaised, AreInodesAfter, IsKept, AreFlushed}
+use Rattle.flush_core.specs.declared.event.Event.{Event}
+use Rattle.flush_core.specs.Closure.{Counts, every_entry, Flush, IsRaised, AreInodesAfter, IsKept, AreRaised, AreFlushed}
+use Rattle.flush_core.specs.Machine.{Flight, MachineState}
+use Rattle.flush_core.specs.Runs.{IsRun, IsBegun, AreAlive, AreApart, Flies, view_of, IsOneCommit, AreTied, CountEnough, durable_of}
 
 -- In the tree at a cut a directory has its rows at its own stamp.
 abbrev pub DirectoriesAreCut : Type 0
@@ -47,3 +50,32 @@ FsyncsCover = (first : TreeState) (history : List Entry) (cut raised : Cut) (ino
 abbrev pub ListsCover : Type 0
 ListsCover = (first : TreeState) (history : List Entry) (flushes : List Flush) (cut : Cut) (inodes : ℕ → Bool) → IsSoundTree first → IsLegal first history → AreFlushed first history every_entry flushes cut inodes
     → ((flush : Flush) → IsOneOf flushes flush → IsThere first history flush) → (flush : Flush) → IsOneOf flushes flush → IsCovered first history cut flush
+
+-- In each state of a run the cut is closed, each directory with an inode has its making below its birth place's cut, and the tree at
+-- the cut is sound; and so they are when any fsyncs have raised the cut, as those of any flights.
+abbrev pub RunsKeep : Type 0
+RunsKeep = (first : TreeState) (events : List Event) (states : ℕ → MachineState) (place : ℕ) (flushes : List Flush) (cut : Cut) (inodes : ℕ → Bool)
+    → IsSoundTree first → IsRun first events states → place ≤ length events
+    → AreRaised first (states place).history every_entry (states place).cut (states place).inodes flushes cut inodes
+    → KeepsAll first (states place).history cut inodes
+
+-- Whichever of the other flights have raised the cut, in whatever order, a flight makes the commit that it would have made as it began.
+abbrev pub FlightsStay : Type 0
+FlightsStay = (first : TreeState) (events : List Event) (states : ℕ → MachineState) (place later commit : ℕ) (flush : Flush) (others : List Flight) (cut : Cut) (inodes : ℕ → Bool)
+    → IsSoundTree first → IsRun first events states → AreAlive first events states
+    → Flies events states place later commit flush
+    → AreApart others
+    → ((other : Flight) → IsOneOf others other → IsOneOf (states later).flights other × (other.commit ≢ commit))
+    → AreRaised first (states later).history every_entry (states later).cut (states later).inodes (map (λ (other : Flight). other.flush) others) cut inodes
+    → IsOneCommit first flush (view_of (states place)) (record { history = (states later).history; counts = every_entry; cut = cut; inodes = inodes })
+
+-- A commit is the one that it would have been, had only those commits come before it to which it is tied, and counted only some of
+-- the whole history's entries.
+abbrev pub CommitsAreTied : Type 0
+CommitsAreTied = (first : TreeState) (events : List Event) (states : ℕ → MachineState) (place commit : ℕ) (flush : Flush) (tied : ℕ → Bool) (counts : Counts) (cut : Cut) (inodes : ℕ → Bool)
+    → IsSoundTree first → IsRun first events states → AreAlive first events states
+    → IsBegun events place commit flush
+    → AreTied first events states commit tied
+    → CountEnough events flush tied counts
+    → AreFlushed first (states (length events)).history counts (durable_of (take place events) tied) cut inodes
+    → IsOneCommit first flush (view_of (states place)) (record { history = (states (length events)).history; counts = counts; cut = cut; inodes = inodes })

@@ -2,9 +2,11 @@
 #![tactic(auto)]
 
 mod cut;
+mod event;
 mod laws;
 
 pub use cut::Cut;
+pub use event::{CommitList, Event, Refused};
 pub use laws::{
     closed_cuts_are_sound, directories_are_cut, files_are_cut, fsyncs_cover, fsyncs_keep,
     lists_cover, lists_keep,
