@@ -3,6 +3,7 @@ pub mod Covers
 pub mod Cut
 pub mod Laws
 pub mod Machine
+pub mod Past
 pub mod Rules
 pub mod Runs
 pub mod Stamps

@@ -4,6 +4,7 @@
 mod cut;
 mod event;
 mod laws;
+mod past;
 
 pub use cut::Cut;
 pub use event::{CommitList, Event, Refused};
