@@ -11,5 +11,6 @@ pub mod Closed
 pub mod Lives
 pub mod Commit
 pub mod Stamps
+pub mod Views
 pub mod Lists
 pub mod Covered
