@@ -1,6 +1,6 @@
 // Of each node it is kept how many rows name it, how many rows stand in it, how many of these name directories,
 // and in which directory the row stands that was made for it last.
-ghost use Rattle.std.specs.Prelude.{◌≡◌, ◌≢◌, ◌+◌, ◌-◌, ◌<◌, ◌≤◌, ◌^◌, ◌++◌, ℕ, List, [], ◌∷◌, None, Some, true, length, OnOk, OnErr, slice_index, slice_set, vec_len};
+ghost use Rattle.std.specs.Prelude.{◌≡◌, ◌≢◌, ◌+◌, ◌-◌, ◌<◌, ◌≤◌, ◌^◌, ◌++◌, ℕ, List, [], ◌∷◌, None, Some, true, length, IfOk, OnOk, OnErr, slice_index, slice_set, vec_len};
 ghost use Rattle.std.specs.FinMap as finmap;
 ghost use Rattle.std.specs.Ordering.{nat_cmp};
 ghost use Rattle.sfs_tree.specs.Order.{key_cmp};
@@ -33,6 +33,23 @@ impl Counts {
             holders: Vec::new(alloc),
             total: 0,
         }
+    }
+
+    /// Equal counts.
+    pub fn copy(&self) -> Result<Counts, NoMemory>
+        ensures named { IfOk result (λ counts. counts.named.items ≡ self.now.named.items) }
+        ensures inside { IfOk result (λ counts. counts.inside.items ≡ self.now.inside.items) }
+        ensures directories { IfOk result (λ counts. counts.directories.items ≡ self.now.directories.items) }
+        ensures holders { IfOk result (λ counts. counts.holders.items ≡ self.now.holders.items) }
+        ensures total { IfOk result (λ counts. counts.total ≡ self.now.total) }
+    {
+        Ok(Counts {
+            named: self.named.clone()?,
+            inside: self.inside.clone()?,
+            directories: self.directories.clone()?,
+            holders: self.holders.clone()?,
+            total: self.total,
+        })
     }
 
     /// Counts for one more number.

@@ -1,4 +1,4 @@
-ghost use Rattle.std.specs.Prelude.{◌≡◌, ◌==◌, map, length, slice_get, option_map, IfOk};
+ghost use Rattle.std.specs.Prelude.{◌≡◌, ◌↔◌, ◌==◌, true, map, length, slice_get, option_map, IfOk};
 ghost use Rattle.sfs_tree.specs.NameKinds.{name_kind};
 
 use sfs_base::{Kind, Name, NoMemory};
@@ -30,6 +30,13 @@ impl Model for NameRows {
 }
 
 impl NameKind {
+    /// Whether it is the same row.
+    pub fn equals(&self, other: &NameKind) -> bool
+        ensures { (result ≡ true) ↔ (name_kind self.now ≡ name_kind other.now) }
+    {
+        self.kind == other.kind && self.name.bytes() == other.name.bytes()
+    }
+
     /// An equal row.
     pub fn copy(&self) -> Result<NameKind, NoMemory>
         ensures ok { IfOk result (λ row. row ≡ self.now) }
@@ -68,6 +75,21 @@ impl NameRows {
         ensures { result ≡ (length self.now == 0) }
     {
         self.rows.is_empty()
+    }
+
+    /// Whether they are the same rows.
+    pub fn equals(&self, other: &NameRows) -> bool
+        ensures { (result ≡ true) ↔ (self.now ≡ other.now) }
+    {
+        if self.rows.len() != other.rows.len() {
+            return false;
+        }
+        for place in 0..self.rows.len() {
+            if !self.rows[place].equals(&other.rows[place]) {
+                return false;
+            }
+        }
+        true
     }
 
     /// The row at this place, from 0 on. `None` is past the last.

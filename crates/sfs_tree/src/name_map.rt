@@ -102,6 +102,15 @@ impl NameMap {
         self.rows[place].child = child;
     }
 
+    /// Equal rows.
+    pub fn copy(&self, alloc: Global) -> Result<NameMap, NoMemory>
+        ensures { IfOk result (λ rows. rows ≡ self.now) }
+    {
+        let mut rows = Vec::new(alloc);
+        push_copies(&mut rows, &self.rows)?;
+        Ok(NameMap { rows })
+    }
+
     /// The row at this place, names ascending by their bytes. `None` is past the last.
     pub fn at(&self, place: usize) -> Option<&NameRow>
         ensures { option_map (λ row. entry_of row.now) result ≡ slice_get (finmap.entries self.now) place }

@@ -1,9 +1,10 @@
 // Each node lies at its number.
-ghost use Rattle.std.specs.Prelude.{◌≡◌, ◌+◌, ◌<◌, ◌≤◌, ◌^◌, length, None, option_map, IfSome, IfNone, IsSome, OnOk, OnErr};
+ghost use Rattle.std.specs.Prelude.{◌≡◌, ◌+◌, ◌<◌, ◌≤◌, ◌^◌, length, None, option_map, IfOk, IfSome, IfNone, IsSome, OnOk, OnErr};
 ghost use Rattle.std.specs.FinMap as finmap;
 ghost use Rattle.sfs_tree.specs.Tree.{is_directory_kind};
 ghost use Rattle.sfs_tree.specs.Counts.{is_directory_in};
 ghost use Rattle.sfs_tree.specs.Effect.{Puts, Resizes, with_edit};
+ghost use Rattle.sfs_tree.specs.Nodes.{node_of};
 
 use crate::file_bytes::{put_bytes, set_size};
 use sfs_base::{Kind, NoMemory};
@@ -32,6 +33,16 @@ impl NodeData {
 impl NodeData {
     ghost use Rattle.sfs_tree.specs.Nodes.{node_of};
     ghost use Rattle.sfs_tree.specs.Effect.{Puts, Resizes, edited};
+
+    /// An equal node.
+    pub fn copy(&self) -> Result<NodeData, NoMemory>
+        ensures { IfOk result (λ node. node_of node ≡ node_of self.now) }
+    {
+        Ok(NodeData {
+            kind: self.kind,
+            bytes: self.bytes.clone()?,
+        })
+    }
 
     /// Puts bytes from byte `at` on.
     pub fn write(&mut self, at: usize, written: &[u8]) -> Result<(), NoMemory>
@@ -84,6 +95,17 @@ impl Nodes {
         Nodes {
             places: Vec::new(alloc),
         }
+    }
+
+    /// Equal nodes, and as many places.
+    pub fn copy(&self, alloc: Global) -> Result<Nodes, NoMemory>
+        ensures { IfOk result (λ nodes. nodes ≡ self.now) }
+    {
+        let mut places = Vec::new(alloc);
+        for place in &self.places {
+            places.push(copy_place(place)?)?;
+        }
+        Ok(Nodes { places })
     }
 
     /// How many numbers have a place.
@@ -185,5 +207,15 @@ impl Nodes {
             None => {}
         }
         Ok(())
+    }
+}
+
+// What lies at a place, once more.
+fn copy_place(place: &Option<NodeData>) -> Result<Option<NodeData>, NoMemory>
+    ensures { IfOk result (λ copied. option_map node_of copied ≡ option_map node_of place.now) }
+{
+    match place {
+        Some(node) => Ok(Some(node.copy()?)),
+        None => Ok(None),
     }
 }

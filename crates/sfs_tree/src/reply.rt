@@ -1,4 +1,4 @@
-ghost use Rattle.std.specs.Prelude.{◌≡◌, IfOk};
+ghost use Rattle.std.specs.Prelude.{◌≡◌, ◌↔◌, true, IfOk};
 
 use crate::NameRows;
 use sfs_base::{Chunk, Kind, NoMemory, NodeId, SpaceKind};
@@ -87,6 +87,100 @@ impl Reply {
             }),
             Reply::Stopped { faults } => Ok(Reply::Stopped { faults: *faults }),
             Reply::NoMemory => Ok(Reply::NoMemory),
+        }
+    }
+}
+
+impl Reply {
+    /// Whether it is the same reply.
+    pub fn equals(&self, other: &Reply) -> bool
+        ensures { (result ≡ true) ↔ (self.now ≡ other.now) }
+    {
+        match self {
+            Reply::Ok => matches!(other, Reply::Ok),
+            Reply::Node { node, kind } => other.is_node(*node, *kind),
+            Reply::Bytes { bytes } => other.is_bytes(bytes),
+            Reply::Stat { kind, links, size } => other.is_stat(*kind, *links, *size),
+            Reply::Names { rows } => other.is_names(rows),
+            Reply::Error { code } => other.is_error(*code),
+            Reply::DiskFailed => matches!(other, Reply::DiskFailed),
+            Reply::NoSpace { kind, need, free } => other.is_no_space(*kind, *need, *free),
+            Reply::Stopped { faults } => other.is_stopped(*faults),
+            Reply::NoMemory => matches!(other, Reply::NoMemory),
+        }
+    }
+
+    fn is_node(&self, node: NodeId, kind: Kind) -> bool
+        ensures { (result ≡ true) ↔ (Reply.Node node kind ≡ self.now) }
+    {
+        match self {
+            Reply::Node {
+                node: own,
+                kind: own_kind,
+            } => *own == node && *own_kind == kind,
+            _ => false,
+        }
+    }
+
+    fn is_bytes(&self, bytes: &Chunk) -> bool
+        ensures { (result ≡ true) ↔ (Reply.Bytes bytes.now ≡ self.now) }
+    {
+        match self {
+            Reply::Bytes { bytes: own } => own.bytes() == bytes.bytes(),
+            _ => false,
+        }
+    }
+
+    fn is_stat(&self, kind: Kind, links: u32, size: u64) -> bool
+        ensures { (result ≡ true) ↔ (Reply.Stat kind links size ≡ self.now) }
+    {
+        match self {
+            Reply::Stat {
+                kind: own_kind,
+                links: own_links,
+                size: own_size,
+            } => *own_kind == kind && *own_links == links && *own_size == size,
+            _ => false,
+        }
+    }
+
+    fn is_names(&self, rows: &NameRows) -> bool
+        ensures { (result ≡ true) ↔ (Reply.Names rows.now ≡ self.now) }
+    {
+        match self {
+            Reply::Names { rows: own } => own.equals(rows),
+            _ => false,
+        }
+    }
+
+    fn is_error(&self, code: Code) -> bool
+        ensures { (result ≡ true) ↔ (Reply.Error code ≡ self.now) }
+    {
+        match self {
+            Reply::Error { code: own } => *own == code,
+            _ => false,
+        }
+    }
+
+    fn is_no_space(&self, kind: SpaceKind, need: u32, free: u32) -> bool
+        ensures { (result ≡ true) ↔ (Reply.NoSpace kind need free ≡ self.now) }
+    {
+        match self {
+            Reply::NoSpace {
+                kind: own_kind,
+                need: own_need,
+                free: own_free,
+            } => *own_kind == kind && *own_need == need && *own_free == free,
+            _ => false,
+        }
+    }
+
+    fn is_stopped(&self, faults: u64) -> bool
+        ensures { (result ≡ true) ↔ (Reply.Stopped faults ≡ self.now) }
+    {
+        match self {
+            Reply::Stopped { faults: own } => *own == faults,
+            _ => false,
         }
     }
 }

@@ -1,5 +1,5 @@
 // A directory's rows lie in eight buckets, those of directory d at 8 * d to 8 * d + 7, each row in that of its name.
-ghost use Rattle.std.specs.Prelude.{◌≡◌, ◌⊎◌, ◌+◌, ◌*◌, ◌<◌, ◌≤◌, ◌++◌, None, replicate, IfSome, IfNone, IsSome, OnOk, OnErr, slice_set, vec_len};
+ghost use Rattle.std.specs.Prelude.{◌≡◌, ◌⊎◌, ◌+◌, ◌*◌, ◌<◌, ◌≤◌, ◌++◌, None, replicate, IfOk, IfSome, IfNone, IsSome, OnOk, OnErr, slice_set, vec_len};
 ghost use Rattle.std.specs.FinMap as finmap;
 ghost use Rattle.sfs_base.specs.Name.{bucket};
 ghost use Rattle.sfs_tree.specs.Tree.{bucket_rows};
@@ -60,6 +60,17 @@ impl Rows {
         }
         add_buckets(alloc, &mut self.buckets)?;
         Ok(())
+    }
+
+    /// Equal rows.
+    pub fn copy(&self, alloc: Global) -> Result<Rows, NoMemory>
+        ensures { IfOk result (λ rows. rows ≡ self.now) }
+    {
+        let mut buckets = Vec::new(alloc);
+        for bucket in &self.buckets {
+            buckets.push(bucket.copy(alloc)?)?;
+        }
+        Ok(Rows { buckets })
     }
 
     /// One of a directory's buckets, if it has them.

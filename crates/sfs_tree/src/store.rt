@@ -1,5 +1,5 @@
 // The nodes, the rows, and what is counted of the rows. A change that can be refused memory is refused before any part changes.
-ghost use Rattle.std.specs.Prelude.{◌≡◌, ◌≢◌, ◌+◌, ◌*◌, ◌<◌, ◌≤◌, ◌^◌, length, None, Some, true, option_map, IfSome, IfNone, IsSome, OnOk, OnErr};
+ghost use Rattle.std.specs.Prelude.{◌≡◌, ◌≢◌, ◌+◌, ◌*◌, ◌<◌, ◌≤◌, ◌^◌, length, None, Some, true, option_map, IfOk, IfSome, IfNone, IsSome, OnOk, OnErr};
 ghost use Rattle.std.specs.FinMap as finmap;
 ghost use Rattle.std.specs.List as list;
 ghost use Rattle.sfs_base.specs.Name.{bucket};
@@ -52,6 +52,17 @@ impl Store {
             counts: Counts::new(alloc),
             rows: Rows::new(alloc),
         }
+    }
+
+    /// An equal store.
+    pub fn copy(&self, alloc: Global) -> Result<Store, NoMemory>
+        ensures { IfOk result (λ store. store ≡ self.now) }
+    {
+        Ok(Store {
+            nodes: self.nodes.copy(alloc)?,
+            counts: self.counts.copy()?,
+            rows: self.rows.copy(alloc)?,
+        })
     }
 
     /// Makes places for the nodes below a number.

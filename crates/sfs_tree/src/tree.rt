@@ -112,6 +112,19 @@ impl Tree {
         self.share = share;
     }
 
+    /// An equal tree. It takes time and memory in proportion to the rows, the numbers of the nodes and their bytes.
+    pub fn copy(&self) -> Result<Tree, NoMemory>
+        ensures { IfOk result (λ tree. tree ≡ self.now) }
+    {
+        Ok(Tree {
+            alloc: self.alloc,
+            store: self.store.copy(self.alloc)?,
+            first: self.first,
+            share: self.share,
+            made: self.made.clone()?,
+        })
+    }
+
     /// What the call answers, and the tree after it. An fsync leaves the tree as it is.
     pub fn step(&mut self, core: CoreId, call: &Call) -> Result<Reply, NoMemory>
         requires core { core.0 < length self.old.made }

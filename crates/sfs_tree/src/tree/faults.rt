@@ -18,15 +18,8 @@ pub(super) fn refused(code: Code) -> Reply
 }
 
 impl Tree {
-    ghost use Rattle.sfs_tree.specs.Tree.{row_of, is_alive, is_directory, kind_of};
-    ghost use Rattle.sfs_tree.specs.NameRow.{number_of};
+    ghost use Rattle.sfs_tree.specs.Tree.{is_directory, kind_of};
     ghost use Rattle.sfs_tree.specs.Verdict.{directory_fault, file_fault, node_fault, is_full};
-
-    pub(super) fn is_alive(&self, node: NodeId) -> bool
-        ensures { result ≡ is_alive self.now node.0 }
-    {
-        node.0 == 0 || self.store.named(node.0) != 0
-    }
 
     pub(super) fn is_directory(&self, node: NodeId) -> bool
         ensures { result ≡ is_directory self.now node.0 }
@@ -42,13 +35,6 @@ impl Tree {
             Some(data) => data.kind,
             None => Kind::File,
         }
-    }
-
-    // The child of the directory's row with this name.
-    pub(super) fn child(&self, dir: NodeId, name: &Name) -> Option<NodeId>
-        ensures { number_of result ≡ row_of self.now dir.0 name.now }
-    {
-        self.store.child(dir.0, name)
     }
 
     // Whether the name's bucket has as many rows as it may have.

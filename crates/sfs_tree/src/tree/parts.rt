@@ -1,5 +1,5 @@
 // The parts of a tree, as they are read from outside. None of this but `names` takes memory.
-ghost use Rattle.std.specs.Prelude.{◌≡◌, ◌<◌, None, option_map, slice_get, IfOk, IfSome, IfNone, IsSome, OnOk};
+ghost use Rattle.std.specs.Prelude.{◌≡◌, ◌<◌, None, true, option_map, slice_get, IfOk, IfSome, IfNone, IsSome, OnOk};
 ghost use Rattle.std.specs.FinMap as finmap;
 
 use super::Tree;
@@ -7,8 +7,9 @@ use crate::NameMap;
 use sfs_base::{Kind, Name, NoMemory, NodeId};
 
 impl Tree {
-    ghost use Rattle.sfs_tree.specs.Tree.{bucket_rows, names_of, bytes_of};
+    ghost use Rattle.sfs_tree.specs.Tree.{row_of, is_alive, is_directory, holder_of, bucket_rows, names_of, bytes_of};
     ghost use Rattle.sfs_tree.specs.NameRow.{either, number_of};
+    ghost use Rattle.sfs_tree.specs.Sound.{IsSound};
     ghost use Rattle.sfs_tree.specs.Least.{IsLeast, NoneFrom, first_behind};
 
     /// The kind of a node, `None` exactly where the tree has no such node.
@@ -57,6 +58,32 @@ impl Tree {
         let rows = self.store.bucket(dir.0, bucket)?;
         let row = rows.at(place as usize)?;
         Some((&row.name, row.child))
+    }
+
+    /// Whether a node is alive: it is the root, or a row names it.
+    pub fn is_alive(&self, node: NodeId) -> bool
+        ensures { result ≡ is_alive self.now node.0 }
+    {
+        node.0 == 0 || self.store.named(node.0) != 0
+    }
+
+    /// The child of the directory's row with this name. `None` exactly where no row has it.
+    pub fn child(&self, dir: NodeId, name: &Name) -> Option<NodeId>
+        ensures { number_of result ≡ row_of self.now dir.0 name.now }
+    {
+        self.store.child(dir.0, name)
+    }
+
+    /// The directory in which the row of a directory of a sound tree stands. `None` exactly where no row names it.
+    pub fn holder(&self, dir: NodeId) -> Option<NodeId>
+        requires sound { IsSound self.now }
+        requires directory { is_directory self.now dir.0 ≡ true }
+        ensures { number_of result ≡ holder_of self.now dir.0 }
+    {
+        match self.store.holder(dir.0) {
+            Some(number) => Some(NodeId(number)),
+            None => None,
+        }
     }
 
     /// How many rows a directory has.
