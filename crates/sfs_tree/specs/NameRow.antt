@@ -11,9 +11,13 @@ use Rattle.sfs_tree.specs.Order.{name_cmp}
 abbrev pub entry_of : NameRow → List ℕ × ℕ
 entry_of row = (row.name, row.child.0)
 
+-- the number of a node
+abbrev pub node_number : NodeId → ℕ
+node_number node = node.0
+
 -- the number of a node that may be there
 abbrev pub number_of : Option NodeId → Option ℕ
-number_of = option_map (λ (node : NodeId). node.0)
+number_of = option_map node_number
 
 -- The place of a name among rows: the names before it are less, and those from it on are not.
 pub record IsPlaceOf (rows : List (List ℕ × ℕ)) (name : List ℕ) (place : ℕ) : Type 0 where

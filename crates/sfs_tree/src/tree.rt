@@ -9,6 +9,7 @@ use sfs_base::{CoreId, Kind, Name, NoMemory, NodeId};
 use std::alloc::Global;
 use std::marker::Model;
 
+mod above;
 mod bytes;
 mod faults;
 mod links;
