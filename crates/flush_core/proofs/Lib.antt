@@ -11,6 +11,7 @@ pub mod Closed
 pub mod Lives
 pub mod Commit
 pub mod Stamps
+pub mod Noted
 pub mod Views
 pub mod Lists
 pub mod Covered

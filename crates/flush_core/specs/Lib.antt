@@ -4,6 +4,7 @@ pub mod Cut
 pub mod Laws
 pub mod Machine
 pub mod Past
+pub mod Plan
 pub mod Rules
 pub mod Runs
 pub mod Stamps

@@ -8,7 +8,9 @@ pub type CommitList = RoomyList<u64>;
 #[derive(Debug, Drop)]
 pub enum Event {
     /// A call was answered.
-    Call { entry: Entry },
+    Call {
+        entry: Entry,
+    },
     /// A commit begins, for an fsync of this node at this stamp.
     CutAt {
         commit: u64,
@@ -16,13 +18,21 @@ pub enum Event {
         stamp: Stamp,
     },
     /// What a commit writes may count after a crash from now on.
-    Opened { commit: u64 },
+    Opened {
+        commit: u64,
+    },
     /// What a commit writes counts after each crash from now on.
-    Durable { commit: u64 },
+    Durable {
+        commit: u64,
+    },
     /// A commit was left in doubt.
-    Fail { commit: u64 },
+    Fail {
+        commit: u64,
+    },
     /// The run ends. What these commits have written counts, and what others that are in flight have written does not.
-    Crash { kept: CommitList },
+    Crash {
+        kept: CommitList,
+    },
 }
 
 /// Why an event can't come, in the order in which the reasons are looked for.

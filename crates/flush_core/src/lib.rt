@@ -5,6 +5,7 @@ mod cut;
 mod event;
 mod laws;
 mod past;
+mod plan;
 
 pub use cut::Cut;
 pub use event::{CommitList, Event, Refused};
