@@ -11,7 +11,9 @@ pub mod Closed
 pub mod Lives
 pub mod Commit
 pub mod Stamps
+pub mod Growing
 pub mod Noted
+pub mod Planned
 pub mod Views
 pub mod Lists
 pub mod Covered

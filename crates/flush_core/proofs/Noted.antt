@@ -76,3 +76,7 @@ noted_more tree changes more change is noted one other among kind alive = elim (
     | inr none ↦ absurd none
   ]
 ]
+
+-- a row that comes by no rename
+pub noted_plain : (tree : TreeState) (change : OwnChange) (stamp directory : ℕ) (name : List ℕ) (child : ℕ) → row_change_of change ≡ added stamp directory name child None → change.above ≡ None → IsNoted tree change
+noted_plain tree change stamp directory name child row none = noted_none tree change (λ moves. moves.other (ap (λ (c : RowChange). c.other) row)) none

@@ -1,6 +1,7 @@
 pub mod Closure
 pub mod Covers
 pub mod Cut
+pub mod Grows
 pub mod Laws
 pub mod Machine
 pub mod Past

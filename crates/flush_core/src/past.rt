@@ -1,6 +1,15 @@
 // What the machine keeps of its calls: the tree after them, and the changes and births that they made.
-use sfs_base::Name;
-use sfs_tree::Tree;
+ghost use Rattle.std.specs.Prelude.{◌≡◌, ◌<◌, [], ◌++◌, length, IfOk, OnOk};
+ghost use Rattle.sfs_tree.specs.Sound.{IsSound};
+ghost use Rattle.sfs_tree.specs.Step.{IsReadable};
+ghost use Rattle.sfs_tree.specs.Verdict.{verdict};
+ghost use Rattle.flush_core.specs.Past.{IsPast};
+ghost use Rattle.flush_core.specs.Grows.{Grows, HasBirth};
+
+use crate::plan::{planned_changes, put};
+use sfs_base::{Name, NoMemory, NodeId};
+use sfs_tree::{Call, Entry, Reply, Tree};
+use std::alloc::Global;
 
 /// A row that a call took away or put, with the directories above the changed one where a directory was
 /// put by a rename between two directories.
@@ -33,4 +42,63 @@ pub struct Past {
     pub tree: Tree,
     pub changes: Vec<OwnChange>,
     pub births: Vec<BornNode>,
+}
+
+impl Past {
+    /// The past of no calls.
+    pub fn new(alloc: Global, first: &Tree) -> Result<Past, NoMemory>
+        ensures { IfOk result (λ past. IsPast first.now [] past) }
+    {
+        Ok(Past {
+            tree: first.copy()?,
+            changes: Vec::new(alloc),
+            births: Vec::new(alloc),
+        })
+    }
+
+    /// Makes a call, and keeps what it changed. The answer is the reply that was due. A past that was
+    /// refused memory is of no use any more.
+    pub fn add(&mut self, alloc: Global, entry: &Entry) -> Result<Reply, NoMemory>
+        requires core { entry.now.core.0 < length self.old.tree.made }
+        requires sound { IsSound self.old.tree }
+        requires readable { IsReadable entry.now.call }
+        ensures reply { IfOk result (λ reply. reply ≡ (verdict self.old.tree entry.now.core.0 entry.now.call).reply) }
+        ensures grows { OnOk result (Grows self.old entry.now self.new) }
+    {
+        let stamp = entry.stamp.0;
+        let mut planned = planned_changes(alloc, &self.tree, stamp, &entry.call)?;
+        let reply = self.tree.step(entry.core, &entry.call)?;
+        match &entry.call {
+            Call::Make { dir, name, .. } => {
+                if let Reply::Node { node, .. } = &reply {
+                    add_birth(self, stamp, *dir, name, *node)?;
+                }
+            }
+            _ => {
+                if let Reply::Ok = &reply {
+                    self.changes.append(&mut planned)?;
+                }
+            }
+        }
+        Ok(reply)
+    }
+}
+
+// A node was made: its row came, and it was born.
+fn add_birth(
+    past: &mut Past,
+    stamp: u64,
+    dir: NodeId,
+    name: &Name,
+    node: NodeId,
+) -> Result<(), NoMemory>
+    ensures { OnOk result (HasBirth past.old past.new stamp dir.0 name.now node.0) }
+{
+    past.changes.push(put(stamp, dir, name, node, None, None)?)?;
+    past.births.push(BornNode {
+        stamp,
+        directory: dir.0,
+        node: node.0,
+    })?;
+    Ok(())
 }

@@ -1,0 +1,32 @@
+-- What a call adds to the past.
+use Rattle.std.specs.Prelude.{◌≡◌, ◌⊎◌, ℕ, List, [], ◌∷◌, ◌++◌, map, None}
+use Rattle.sfs_tree.specs.declared.history.Entry.{Entry}
+use Rattle.sfs_tree.specs.Tree.{is_directory, is_alive}
+use Rattle.sfs_tree.specs.Changes.{added, changes_by}
+use Rattle.sfs_tree.specs.Verdict.{verdict}
+use Rattle.sfs_tree.specs.History.{tree_after_entry}
+use Rattle.flush_core.specs.declared.past.OwnChange.{OwnChange}
+use Rattle.flush_core.specs.declared.past.BornNode.{BornNode}
+use Rattle.flush_core.specs.declared.past.Past.{Past}
+use Rattle.flush_core.specs.Rules.{IsOneOf, births_by}
+use Rattle.flush_core.specs.Past.{row_change_of, birth_of}
+use Rattle.flush_core.specs.Plan.{AreNoted}
+
+-- A past with a call more: the tree after it, and its changes and births behind the others; the directories above are noted of the new
+-- changes.
+pub record Grows (old : Past) (entry : Entry) (new : Past) : Type 0 where
+  pub tree : new.tree ≡ tree_after_entry old.tree entry
+  pub more : List OwnChange
+  pub changes : new.changes.items ≡ old.changes.items ++ more
+  pub own : map row_change_of more ≡ changes_by old.tree entry.stamp.0 (verdict old.tree entry.core.0 entry.call).effect
+  pub noted : AreNoted old.tree more
+  pub births : map birth_of new.births.items ≡ map birth_of old.births.items ++ births_by entry.stamp.0 (verdict old.tree entry.core.0 entry.call).effect (verdict old.tree entry.core.0 entry.call).makes
+
+-- A past with the making of a node more.
+pub record HasBirth (old new : Past) (stamp directory : ℕ) (name : List ℕ) (node : ℕ) : Type 0 where
+  pub tree : new.tree ≡ old.tree
+  pub change : OwnChange
+  pub changes : new.changes.items ≡ old.changes.items ++ change ∷ []
+  pub row : row_change_of change ≡ added stamp directory name node None
+  pub above : change.above ≡ None
+  pub births : map birth_of new.births.items ≡ map birth_of old.births.items ++ record { stamp = stamp; directory = directory; node = node } ∷ []
