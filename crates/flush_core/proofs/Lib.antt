@@ -12,5 +12,6 @@ pub mod Lives
 pub mod Commit
 pub mod Stamps
 pub mod Views
+pub mod Prefix
 pub mod Lists
 pub mod Covered
