@@ -13,5 +13,6 @@ pub mod Commit
 pub mod Stamps
 pub mod Views
 pub mod Prefix
+pub mod RunFacts
 pub mod Lists
 pub mod Covered
