@@ -14,5 +14,6 @@ pub mod Stamps
 pub mod Views
 pub mod Prefix
 pub mod RunFacts
+pub mod Children
 pub mod Lists
 pub mod Covered
