@@ -15,5 +15,7 @@ pub mod Views
 pub mod Prefix
 pub mod RunFacts
 pub mod Children
+pub mod Alike
+pub mod Prefixes
 pub mod Lists
 pub mod Covered
