@@ -19,3 +19,5 @@ pub mod Alike
 pub mod Prefixes
 pub mod Lists
 pub mod Covered
+pub mod Grows
+pub mod RunsKeep

@@ -101,7 +101,7 @@ module _ (first : TreeState) (history : List Entry) (is : IsSoundTree first) (le
       kind = child_kind x (change_whole first history n legal x move.is_change) (change_below first history n legal x move.is_change) ∙ move.kind;
     }
 
-    move_prefix : (x : RowChange) → x.stamp < n → IsMove first history x → IsMove first prefix x
+    pub move_prefix : (x : RowChange) → x.stamp < n → IsMove first history x → IsMove first prefix x
     move_prefix x lt move = record {
       is_change = change_prefix first history n legal x move.is_change lt;
       places = move.places;
@@ -109,7 +109,7 @@ module _ (first : TreeState) (history : List Entry) (is : IsSoundTree first) (le
       kind = sym (child_kind x move.is_change lt) ∙ move.kind;
     }
 
-    same_tree : (s : ℕ) → s < n → tree_after first (take s prefix) ≡ tree_after first (take s history)
+    pub same_tree : (s : ℕ) → s < n → tree_after first (take s prefix) ≡ tree_after first (take s history)
     same_tree s lt = ap (tree_after first) (take_take history s n (omega arith))
 
     module _ (flush : Flush) (cut : Cut) (inodes : ℕ → Bool) (low : flush.stamp ≤ n) (live : IsLive first history flush) where
