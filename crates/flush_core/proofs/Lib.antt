@@ -21,3 +21,4 @@ pub mod Lists
 pub mod Covered
 pub mod Grows
 pub mod RunsKeep
+pub mod Members
