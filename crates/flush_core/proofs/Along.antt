@@ -1,5 +1,5 @@
 -- A legal history as a run.
-use Rattle.std.proofs.Common.{◌≡◌, ℕ, zero, suc, ◌+◌, Bool, true, false, not, List, [], ◌∷◌, ◌++◌, length, take, Option, Some, None, IsSome, option_map, ◌⊎◌, inl, inr, refl, sym, ap, subst, ◌∙◌, arith, append_assoc}
+use Rattle.std.proofs.Common.{◌≡◌, ℕ, zero, suc, ◌+◌, ◌≤◌, Bool, true, false, not, List, [], ◌∷◌, ◌++◌, length, take, Option, Some, None, IsSome, option_map, ◌⊎◌, inl, inr, refl, sym, ap, subst, ◌∙◌, arith, append_assoc}
 use Rattle.std.specs.FinMap.{get}
 use Rattle.sfs_base.specs.declared.numbers.Kind.{Kind}
 use Rattle.sfs_tree.specs.declared.history.Entry.{Entry}
@@ -230,6 +230,13 @@ changes_till first (entry ∷ history) (suc t) = changes_by first entry.stamp.0 
 pub changes_till-end : (first : TreeState) (history : List Entry) → changes_till first history (length history) ≡ changes_of first history
 changes_till-end first [] = refl
 changes_till-end first (entry ∷ history) = ap (λ l. changes_by first entry.stamp.0 (verdict first entry.core.0 entry.call).effect ++ l) (changes_till-end (tree_after_entry first entry) history)
+
+-- past the end they are all changes
+pub changes_till-past : (first : TreeState) (history : List Entry) (t : ℕ) → length history ≤ t → changes_till first history t ≡ changes_of first history
+changes_till-past first [] zero le = refl
+changes_till-past first [] (suc t) le = refl
+changes_till-past first (entry ∷ history) zero le = absurd (omega arith)
+changes_till-past first (entry ∷ history) (suc t) le = ap (λ l. changes_by first entry.stamp.0 (verdict first entry.core.0 entry.call).effect ++ l) (changes_till-past (tree_after_entry first entry) history t (omega arith))
 
 till_from : (first : TreeState) (history : List Entry) (stamp t : ℕ) → IsLegalFrom first stamp history → changes_till first history (suc t) ≡ changes_till first history t ++ changes_by (tree_at first history t) (stamp + t) (effect_at first history t)
 till_from first [] stamp zero legal = refl

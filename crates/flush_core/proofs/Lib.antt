@@ -22,3 +22,4 @@ pub mod Covered
 pub mod Grows
 pub mod RunsKeep
 pub mod Members
+pub mod Recount

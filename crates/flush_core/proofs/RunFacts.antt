@@ -114,7 +114,7 @@ apart_more (first ∷ flights) flight apart new = (
 )
 
 -- fsyncs whose stamps are at most this raise no cut above it
-raised_low : (first : TreeState) (history : List Entry) (counts : Counts) (cut : Cut) (inodes : ℕ → Bool) (flush : Flush) (raised : Cut) (n : ℕ) → IsRaised first history counts cut inodes flush raised → ((node : ℕ) → cut_of cut node ≤ n) → flush.stamp ≤ n → (node : ℕ) → cut_of raised node ≤ n
+pub raised_low : (first : TreeState) (history : List Entry) (counts : Counts) (cut : Cut) (inodes : ℕ → Bool) (flush : Flush) (raised : Cut) (n : ℕ) → IsRaised first history counts cut inodes flush raised → ((node : ℕ) → cut_of cut node ≤ n) → flush.stamp ≤ n → (node : ℕ) → cut_of raised node ≤ n
 raised_low first history counts cut inodes flush raised n raise low stamp node = elim (raise.other node) [
   | inl member ↦ let e = raise.member node member in let le = both_low (low node) in omega arith
   | inr e ↦ let le = low node in omega arith
