@@ -1,11 +1,11 @@
 -- A legal history as a run.
-use Rattle.std.proofs.Common.{◌≡◌, ℕ, zero, suc, ◌+◌, false, List, [], ◌∷◌, ◌++◌, length, take, Option, Some, None, IsSome, option_map, ◌⊎◌, inl, inr, refl, sym, ap, subst, ◌∙◌, arith, append_assoc}
+use Rattle.std.proofs.Common.{◌≡◌, ℕ, zero, suc, ◌+◌, ◌≤◌, Bool, true, false, not, List, [], ◌∷◌, ◌++◌, length, take, Option, Some, None, IsSome, option_map, ◌⊎◌, inl, inr, refl, sym, ap, subst, ◌∙◌, arith, append_assoc}
 use Rattle.std.specs.FinMap.{get}
 use Rattle.sfs_base.specs.declared.numbers.Kind.{Kind}
 use Rattle.sfs_tree.specs.declared.history.Entry.{Entry}
 use Rattle.sfs_tree.specs.declared.call.Call.{Call}
 use Rattle.sfs_tree.specs.declared.call.Call.TheVariants as call
-use Rattle.sfs_tree.specs.Tree.{TreeState, row_of, is_directory}
+use Rattle.sfs_tree.specs.Tree.{TreeState, row_of, is_alive, is_directory}
 use Rattle.sfs_tree.specs.Effect.{Effect, Stays, Adds, Removes, Moves, tree_with}
 use Rattle.sfs_tree.specs.Verdict.{verdict, done, or_else, link_fault}
 use Rattle.sfs_tree.specs.History.{tree_after, tree_after_entry, IsLegalFrom, IsLegal}
@@ -71,9 +71,9 @@ next_at first (entry ∷ []) zero = refl
 next_at first (entry ∷ (other ∷ history)) zero = refl
 next_at first (entry ∷ history) (suc t) = next_at (tree_after_entry first entry) history t
 
--- what adds a row without making a node is a link, whose file is no directory
+-- what adds a row without making a node is a link, whose file is alive and no directory
 abbrev LinksFile : TreeState → Effect → Option Kind → Type 0
-LinksFile tree effect makes = (d : ℕ) (n : List ℕ) (c : ℕ) → effect ≡ Adds d n c → makes ≡ None → is_directory tree c ≡ false
+LinksFile tree effect makes = (d : ℕ) (n : List ℕ) (c : ℕ) → effect ≡ Adds d n c → makes ≡ None → (is_directory tree c ≡ false) × (is_alive tree c ≡ true)
 
 stays_file : (tree : TreeState) (makes : Option Kind) → LinksFile tree Stays makes
 stays_file tree makes d n c e mk = cc
@@ -84,9 +84,13 @@ link_file tree file directory name =
       | Some code ↦ λ e d n c same mk. cc
       | None ↦ λ e d n c same mk.
           let one = not_so _ _ _ e in
-          subst (λ (x : ℕ). is_directory tree x ≡ false) (child d n c same) (not_so _ _ _ one.1).0
+          subst (λ (x : ℕ). (is_directory tree x ≡ false) × (is_alive tree x ≡ true)) (child d n c same) ((not_so _ _ _ one.1).0, not_false (is_alive tree file) one.0)
     ] refl
   where
+    not_false : (b : Bool) → not b ≡ false → b ≡ true
+    not_false true e = refl
+    not_false false e = cc
+
     child : (d : ℕ) (n : List ℕ) (c : ℕ) → Adds directory name file ≡ Adds d n c → file ≡ c
     child d n c e = cc
 
@@ -149,7 +153,7 @@ run_of first history is legal = record {
   sound = λ t. sound_at first history 0 t is legal;
   fits = λ t. fits_at first history 0 t is legal;
   next = next_at first history;
-  files = files_at first history;
+  files = λ t d n c adds makes. (files_at first history t d n c adds makes).0;
 }
 
 -- the changes and births of a history are those of its stamps
@@ -226,6 +230,13 @@ changes_till first (entry ∷ history) (suc t) = changes_by first entry.stamp.0 
 pub changes_till-end : (first : TreeState) (history : List Entry) → changes_till first history (length history) ≡ changes_of first history
 changes_till-end first [] = refl
 changes_till-end first (entry ∷ history) = ap (λ l. changes_by first entry.stamp.0 (verdict first entry.core.0 entry.call).effect ++ l) (changes_till-end (tree_after_entry first entry) history)
+
+-- past the end they are all changes
+pub changes_till-past : (first : TreeState) (history : List Entry) (t : ℕ) → length history ≤ t → changes_till first history t ≡ changes_of first history
+changes_till-past first [] zero le = refl
+changes_till-past first [] (suc t) le = refl
+changes_till-past first (entry ∷ history) zero le = absurd (omega arith)
+changes_till-past first (entry ∷ history) (suc t) le = ap (λ l. changes_by first entry.stamp.0 (verdict first entry.core.0 entry.call).effect ++ l) (changes_till-past (tree_after_entry first entry) history t (omega arith))
 
 till_from : (first : TreeState) (history : List Entry) (stamp t : ℕ) → IsLegalFrom first stamp history → changes_till first history (suc t) ≡ changes_till first history t ++ changes_by (tree_at first history t) (stamp + t) (effect_at first history t)
 till_from first [] stamp zero legal = refl

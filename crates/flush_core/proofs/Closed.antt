@@ -22,7 +22,7 @@ use Rattle.flush_core.proofs.Own.{stamp_of, comes_in}
 use Rattle.flush_core.proofs.Placed.{placed}
 use Rattle.flush_core.proofs.Runs.{Run, Made, IsLast, Keeps, Seen}
 use Rattle.flush_core.proofs.Fit.{HasNodes, seen_sound}
-use Rattle.flush_core.proofs.Along.{tree_at, effect_at, makes_at, tree_at-after, run_of, change_in, change_of, birth_in, changes_till, changes_till-end, changes_till-more, nodes_at}
+use Rattle.flush_core.proofs.Along.{tree_at, effect_at, makes_at, tree_at-after, run_of, change_in, change_of, birth_in, changes_till, changes_till-end, changes_till-past, changes_till-more, nodes_at}
 use Rattle.flush_core.proofs.CutNodes.{still_node, still_kind}
 
 -- a change that places a child, where an effect places one
@@ -132,6 +132,10 @@ module _ (first : TreeState) (history : List Entry) (is : IsSoundTree first) (le
   pub seen_end : seen_of.rows (length history) ≡ rows_at_cut first history cut
   unfolding seen_of
   seen_end = ap (λ cs. fold with_own first.rows (filter (is_within cut) cs)) (changes_till-end first history)
+
+  pub seen_past : (t : ℕ) → length history ≤ t → seen_of.rows t ≡ rows_at_cut first history cut
+  unfolding seen_of
+  seen_past t le = ap (λ cs. fold with_own first.rows (filter (is_within cut) cs)) (changes_till-past first history t le)
 
   abbrev whole : TreeState
   whole = tree_at_cut first history cut

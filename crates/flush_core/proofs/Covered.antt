@@ -23,12 +23,12 @@ use Rattle.flush_core.proofs.Lives.{no_node_yet}
 use Rattle.flush_core.proofs.Commit.{IsBornAt, birth_at}
 
 -- a change of a list that passes a test and places a node
-record IsFrom (w : RowChange → Bool) (cs : List RowChange) (x : ℕ) : Type 0 where
-  change : RowChange
-  one : IsOneOf cs change
-  passes : w change ≡ true
-  places : change.places ≡ true
-  child : change.child ≡ x
+pub record IsFrom (w : RowChange → Bool) (cs : List RowChange) (x : ℕ) : Type 0 where
+  pub change : RowChange
+  pub one : IsOneOf cs change
+  pub passes : w change ≡ true
+  pub places : change.places ≡ true
+  pub child : change.child ≡ x
 
 further : (w : RowChange → Bool) (c : RowChange) (cs : List RowChange) (x : ℕ) → IsFrom w cs x → IsFrom w (c ∷ cs) x
 further w c cs x f = record { change = f.change; one = inr f.one; passes = f.passes; places = f.places; child = f.child }
@@ -41,7 +41,7 @@ by_one d n rows c x row =
     ] row
 
 -- a row was there, or a change placed it
-from_rows : (w : RowChange → Bool) (cs : List RowChange) (d : ℕ) (n : List ℕ) (rows : FinMap key_cmp ℕ) (x : ℕ) → get (fold with_own rows (filter w cs)) (d, n) ≡ Some x → (get rows (d, n) ≡ Some x) ⊎ IsFrom w cs x
+pub from_rows : (w : RowChange → Bool) (cs : List RowChange) (d : ℕ) (n : List ℕ) (rows : FinMap key_cmp ℕ) (x : ℕ) → get (fold with_own rows (filter w cs)) (d, n) ≡ Some x → (get rows (d, n) ≡ Some x) ⊎ IsFrom w cs x
 from_rows w [] d n rows x row = inl row
 from_rows w (c ∷ cs) d n rows x row =
     elim (w c) as (λ b. w c ≡ b → get (fold with_own rows (cond b (c ∷ filter w cs) (filter w cs))) (d, n) ≡ Some x → (get rows (d, n) ≡ Some x) ⊎ IsFrom w (c ∷ cs) x) [

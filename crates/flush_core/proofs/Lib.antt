@@ -15,5 +15,14 @@ pub mod Growing
 pub mod Noted
 pub mod Planned
 pub mod Views
+pub mod Prefix
+pub mod RunFacts
+pub mod Children
+pub mod Alike
+pub mod Prefixes
 pub mod Lists
 pub mod Covered
+pub mod Grows
+pub mod RunsKeep
+pub mod Members
+pub mod Recount

@@ -33,7 +33,7 @@ empty_closed first history = record {
   ancestors = λ change above node holder name last move within way among row placing. nothing_within change.stamp change.directory within;
 }
 
-first_kept : (first : TreeState) (history : List Entry) (inodes : ℕ → Bool) → IsSoundTree first → IsLegal first history → ((node : ℕ) → inodes node ≡ is_some (get first.nodes node)) → IsKept first history empty inodes
+pub first_kept : (first : TreeState) (history : List Entry) (inodes : ℕ → Bool) → IsSoundTree first → IsLegal first history → ((node : ℕ) → inodes node ≡ is_some (get first.nodes node)) → IsKept first history empty inodes
 first_kept first history inodes is legal same = record {
   closed = empty_closed first history;
   born = λ birth one has kind.

@@ -147,10 +147,10 @@ module _ (tree : TreeState) (core t : ℕ) (s : IsSound tree) where
   ]
 
 -- the number of a node that is made is no node's, and then it is one's
-made_fresh : (tree : TreeState) (core : ℕ) (d : ℕ) (n : List ℕ) (x : ℕ) (kind : Kind) → Fits tree core (Adds d n x) (Some kind) → get tree.nodes x ≡ None
+pub made_fresh : (tree : TreeState) (core : ℕ) (d : ℕ) (n : List ℕ) (x : ℕ) (kind : Kind) → Fits tree core (Adds d n x) (Some kind) → get tree.nodes x ≡ None
 made_fresh tree core d n x kind f = f.fresh
 
-made_node : (tree : TreeState) (core : ℕ) (d : ℕ) (n : List ℕ) (x : ℕ) (kind : Kind) → Fits tree core (Adds d n x) (Some kind) → IsSome (get (tree_with tree core (Adds d n x) (Some kind)).nodes x)
+pub made_node : (tree : TreeState) (core : ℕ) (d : ℕ) (n : List ℕ) (x : ℕ) (kind : Kind) → Fits tree core (Adds d n x) (Some kind) → IsSome (get (tree_with tree core (Adds d n x) (Some kind)).nodes x)
 made_node tree core d n x kind f = elim (node_cases tree.nodes (next_number tree core) (record { kind = kind; bytes = [] }) x) [
   | inl here ↦ subst IsSome (sym here.1) refl
   | inr other ↦ absurd (other.0 f.number)

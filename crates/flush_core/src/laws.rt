@@ -1,5 +1,5 @@
 // What is proved of cuts: each function's contract is a law.
-ghost use Rattle.flush_core.specs.Laws.{ClosedCutsAreSound, DirectoriesAreCut, FilesAreCut, FsyncsCover, FsyncsKeep, ListsCover, ListsKeep};
+ghost use Rattle.flush_core.specs.Laws.{ClosedCutsAreSound, DirectoriesAreCut, FilesAreCut, FsyncsCover, FsyncsKeep, ListsCover, ListsKeep, RunsKeep};
 
 /// In the tree at a cut a directory has its rows at its own stamp.
 pub fn directories_are_cut()
@@ -34,4 +34,9 @@ pub fn lists_keep()
 /// After a list of fsyncs each of them is covered.
 pub fn lists_cover()
     ensures { ListsCover }
+{}
+
+/// In each state of a run, and when any fsyncs have raised its cut, the cut is closed and the tree at it is sound.
+pub fn runs_keep()
+    ensures { RunsKeep }
 {}

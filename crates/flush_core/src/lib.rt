@@ -11,5 +11,5 @@ pub use cut::Cut;
 pub use event::{CommitList, Event, Refused};
 pub use laws::{
     closed_cuts_are_sound, directories_are_cut, files_are_cut, fsyncs_cover, fsyncs_keep,
-    lists_cover, lists_keep,
+    lists_cover, lists_keep, runs_keep,
 };

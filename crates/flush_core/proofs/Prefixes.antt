@@ -1,0 +1,177 @@
+-- An fsync does the same by a history's first entries as by the whole history where these entries count.
+use Rattle.std.proofs.Common.{◌≡◌, ℕ, suc, ◌<◌, ◌≤◌, Bool, true, List, take, IsSome, inl, inr, refl, sym, ap, subst, ◌∙◌, arith}
+use borrow.Author.Tests.{ltb-true, lt-ltb}
+use Rattle.std.specs.FinMap.{FinMap, get}
+use Rattle.sfs_tree.specs.declared.history.Entry.{Entry}
+use Rattle.sfs_tree.specs.Order.{key_cmp}
+use Rattle.sfs_tree.specs.Tree.{TreeState, is_alive, is_directory}
+use Rattle.sfs_tree.specs.Sound.{Above, IsSound}
+use Rattle.sfs_tree.specs.Changes.{RowChange}
+use Rattle.sfs_tree.specs.History.{tree_after, IsLegal}
+use Rattle.sfs_tree.specs.Laws.{IsSoundTree}
+use Rattle.sfs_tree.proofs.RowFacts.{alive_named}
+use Rattle.sfs_tree.proofs.KeepsNodes.{directory_node}
+use Rattle.flush_core.specs.Cut.{Cut, counted_rows_at_cut}
+use Rattle.flush_core.specs.Rules.{IsChange, IsOneOf, Birth, births_of, IsMove}
+use Rattle.flush_core.specs.Closure.{every_entry, Flush, InSpan, HasNaming, IsNamedIn, IsReached, IsDead}
+use Rattle.flush_core.proofs.Runs.{Run, Made, below_or}
+use Rattle.flush_core.proofs.Along.{tree_at, tree_at-after, run_of, change_of, sound_at}
+use Rattle.flush_core.proofs.Lives.{later, no_node_yet}
+use Rattle.flush_core.proofs.Commit.{birth_at}
+use Rattle.flush_core.proofs.Views.{IsLive, below, PrefixesCount}
+use Rattle.flush_core.proofs.Prefix.{take_take, change_below, change_whole, change_prefix, birth_whole, birth_prefix, kind_whole, counted_rows-take}
+use Rattle.flush_core.proofs.Children.{child_node}
+use Rattle.flush_core.proofs.Alike.{Carries, GiveAlike, are_alike}
+
+-- what is alive is a node
+pub alive_node : (tree : TreeState) (x : ℕ) → IsSound tree → is_alive tree x ≡ true → IsSome (get tree.nodes x)
+alive_node tree x sound alive = elim (alive_named tree x alive) [
+  | inl root ↦ subst (λ (y : ℕ). IsSome (get tree.nodes y)) (sym root) (directory_node tree 0 sound.root)
+  | inr named ↦ sound.node named.directory named.name x named.row
+]
+
+module _ (first : TreeState) (history : List Entry) (is : IsSoundTree first) (legal : IsLegal first history) where
+  abbrev pub run : Run
+  run = run_of first history is legal
+
+  pub made_at : (x : RowChange) → IsChange first history x → Made run x.stamp x
+  made_at x one = change_of first history x legal one
+
+  -- a node is made before a change names it
+  pub born_by : (birth : Birth) (x : RowChange) → IsOneOf (births_of first history) birth → IsChange first history x → x.child ≡ birth.node → birth.stamp ≤ x.stamp
+  born_by birth x one is_change same = elim (below_or x.stamp birth.stamp) [
+    | inr le ↦ le
+    | inl lt ↦
+        let born = birth_at first history birth legal one in
+        absurd (no_node_yet run birth.stamp birth.directory born.name birth.node born.kind born.adds born.made (suc x.stamp) (omega arith) (subst (λ (y : ℕ). IsSome (get (run.tree (suc x.stamp)).nodes y)) same (child_node run x.stamp x (made_at x is_change) (suc x.stamp) (omega arith))))
+  ]
+
+  -- an fsync's node is one from its stamp on
+  pub live_node : (flush : Flush) → IsLive first history flush → (u : ℕ) → flush.stamp ≤ u → IsSome (get (tree_at first history u).nodes flush.node)
+  live_node flush live u le =
+      later run flush.stamp u flush.node le (alive_node (tree_at first history flush.stamp) flush.node (sound_at first history 0 flush.stamp is legal) (subst (λ (tree : TreeState). is_alive tree flush.node ≡ true) (sym (tree_at-after first history flush.stamp)) live))
+
+  module _ (n : ℕ) where
+    abbrev prefix : List Entry
+    prefix = take n history
+
+    -- the changes and births of the first entries are those of the history that count
+    span_whole : (cut : Cut) (stamp : ℕ) (x : RowChange) → InSpan first prefix every_entry cut stamp x → InSpan first history (below n) cut stamp x
+    span_whole cut stamp x span = record {
+      is_change = change_whole first history n legal x span.is_change;
+      counted = lt-ltb x.stamp n (change_below first history n legal x span.is_change);
+      from = span.from;
+      below = span.below;
+    }
+
+    span_prefix : (cut : Cut) (stamp : ℕ) (x : RowChange) → InSpan first history (below n) cut stamp x → InSpan first prefix every_entry cut stamp x
+    span_prefix cut stamp x span = record {
+      is_change = change_prefix first history n legal x span.is_change (ltb-true x.stamp n span.counted);
+      counted = refl;
+      from = span.from;
+      below = span.below;
+    }
+
+    naming_whole : (cut : Cut) (node : ℕ) → HasNaming first prefix every_entry cut node → HasNaming first history (below n) cut node
+    naming_whole cut node naming = record {
+      change = naming.change;
+      is_change = change_whole first history n legal naming.change naming.is_change;
+      counted = lt-ltb naming.change.stamp n (change_below first history n legal naming.change naming.is_change);
+      child = naming.child;
+      unflushed = naming.unflushed;
+    }
+
+    naming_prefix : (cut : Cut) (node : ℕ) → HasNaming first history (below n) cut node → HasNaming first prefix every_entry cut node
+    naming_prefix cut node naming = record {
+      change = naming.change;
+      is_change = change_prefix first history n legal naming.change naming.is_change (ltb-true naming.change.stamp n naming.counted);
+      counted = refl;
+      child = naming.child;
+      unflushed = naming.unflushed;
+    }
+
+    child_kind : (x : RowChange) → IsChange first history x → x.stamp < n → is_directory (tree_after first history) x.child ≡ is_directory (tree_after first prefix) x.child
+    child_kind x one lt = kind_whole first history n legal x.child is (child_node run x.stamp x (made_at x one) n lt)
+
+    move_whole : (x : RowChange) → IsMove first prefix x → IsMove first history x
+    move_whole x move = record {
+      is_change = change_whole first history n legal x move.is_change;
+      places = move.places;
+      other = move.other;
+      kind = child_kind x (change_whole first history n legal x move.is_change) (change_below first history n legal x move.is_change) ∙ move.kind;
+    }
+
+    pub move_prefix : (x : RowChange) → x.stamp < n → IsMove first history x → IsMove first prefix x
+    move_prefix x lt move = record {
+      is_change = change_prefix first history n legal x move.is_change lt;
+      places = move.places;
+      other = move.other;
+      kind = sym (child_kind x move.is_change lt) ∙ move.kind;
+    }
+
+    pub same_tree : (s : ℕ) → s < n → tree_after first (take s prefix) ≡ tree_after first (take s history)
+    same_tree s lt = ap (tree_after first) (take_take history s n (omega arith))
+
+    module _ (flush : Flush) (cut : Cut) (inodes : ℕ → Bool) (low : flush.stamp ≤ n) (live : IsLive first history flush) where
+      to_whole : Carries first prefix every_entry history (below n) cut inodes flush
+      to_whole = record {
+        span = λ x span. span_whole cut flush.stamp x span;
+        moves = λ x span move. move_whole x move;
+        stands = λ x above span way. subst (λ (tree : TreeState). Above tree x.directory above) (same_tree x.stamp (change_below first history n legal x span.is_change)) way;
+        births = λ birth own one none naming. (birth_whole first history n legal birth one, naming_whole cut birth.node naming);
+      }
+
+      to_prefix : Carries first history (below n) prefix every_entry cut inodes flush
+      to_prefix = record {
+        span = λ x span. span_prefix cut flush.stamp x span;
+        moves = λ x span move. move_prefix x (ltb-true x.stamp n span.counted) move;
+        stands = λ x above span way. subst (λ (tree : TreeState). Above tree x.directory above) (sym (same_tree x.stamp (ltb-true x.stamp n span.counted))) way;
+        births = λ birth own one none naming. (birth_prefix first history n legal birth one (let le = born_by birth naming.change one naming.is_change naming.child in let lt = ltb-true naming.change.stamp n naming.counted in omega arith), naming_prefix cut birth.node naming);
+      }
+
+      module _ (raised : Cut) where
+        rows_whole : (node : ℕ) → IsNamedIn (counted_rows_at_cut first prefix every_entry raised) node → IsNamedIn (counted_rows_at_cut first history (below n) raised) node
+        rows_whole node named = subst (λ (rows : FinMap key_cmp ℕ). IsNamedIn rows node) (counted_rows-take first history n raised legal) named
+
+        rows_prefix : (node : ℕ) → IsNamedIn (counted_rows_at_cut first history (below n) raised) node → IsNamedIn (counted_rows_at_cut first prefix every_entry raised) node
+        rows_prefix node named = subst (λ (rows : FinMap key_cmp ℕ). IsNamedIn rows node) (sym (counted_rows-take first history n raised legal)) named
+
+        own_kind : (node : ℕ) → node ≡ flush.node → is_directory (tree_after first history) node ≡ is_directory (tree_after first prefix) node
+        own_kind node same = kind_whole first history n legal node is (subst (λ (y : ℕ). IsSome (get (tree_at first history n).nodes y)) (sym same) (live_node flush live n low))
+
+        reached_whole : (node : ℕ) → IsReached first prefix every_entry flush raised node → IsReached first history (below n) flush raised node
+        reached_whole node reached = elim reached [
+          | inl named ↦ inl (rows_whole node named)
+          | inr file ↦ inr (file.0, own_kind node file.0 ∙ file.1, naming_whole raised node file.2)
+        ]
+
+        reached_prefix : (node : ℕ) → IsReached first history (below n) flush raised node → IsReached first prefix every_entry flush raised node
+        reached_prefix node reached = elim reached [
+          | inl named ↦ inl (rows_prefix node named)
+          | inr file ↦ inr (file.0, sym (own_kind node file.0) ∙ file.1, naming_prefix raised node file.2)
+        ]
+
+        dead_whole : (node : ℕ) → IsDead first prefix every_entry raised node → IsDead first history (below n) raised node
+        dead_whole node dead = record {
+          no_root = dead.no_root;
+          unnamed = λ named. dead.unnamed (rows_prefix node named);
+          flushed = λ x one counted child. dead.flushed x (change_prefix first history n legal x one (ltb-true x.stamp n counted)) refl child;
+        }
+
+        dead_prefix : (node : ℕ) → IsDead first history (below n) raised node → IsDead first prefix every_entry raised node
+        dead_prefix node dead = record {
+          no_root = dead.no_root;
+          unnamed = λ named. dead.unnamed (rows_whole node named);
+          flushed = λ x one counted child. dead.flushed x (change_whole first history n legal x one) (lt-ltb x.stamp n (change_below first history n legal x one)) child;
+        }
+
+        gives : GiveAlike first prefix every_entry history (below n) cut inodes flush raised
+        gives = record {
+          rows = counted_rows-take first history n raised legal;
+          reached = λ node concerned. (reached_whole node, reached_prefix node);
+          dead = λ node concerned. (dead_whole node, dead_prefix node);
+        }
+
+pub prefixes_count : PrefixesCount
+prefixes_count first history n flush cut inodes is legal le low live =
+    are_alike first (take n history) every_entry history (below n) cut inodes flush (to_whole first history is legal n flush cut inodes low live) (to_prefix first history is legal n flush cut inodes low live) (λ raised raise. gives first history is legal n flush cut inodes low live raised)

@@ -1,0 +1,72 @@
+-- In each state of a run the cut is closed, and directories with an inode are born.
+use Rattle.std.proofs.Common.{◌≡◌, ℕ, zero, suc, ◌≤◌, true, List, [], ◌∷◌, ◌++◌, length, take, Option, Some, None, IsSome, is_some, refl, sym, ap, subst, arith}
+use Rattle.std.specs.FinMap.{get}
+use Rattle.std.proofs.Math.Seq.{take-append_seam}
+use Rattle.sfs_tree.specs.declared.history.Entry.{Entry}
+use Rattle.sfs_tree.specs.Tree.{TreeState, Node}
+use Rattle.sfs_tree.specs.History.{IsLegal}
+use Rattle.sfs_tree.specs.Laws.{IsSoundTree}
+use Rattle.flush_core.specs.declared.event.Event.{Event}
+use Rattle.flush_core.specs.declared.event.Event.TheVariants as event
+use Rattle.flush_core.specs.Cut.{cut_of}
+use Rattle.flush_core.specs.Closure.{every_entry, Flush, AreRaised}
+use Rattle.flush_core.specs.Machine.{MachineState, start_of, kept_of, IsRaisedBy, Takes}
+use Rattle.flush_core.specs.Runs.{IsRun}
+use Rattle.flush_core.specs.Laws.{RunsKeep}
+use Rattle.flush_core.proofs.Closed.{closed_cuts_are_sound}
+use Rattle.flush_core.proofs.Lists.{first_kept}
+use Rattle.flush_core.proofs.RunFacts.{IsSteady, steady_at, event_there}
+use Rattle.flush_core.proofs.Grows.{IsKeptWell, kept_whole, nodes_whole, flushes_keep}
+
+-- what is kept of a state
+abbrev pub IsKeptIn : TreeState → MachineState → Type 0
+IsKeptIn first state = IsKeptWell first state.history state.cut state.inodes
+
+module _ (first : TreeState) (is : IsSoundTree first) where
+  start_kept : IsKeptIn first (start_of first)
+  start_kept = record {
+    kept = first_kept first [] (λ node. is_some (get first.nodes node)) is tt (λ _. refl);
+    nodes = λ node has. some (get first.nodes node) has;
+  }
+    where
+      some : (o : Option Node) → is_some o ≡ true → IsSome o
+      some (Some x) e = refl
+      some None e = cc
+
+  -- a call leaves what was kept
+  call_keeps : (old : MachineState) (entry : Entry) → IsLegal first (old.history ++ entry ∷ []) → ((node : ℕ) → cut_of old.cut node ≤ length old.history) → IsKeptIn first old → IsKeptWell first (old.history ++ entry ∷ []) old.cut old.inodes
+  call_keeps old entry legal low was =
+      let before : IsKeptWell first (take (length old.history) (old.history ++ entry ∷ [])) old.cut old.inodes = subst (λ (h : List Entry). IsKeptWell first h old.cut old.inodes) (sym (take-append_seam old.history (entry ∷ []))) was in
+      record {
+        kept = kept_whole first (old.history ++ entry ∷ []) is legal (length old.history) old.cut old.inodes low before.nodes before.kept;
+        nodes = nodes_whole first (old.history ++ entry ∷ []) is legal (length old.history) old.inodes before.nodes;
+      }
+
+  -- so do raises
+  raise_keeps : (old raised : MachineState) (flushes : List Flush) → IsSteady first old → IsRaisedBy old flushes raised → IsKeptIn first old → IsKeptIn first raised
+  raise_keeps old raised flushes steady by was =
+      subst (λ (h : List Entry). IsKeptWell first h raised.cut raised.inodes) (sym (ap (λ (s : MachineState). s.history) by.others))
+      (flushes_keep first old.history is steady.legal (subst (λ (f : TreeState). AreRaised f old.history every_entry old.cut old.inodes flushes raised.cut raised.inodes) steady.start by.raised) was)
+
+  -- an event keeps it
+  kept_step : (old : MachineState) (e : Event) (new : MachineState) → Takes old e new → IsSteady first old → IsSteady first new → IsKeptIn first old → IsKeptIn first new
+  kept_step old (event.Call entry) new takes steady after was =
+      subst (IsKeptIn first) (sym takes.moves.1) (call_keeps old entry (subst (λ (s : MachineState). IsLegal first s.history) takes.moves.1 after.legal) steady.cuts was)
+  kept_step old (event.CutAt commit node stamp) new takes steady after was = subst (IsKeptIn first) (sym takes.moves.2) was
+  kept_step old (event.Opened commit) new takes steady after was = subst (IsKeptIn first) (sym takes.moves) was
+  kept_step old (event.Durable commit) new takes steady after was = subst (IsKeptIn first) (sym takes.moves.4) (raise_keeps old takes.moves.1 (takes.moves.0.flush ∷ []) steady takes.moves.3 was)
+  kept_step old (event.Fail commit) new takes steady after was = subst (IsKeptIn first) (sym takes.moves) was
+  kept_step old (event.Crash kept) new takes steady after was = subst (IsKeptIn first) (sym takes.moves.2) (raise_keeps old takes.moves.0 (kept_of old kept.items) steady takes.moves.1 was)
+
+  -- each state of a run is kept
+  pub kept_at : (events : List Event) (states : ℕ → MachineState) → IsRun first events states → (place : ℕ) → place ≤ length events → IsKeptIn first (states place)
+  kept_at events states run zero le = subst (IsKeptIn first) (sym run.begins) start_kept
+  kept_at events states run (suc place) le =
+      let there = event_there events place (omega arith) in
+      kept_step (states place) there.0 (states (suc place)) (run.steps place there.0 there.1) (steady_at first events states run place (omega arith)) (steady_at first events states run (suc place) le) (kept_at events states run place (omega arith))
+
+pub runs_keep : RunsKeep
+runs_keep first events states place flushes cut inodes is run le raised =
+    let legal = (steady_at first events states run place le).legal in
+    let kept = (flushes_keep first (states place).history is legal raised (kept_at first is events states run place le)).kept in
+    record { kept = kept; sound = closed_cuts_are_sound first (states place).history cut is legal kept.closed }
