@@ -26,3 +26,4 @@ pub mod Grows
 pub mod RunsKeep
 pub mod Members
 pub mod Recount
+pub mod Grown

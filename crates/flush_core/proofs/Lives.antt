@@ -39,7 +39,7 @@ module _ (tree : TreeState) (core t : ℕ) (s : IsSound tree) where
   live_row d n c row = let h = s.holds d n c row in record { kind = h.0; alive = h.1 }
 
   -- what changes is a live directory
-  live_own : (effect : Effect) (makes : Option Kind) → Fits tree core effect makes → (x : RowChange) → IsOneOf (changes_by tree t effect) x → IsLive tree x.directory
+  pub live_own : (effect : Effect) (makes : Option Kind) → Fits tree core effect makes → (x : RowChange) → IsOneOf (changes_by tree t effect) x → IsLive tree x.directory
   live_own Stays makes f x one = absurd one
   live_own (Edits file edit) makes f x one = absurd one
   live_own (Adds d n c) None f x one = elim one [ inl e ↦ subst (λ (y : RowChange). IsLive tree y.directory) e (record { kind = f.holder.kind; alive = f.holder.alive }) | inr none ↦ absurd none ]

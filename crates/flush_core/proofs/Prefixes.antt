@@ -93,7 +93,7 @@ module _ (first : TreeState) (history : List Entry) (is : IsSoundTree first) (le
     child_kind : (x : RowChange) → IsChange first history x → x.stamp < n → is_directory (tree_after first history) x.child ≡ is_directory (tree_after first prefix) x.child
     child_kind x one lt = kind_whole first history n legal x.child is (child_node run x.stamp x (made_at x one) n lt)
 
-    move_whole : (x : RowChange) → IsMove first prefix x → IsMove first history x
+    pub move_whole : (x : RowChange) → IsMove first prefix x → IsMove first history x
     move_whole x move = record {
       is_change = change_whole first history n legal x move.is_change;
       places = move.places;
