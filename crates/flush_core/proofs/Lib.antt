@@ -11,5 +11,9 @@ pub mod Closed
 pub mod Lives
 pub mod Commit
 pub mod Stamps
+pub mod Listed
+pub mod Marks
+pub mod Brought
+pub mod Counting
 pub mod Lists
 pub mod Covered
