@@ -15,5 +15,7 @@ pub mod Listed
 pub mod Marks
 pub mod Brought
 pub mod Counting
+pub mod Gathered
+pub mod Concerned
 pub mod Lists
 pub mod Covered

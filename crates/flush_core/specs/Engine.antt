@@ -1,5 +1,5 @@
 -- What the engine looks for in a past: the changes of a span, the nodes that members bring in, and the nodes that a change names.
-use Rattle.std.specs.Prelude.{◌≡◌, ◌⊎◌, ℕ, ◌<◌, ◌≤◌, true, false, List, [], Option, Some, None}
+use Rattle.std.specs.Prelude.{◌≡◌, ◌⊎◌, ℕ, ◌<◌, ◌≤◌, ◌↔◌, true, false, List, [], Option, Some, None}
 use Rattle.std.specs.Option.{option_map_or}
 use Rattle.flush_core.specs.declared.past.OwnChange.{OwnChange}
 use Rattle.flush_core.specs.declared.past.BornNode.{BornNode}
@@ -61,3 +61,17 @@ IsWanted past cut inodes stamp members node =
 abbrev pub Finds : (ℕ → Type 0) → NodeSet → Option ℕ → Type 0
 Finds Wants set (Some node) = Wants node × (has_node set node ≡ false)
 Finds Wants set None = (node : ℕ) → Wants node → has_node set node ≡ true
+
+-- One of some elements brings a node in.
+abbrev pub OfSome : {X : Type 0} → List X → (X → ℕ → Type 0) → ℕ → Type 0
+OfSome {X} xs BringsIn node = (x : X) × IsOneOf xs x × BringsIn x node
+
+-- A set has the nodes of another one and more.
+abbrev pub Joins : (ℕ → Type 0) → NodeSet → NodeSet → Type 0
+Joins More set joined = (node : ℕ) → (has_node joined node ≡ true) ↔ ((has_node set node ≡ true) ⊎ More node)
+
+-- A change in a member's span names a node.
+pub record NamesFor (cut : Cut) (stamp : ℕ) (members : NodeSet) (change : OwnChange) (node : ℕ) : Type 0 where
+  pub member : has_node members change.directory ≡ true
+  pub spans : Spans cut stamp change
+  pub child : change.child ≡ node

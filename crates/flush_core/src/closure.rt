@@ -1,14 +1,15 @@
-// What one fsync flushes. The set of members grows by one node at a time, until what the changes and births bring in
+// What one fsync flushes and concerns. The set of members grows by one node at a time, until what the changes and births bring in
 // for its members is in it.
-ghost use Rattle.std.specs.Prelude.{◌≡◌, ◌≤◌, ◌↔◌, ℕ, true, List, IfOk};
+ghost use Rattle.std.specs.Prelude.{◌≡◌, ◌≤◌, ◌↔◌, ℕ, true, List, IfOk, OnOk};
 ghost use Rattle.sfs_tree.specs.declared.history.Entry.{Entry};
 ghost use Rattle.sfs_tree.specs.Tree.{TreeState};
 ghost use Rattle.flush_core.specs.Closure.{Flush};
 ghost use Rattle.flush_core.specs.Cut.{cut_of};
-ghost use Rattle.flush_core.specs.Engine.{Spans, IsNaming, Brings, BringsFor, IsBrought, Bears, IsBorne, IsWanted, Finds};
-ghost use Rattle.flush_core.specs.Members.{AreMembers};
+ghost use Rattle.flush_core.specs.Engine.{Spans, IsNaming, Brings, BringsFor, IsBrought, Bears, IsBorne, IsWanted, Finds, OfSome, Joins, NamesFor};
+ghost use Rattle.flush_core.specs.Members.{AreMembers, AreConcerned};
 ghost use Rattle.flush_core.specs.Past.{IsPast};
 ghost use Rattle.flush_core.specs.Rules.{IsOneOf};
+ghost use Rattle.flush_core.specs.declared.sets.NodeSet.{NodeSet};
 
 use crate::cut::Cut;
 use crate::past::{BornNode, OwnChange, Past};
@@ -162,4 +163,51 @@ pub(crate) fn has_naming(changes: &[OwnChange], cut: &Cut, node: u32) -> bool
         }
     }
     false
+}
+
+/// The nodes that an fsync concerns, whose members these are: them, and the children of the changes in their spans.
+/// It takes time in proportion to the number of changes.
+pub(crate) fn concerned_by(
+    past: &Past,
+    cut: &Cut,
+    members: &NodeSet,
+    stamp: u64,
+) -> Result<NodeSet, NoMemory>
+    ensures { IfOk result (λ concerned. (first : TreeState) (history : List Entry) (inodes : NodeSet) (node : ℕ) → IsPast first history past.now
+        → AreMembers first history cut.now inodes (record { node = node; stamp = stamp }) members.now
+        → AreConcerned first history cut.now inodes (record { node = node; stamp = stamp }) concerned) }
+{
+    with_named(&past.changes, cut, members, stamp)
+}
+
+// The members, and the children of those changes that lie in their spans.
+fn with_named(
+    changes: &[OwnChange],
+    cut: &Cut,
+    members: &NodeSet,
+    stamp: u64,
+) -> Result<NodeSet, NoMemory>
+    ensures { IfOk result (λ concerned. Joins (OfSome changes.now (NamesFor cut.now stamp members.now)) members.now concerned) }
+{
+    let mut concerned = members.copy()?;
+    for change in changes {
+        add_child(&mut concerned, change, cut, members, stamp)?;
+    }
+    Ok(concerned)
+}
+
+// Puts in the child of a change that lies in a member's span.
+fn add_child(
+    concerned: &mut NodeSet,
+    change: &OwnChange,
+    cut: &Cut,
+    members: &NodeSet,
+    stamp: u64,
+) -> Result<(), NoMemory>
+    ensures { OnOk result (Joins (NamesFor cut.now stamp members.now change.now) concerned.old concerned.new) }
+{
+    if members.has(change.directory) && spans(cut, stamp, change) {
+        concerned.insert(change.child)?;
+    }
+    Ok(())
 }
