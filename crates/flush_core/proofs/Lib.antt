@@ -20,6 +20,12 @@ pub mod RunFacts
 pub mod Children
 pub mod Alike
 pub mod Prefixes
+pub mod Listed
+pub mod Marks
+pub mod Brought
+pub mod Counting
+pub mod Gathered
+pub mod Concerned
 pub mod Lists
 pub mod Covered
 pub mod Grows

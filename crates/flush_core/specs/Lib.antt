@@ -2,8 +2,11 @@ pub mod Closure
 pub mod Covers
 pub mod Cut
 pub mod Grows
+pub mod Engine
 pub mod Laws
 pub mod Machine
+pub mod Members
+pub mod NodeSets
 pub mod Past
 pub mod Plan
 pub mod Rules

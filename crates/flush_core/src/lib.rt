@@ -1,11 +1,13 @@
 //! What an fsync flushes: cuts of a history, their rules, and what is proved of them.
 #![tactic(auto)]
 
+mod closure;
 mod cut;
 mod event;
 mod laws;
 mod past;
 mod plan;
+mod sets;
 
 pub use cut::Cut;
 pub use event::{CommitList, Event, Refused};

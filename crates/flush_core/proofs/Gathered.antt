@@ -1,0 +1,46 @@
+-- Sets to which the elements of a list add nodes, one after the other.
+use Rattle.std.proofs.Common.{◌≡◌, ℕ, ◌+◌, ◌<◌, ◌≤◌, true, List, length, take, get_or, ◌⊎◌, inl, inr, sym, subst, ◌∙◌}
+use Rattle.flush_core.specs.declared.sets.NodeSet.{NodeSet}
+use Rattle.flush_core.specs.NodeSets.{has_node, with_node}
+use Rattle.flush_core.specs.Engine.{OfSome, Joins}
+use Rattle.flush_core.proofs.Listed.{one_more, still_one, next_one, take_whole}
+use Rattle.flush_core.proofs.Marks.{with_in, with_kept, with_cases}
+
+-- none of them has added any
+pub gather_none : {X : Type 0} (BringsIn : X → ℕ → Type 0) (xs : List X) (start set : NodeSet) → ((node : ℕ) → has_node set node ≡ has_node start node) → Joins (OfSome (take 0 xs) BringsIn) start set
+gather_none BringsIn xs start set same node = (λ is. inl (sym (same node) ∙ is), λ from. elim from [ inl is ↦ same node ∙ is | inr none ↦ absurd none.1 ])
+
+-- one more has added its own
+pub gather_more : {X : Type 0} (BringsIn : X → ℕ → Type 0) (xs : List X) (i : ℕ) (d v : X) (start before after : NodeSet) → i < length xs → v ≡ get_or xs i d → Joins (OfSome (take i xs) BringsIn) start before → Joins (BringsIn v) before after → Joins (OfSome (take (i + 1) xs) BringsIn) start after
+gather_more BringsIn xs i d v start before after lt is first next node = (come, stay)
+  where
+    come : has_node after node ≡ true → (has_node start node ≡ true) ⊎ OfSome (take (i + 1) xs) BringsIn node
+    come has = elim ((next node).0 has) [
+      | inl old ↦ elim ((first node).0 old) [ inl own ↦ inl own | inr some ↦ inr (some.0, still_one xs i d some.0 lt some.1, some.2) ]
+      | inr brings ↦ inr (v, next_one xs i d v lt is, brings)
+    ]
+
+    stay : (has_node start node ≡ true) ⊎ OfSome (take (i + 1) xs) BringsIn node → has_node after node ≡ true
+    stay (inl own) = (next node).1 (inl ((first node).1 (inl own)))
+    stay (inr (x, one, brings)) = elim (one_more xs i d v x lt is one) [
+      | inl before_it ↦ (next node).1 (inl ((first node).1 (inr (x, before_it, brings))))
+      | inr e ↦ (next node).1 (inr (subst (λ y. BringsIn y node) (sym e) brings))
+    ]
+
+-- all of them have
+pub gather_all : {X : Type 0} (BringsIn : X → ℕ → Type 0) (xs : List X) (i : ℕ) (start set : NodeSet) → length xs ≤ i → Joins (OfSome (take i xs) BringsIn) start set → Joins (OfSome xs BringsIn) start set
+gather_all BringsIn xs i start set le joins = subst (λ l. Joins (OfSome l BringsIn) start set) (take_whole i xs le) joins
+
+-- a node is put in
+pub join_one : (More : ℕ → Type 0) (node : ℕ) (set joined : NodeSet) → ((x : ℕ) → has_node joined x ≡ with_node node true (has_node set) x) → More node → ((x : ℕ) → More x → node ≡ x) → Joins More set joined
+join_one More node set joined put is only x = (
+  λ has. elim (with_cases node x (has_node set) (sym (put x) ∙ has)) [ inl e ↦ inr (subst More e is) | inr old ↦ inl old ],
+  λ from. elim from [
+    | inl old ↦ put x ∙ with_kept node x (has_node set) old
+    | inr more ↦ subst (λ y. has_node joined y ≡ true) (only x more) (put node ∙ with_in node true (has_node set))
+  ],
+)
+
+-- none is
+pub join_none : (More : ℕ → Type 0) (set joined : NodeSet) → ((x : ℕ) → has_node joined x ≡ has_node set x) → ((x : ℕ) → More x → ⊥) → Joins More set joined
+join_none More set joined same none x = (λ has. inl (sym (same x) ∙ has), λ from. elim from [ inl old ↦ same x ∙ old | inr more ↦ absurd (none x more) ])

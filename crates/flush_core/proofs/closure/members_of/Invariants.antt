@@ -1,0 +1,17 @@
+use Rattle.std.proofs.Common.{◌≡◌, ◌-◌, ◌^◌, ℕ, true, List}
+use Rattle.sfs_tree.specs.declared.history.Entry.{Entry}
+use Rattle.sfs_tree.specs.Tree.{TreeState}
+use Rattle.flush_core.specs.Closure.{every_entry, Closure}
+use Rattle.flush_core.specs.NodeSets.{has_node}
+use Rattle.flush_core.specs.Past.{IsPast}
+use Rattle.flush_core.proofs.Counting.{count_below}
+use Rattle.flush_core.proofs.closure.members_of.Given as goal
+
+abbrev pub invariant-loop-wanted : goal.invariant-loop-wanted
+invariant-loop-wanted l = record {
+  own : has_node l.members l.node ≡ true;
+  sound : (first : TreeState) (history : List Entry) → IsPast first history l.past → (node : ℕ) → has_node l.members node ≡ true → Closure first history every_entry l.cut (has_node l.inodes) (record { node = l.node; stamp = l.stamp }) node;
+}
+
+abbrev pub decreases-loop-wanted : goal.decreases-loop-wanted
+decreases-loop-wanted l = 2 ^ 32 - count_below (has_node l.members) (2 ^ 32)
