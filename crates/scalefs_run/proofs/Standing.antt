@@ -9,9 +9,8 @@ use Rattle.sfs_tree.specs.declared.history.Entry.{Entry}
 use Rattle.sfs_tree.specs.declared.reply.Reply.{Reply}
 use Rattle.sfs_tree.specs.declared.reply.Reply.TheVariants as reply
 use Rattle.sfs_tree.specs.Tree.{TreeState, made_by}
-use Rattle.sfs_tree.specs.Effect.{made_after}
+use Rattle.sfs_tree.proofs.Cores.{cores_after}
 use Rattle.sfs_tree.proofs.SoundTrees.{calls_keep_sound}
-use Rattle.std.proofs.Math.ListN.{length-set}
 use Rattle.scalefs_run.specs.Words.{CORES}
 use Rattle.sfs_tree.specs.Verdict.{verdict, tree_after_call}
 use Rattle.sfs_tree.specs.History.{MayCome, IsLegal, IsDue, IsFsyncReply, flushes, tree_after, is_ok_reply}
@@ -77,11 +76,6 @@ called_may tree stamp core call none within = record {
   acknowledged = subst (λ b. IsSome {T = ℕ} None ↔ IsTrue (b && is_ok_reply (verdict tree core call).reply)) (sym (no_flush tree call none)) (λ e. e, λ e. e);
 }
 
--- a call leaves as many cores as there were
-length-made_after : (made : List ℕ) (core before : ℕ) (makes : Option Kind) → length (made_after made core before makes) ≡ length made
-length-made_after made core before None = refl
-length-made_after made core before (Some kind) = length-set made core (before + 1)
-
 -- a reply that is not Ok has no moment of acknowledgement
 pub no_ack : (ack : Option ℕ) (ok : Bool) → (IsSome ack ↔ IsTrue ok) → ok ≡ false → ack ≡ None
 no_ack None ok both is = refl
@@ -112,7 +106,7 @@ module _ (start from : ℕ) (first : TreeState) (history : List Entry) (tree : T
       record {
         legal = legal;
         tree_is = ap (λ (t : TreeState). tree_after_call t core call) so_far.tree_is ∙ sym (tree_after-push first history entry);
-        cores = length-made_after tree.made core (made_by tree core) (verdict tree core call).makes ∙ so_far.cores;
+        cores = cores_after tree core call ∙ so_far.cores;
         sound = calls_keep_sound tree core call so_far.sound (omega arith);
         answered = λ kept is. AreAnswered-push false kept first history entry (so_far.answered kept is) (λ fsync. absurd (let never : false ≡ true = sym none ∙ fsync in cc));
         halted = has_failed-push history entry ∙ ap (λ b. has_failed history || b) fails_not ∙ or_false (has_failed history) ∙ so_far.halted;

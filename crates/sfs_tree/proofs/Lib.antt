@@ -1,6 +1,7 @@
 pub mod Acts
 pub mod ByStamps
 pub mod CoreLists
+pub mod Cores
 pub mod Counted
 pub mod Counting
 pub mod FileBytes

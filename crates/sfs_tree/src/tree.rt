@@ -47,7 +47,7 @@ impl Tree {
     ghost use Rattle.sfs_base.specs.declared.numbers.Kind.TheVariants.{Directory};
     ghost use Rattle.sfs_tree.specs.Tree.{row_of, is_directory, bucket_rows, made_by};
     ghost use Rattle.sfs_tree.specs.Build.{root_alone, with_node, with_row};
-    ghost use Rattle.sfs_tree.specs.Sound.{IsSound};
+    ghost use Rattle.sfs_tree.specs.Sound.{IsSound, IsNumbered};
     ghost use Rattle.sfs_tree.specs.Step.{IsReadable};
     ghost use Rattle.sfs_tree.specs.Verdict.{verdict, tree_after_call};
 
@@ -113,16 +113,17 @@ impl Tree {
         self.share = share;
     }
 
-    /// An equal tree. It takes time and memory in proportion to the rows, the numbers of the nodes and their bytes.
+    /// An equal tree. Each of its nodes has a number that was given. It takes time and memory in proportion to the rows, the numbers of the nodes and their bytes.
     pub fn copy(&self) -> Result<Tree, NoMemory>
-        ensures { IfOk result (λ tree. tree ≡ self.now) }
+        ensures ok { IfOk result (λ tree. tree ≡ self.now) }
+        ensures numbered { IsNumbered self.now }
     {
         Ok(Tree {
             alloc: self.alloc,
             store: self.store.copy(self.alloc)?,
             first: self.first,
             share: self.share,
-            made: self.made.clone()?,
+            made: copied(&self.made)?,
         })
     }
 
@@ -137,6 +138,13 @@ impl Tree {
     {
         self.run(core, call)
     }
+}
+
+// Equal numbers.
+fn copied(numbers: &Vec<u32>) -> Result<Vec<u32>, NoMemory>
+    ensures { IfOk result (λ copy. copy.items ≡ numbers.now.items) }
+{
+    Ok(numbers.clone()?)
 }
 
 impl Tree {
