@@ -48,7 +48,7 @@ module _ (old new : Past) (entry : Entry) (tree : new.tree ≡ tree_after_entry 
         own = ap (λ r. r ∷ []) has.row ∙ sym both.0 ∙ ap (λ (c : Call). changes_by old.tree entry.stamp.0 (verdict old.tree entry.core.0 c).effect) (sym is);
         noted = noted_more old.tree [] (has.change ∷ []) has.change refl (λ change one. absurd one) (λ kind alive. noted_plain old.tree has.change entry.stamp.0 directory.0 name node.0 has.row has.above);
         births = has.births ∙ ap (λ l. map birth_of l ++ record { stamp = entry.stamp.0; directory = directory.0; node = node.0 } ∷ []) same_births
-          ∙ ap (λ l. map birth_of old.births.items ++ l) (sym both.1 ∙ ap (λ (c : Call). births_by entry.stamp.0 (verdict old.tree entry.core.0 c).effect (verdict old.tree entry.core.0 c).makes) (sym is));
+            ∙ ap (λ l. map birth_of old.births.items ++ l) (sym both.1 ∙ ap (λ (c : Call). births_by entry.stamp.0 (verdict old.tree entry.core.0 c).effect (verdict old.tree entry.core.0 c).makes) (sym is));
       }
 
   -- a node could not be made
@@ -57,8 +57,8 @@ module _ (old new : Past) (entry : Entry) (tree : new.tree ≡ tree_after_entry 
   grows_unborn directory name kind is differ same same_births =
       let both = makes_nothing old.tree entry.core.0 entry.stamp.0 directory name kind (λ node given e. differ node given (ap (λ (c : Call). (verdict old.tree entry.core.0 c).reply) is ∙ e)) in
       grows_none same same_births
-        (ap (λ (c : Call). changes_by old.tree entry.stamp.0 (verdict old.tree entry.core.0 c).effect) is ∙ both.0)
-        (ap (λ (c : Call). births_by entry.stamp.0 (verdict old.tree entry.core.0 c).effect (verdict old.tree entry.core.0 c).makes) is ∙ both.1)
+      (ap (λ (c : Call). changes_by old.tree entry.stamp.0 (verdict old.tree entry.core.0 c).effect) is ∙ both.0)
+      (ap (λ (c : Call). births_by entry.stamp.0 (verdict old.tree entry.core.0 c).effect (verdict old.tree entry.core.0 c).makes) is ∙ both.1)
 
   -- any other call was answered Ok
   pub grows_planned : (planned : List OwnChange) → MakesNone entry.call → (verdict old.tree entry.core.0 entry.call).reply ≡ reply.Ok → map row_change_of planned ≡ changes_by old.tree entry.stamp.0 (plan_of old.tree entry.call) → AreNoted old.tree planned

@@ -111,7 +111,7 @@ module _ (first : TreeState) (history : List Entry) (entry : Entry) (is : IsSoun
     stand = λ above v. subst (λ (h : List Entry). Above (tree_after first h) change.directory above) (same_take change.stamp low) (keeps.stand above v);
     all = λ move above way.
         keeps.all (subst (λ (h : List Entry). IsMove first h (row_change_of change)) prefix (move_prefix first whole is legal n (row_change_of change) lower move)) above
-          (subst (λ (h : List Entry). Above (tree_after first h) change.directory above) (sym (same_take change.stamp low)) way);
+        (subst (λ (h : List Entry). Above (tree_after first h) change.directory above) (sym (same_take change.stamp low)) way);
   }
     where
       lower : change.stamp < n
@@ -135,7 +135,7 @@ module _ (first : TreeState) (history : List Entry) (entry : Entry) (is : IsSoun
     stand = λ above v. subst (λ (h : List Entry). Above (tree_after first h) change.directory above) (sym there) (subst (λ l. Above tree change.directory l) v.2 (noted.stand v.0 v.1));
     all = λ move above way.
         noted.all (record { places = move.places; other = move.other; kind = sym (kind_on change.child (mover_there tree entry.core.0 entry.stamp.0 sound.sound effect _ fits (row_change_of change) one move.places move.other)) ∙ move.kind }) above
-          (subst (λ (h : List Entry). Above (tree_after first h) change.directory above) there way);
+        (subst (λ (h : List Entry). Above (tree_after first h) change.directory above) there way);
   }
     where
       fits : Fits tree entry.core.0 effect (verdict tree entry.core.0 entry.call).makes
@@ -152,15 +152,15 @@ module _ (first : TreeState) (history : List Entry) (entry : Entry) (is : IsSoun
     tree = grows.tree ∙ ap (λ (t : TreeState). tree_after_entry t entry) past.tree ∙ sym (tree_after-push first history entry);
     changes = ap (map row_change_of) grows.changes ∙ map-append row_change_of old.changes.items grows.more ∙ ap (λ l. l ++ map row_change_of grows.more) past.changes ∙ ap (λ l. changes_of first history ++ l) own ∙ sym (changes_of-push first history entry);
     births = grows.births ∙ ap (λ l. l ++ births_by entry.stamp.0 (verdict old.tree entry.core.0 entry.call).effect (verdict old.tree entry.core.0 entry.call).makes) past.births
-      ∙ ap (λ (t : TreeState). births_of first history ++ births_by entry.stamp.0 (verdict t entry.core.0 entry.call).effect (verdict t entry.core.0 entry.call).makes) past.tree
-      ∙ sym (births_of-push first history entry);
+        ∙ ap (λ (t : TreeState). births_of first history ++ births_by entry.stamp.0 (verdict t entry.core.0 entry.call).effect (verdict t entry.core.0 entry.call).makes) past.tree
+        ∙ sym (births_of-push first history entry);
     above = λ change one. elim (in_either old.changes.items grows.more change (subst (λ l. IsOneOf l change) grows.changes one)) [
       | inl was ↦ still_kept change (subst (λ l. IsOneOf l (row_change_of change)) past.changes (in_mapped old.changes.items change was)) (past.above change was)
       | inr more ↦
           let row = subst (λ l. IsOneOf l (row_change_of change)) own (in_mapped grows.more change more) in
           let live = live_own tree entry.core.0 entry.stamp.0 sound.sound effect _ (calls_fit tree entry.core.0 entry.call sound core) (row_change_of change) row in
           newly_kept change row (subst (λ (t : TreeState). IsNoted t change) past.tree
-            (grows.noted change more (subst (λ (t : TreeState). is_directory t change.directory ≡ true) (sym past.tree) live.kind) (subst (λ (t : TreeState). is_alive t change.directory ≡ true) (sym past.tree) live.alive)))
+          (grows.noted change more (subst (λ (t : TreeState). is_directory t change.directory ≡ true) (sym past.tree) live.kind) (subst (λ (t : TreeState). is_alive t change.directory ≡ true) (sym past.tree) live.alive)))
     ];
   }
     where

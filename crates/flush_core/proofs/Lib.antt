@@ -33,3 +33,4 @@ pub mod RunsKeep
 pub mod Members
 pub mod Recount
 pub mod Grown
+pub mod Finding

@@ -67,13 +67,13 @@ follows_rmdir : (tree : TreeState) (stamp directory : ℕ) (name : List ℕ) (ro
 follows_rmdir tree stamp directory name None = follows_refused tree stamp Stays _
 follows_rmdir tree stamp directory name (Some child) =
     follows_one tree stamp (Removes directory name child) (not (is_directory tree child)) _ _ (follows_refused tree stamp (Removes directory name child) NotDir)
-      (follows_one tree stamp (Removes directory name child) (not (row_count tree child == 0)) _ _ (follows_refused tree stamp (Removes directory name child) NotEmpty) (follows_done tree stamp (Removes directory name child)))
+    (follows_one tree stamp (Removes directory name child) (not (row_count tree child == 0)) _ _ (follows_refused tree stamp (Removes directory name child) NotEmpty) (follows_done tree stamp (Removes directory name child)))
 
 follows_move : (tree : TreeState) (stamp directory : ℕ) (name : List ℕ) (to_directory : ℕ) (to_name : List ℕ) (row : Option ℕ) → Follows tree stamp (moving tree directory name to_directory to_name row) (move_row tree directory name to_directory to_name row)
 follows_move tree stamp directory name to_directory to_name None = follows_refused tree stamp Stays _
 follows_move tree stamp directory name to_directory to_name (Some child) =
     follows_if tree stamp Stays (Moves directory name to_directory to_name child) (names_child (row_of tree to_directory to_name) child) _ _ (follows_answered tree stamp reply.Ok)
-      (follows_else tree stamp (Moves directory name to_directory to_name child) (move_fault tree child to_directory to_name) _ (follows_done tree stamp (Moves directory name to_directory to_name child)))
+    (follows_else tree stamp (Moves directory name to_directory to_name child) (move_fault tree child to_directory to_name) _ (follows_done tree stamp (Moves directory name to_directory to_name child)))
 
 -- each call but one that makes a node
 pub follows_plan : (tree : TreeState) (core stamp : ℕ) (c : Call) → MakesNone c → Follows tree stamp (plan_of tree c) (verdict tree core c)
@@ -106,8 +106,8 @@ pub makes_node : (tree : TreeState) (core stamp : ℕ) (directory node : NodeId)
     × (births_by stamp (verdict tree core (call.Make directory name kind)).effect (verdict tree core (call.Make directory name kind)).makes ≡ record { stamp = stamp; directory = directory.0; node = node.0 } ∷ [])
 makes_node tree core stamp directory node name kind given is =
     elim (make_fault tree core directory.0 name) as (λ fault. (or_else fault (make_node tree core directory.0 name kind)).reply ≡ reply.Node node given
-      → (changes_by tree stamp (or_else fault (make_node tree core directory.0 name kind)).effect ≡ added stamp directory.0 name node.0 None ∷ [])
-      × (births_by stamp (or_else fault (make_node tree core directory.0 name kind)).effect (or_else fault (make_node tree core directory.0 name kind)).makes ≡ record { stamp = stamp; directory = directory.0; node = node.0 } ∷ [])) [
+    → (changes_by tree stamp (or_else fault (make_node tree core directory.0 name kind)).effect ≡ added stamp directory.0 name node.0 None ∷ [])
+    × (births_by stamp (or_else fault (make_node tree core directory.0 name kind)).effect (or_else fault (make_node tree core directory.0 name kind)).makes ≡ record { stamp = stamp; directory = directory.0; node = node.0 } ∷ [])) [
       | Some code ↦ λ e. no_node code e
       | None ↦ λ e.
           let same : next_number tree core ≡ node.0 = number e in
@@ -128,8 +128,8 @@ pub makes_nothing : (tree : TreeState) (core stamp : ℕ) (directory : NodeId) (
     × (births_by stamp (verdict tree core (call.Make directory name kind)).effect (verdict tree core (call.Make directory name kind)).makes ≡ [])
 makes_nothing tree core stamp directory name kind none =
     elim (make_fault tree core directory.0 name) as (λ fault. ((node : NodeId) (given : Kind) → (or_else fault (make_node tree core directory.0 name kind)).reply ≡ reply.Node node given → ⊥)
-      → (changes_by tree stamp (or_else fault (make_node tree core directory.0 name kind)).effect ≡ [])
-      × (births_by stamp (or_else fault (make_node tree core directory.0 name kind)).effect (or_else fault (make_node tree core directory.0 name kind)).makes ≡ [])) [
+    → (changes_by tree stamp (or_else fault (make_node tree core directory.0 name kind)).effect ≡ [])
+    × (births_by stamp (or_else fault (make_node tree core directory.0 name kind)).effect (or_else fault (make_node tree core directory.0 name kind)).makes ≡ [])) [
       | Some code ↦ λ _. (refl, refl)
       | None ↦ λ differ. absurd (differ (record { 0 = next_number tree core }) kind refl)
     ] none

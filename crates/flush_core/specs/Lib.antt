@@ -1,6 +1,7 @@
 pub mod Closure
 pub mod Covers
 pub mod Cut
+pub mod Flights
 pub mod Grows
 pub mod Engine
 pub mod Laws

@@ -4,6 +4,7 @@
 mod closure;
 mod cut;
 mod event;
+mod flight;
 mod laws;
 mod past;
 mod plan;
