@@ -23,3 +23,4 @@ pub mod Grows
 pub mod RunsKeep
 pub mod Members
 pub mod Recount
+pub mod RaisesHold
