@@ -24,3 +24,4 @@ pub mod RunsKeep
 pub mod Members
 pub mod Recount
 pub mod RaisesHold
+pub mod Held
