@@ -34,3 +34,5 @@ pub mod Members
 pub mod Recount
 pub mod Grown
 pub mod Finding
+pub mod RaisesHold
+pub mod Held

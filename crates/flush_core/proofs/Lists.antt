@@ -19,7 +19,7 @@ use Rattle.flush_core.proofs.Lives.{no_node_yet}
 use Rattle.flush_core.proofs.Commit.{birth_at, fsyncs_keep}
 
 -- nothing lies below the cut 0
-nothing_within : {P : Type 0} (t d : ℕ) → t < cut_of empty d → P
+pub nothing_within : {P : Type 0} (t d : ℕ) → t < cut_of empty d → P
 nothing_within t d lt = absurd (no_less (ap (λ o. unwrap_or o 0) (get-empty nat_cmp d)) lt)
   where
     no_less : cut_of empty d ≡ 0 → t < cut_of empty d → ⊥

@@ -147,7 +147,7 @@ module _ (tree : TreeState) (core t : ℕ) (s : IsSound tree) where
   ]
 
 -- the number of a node that is made is no node's, and then it is one's
-pub made_fresh : (tree : TreeState) (core : ℕ) (d : ℕ) (n : List ℕ) (x : ℕ) (kind : Kind) → Fits tree core (Adds d n x) (Some kind) → get tree.nodes x ≡ None
+made_fresh : (tree : TreeState) (core : ℕ) (d : ℕ) (n : List ℕ) (x : ℕ) (kind : Kind) → Fits tree core (Adds d n x) (Some kind) → get tree.nodes x ≡ None
 made_fresh tree core d n x kind f = f.fresh
 
 pub made_node : (tree : TreeState) (core : ℕ) (d : ℕ) (n : List ℕ) (x : ℕ) (kind : Kind) → Fits tree core (Adds d n x) (Some kind) → IsSome (get (tree_with tree core (Adds d n x) (Some kind)).nodes x)
