@@ -36,3 +36,5 @@ pub mod Grown
 pub mod Finding
 pub mod RaisesHold
 pub mod Held
+pub mod InPlace
+pub mod Least

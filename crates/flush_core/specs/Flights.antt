@@ -1,5 +1,5 @@
 -- Flights as they are kept.
-use Rattle.std.specs.Prelude.{◌≡◌, ◌==◌, ℕ, ◌≤◌, Bool, true, false, List, Option, Some, None, is_some, nat_le, if◌then◌else◌}
+use Rattle.std.specs.Prelude.{◌≡◌, ◌==◌, ◌||◌, ℕ, ◌≤◌, Bool, true, false, List, Option, Some, None, is_some, nat_le, if◌then◌else◌}
 use Rattle.std.specs.List.{find}
 use Rattle.std.specs.Option.{option_map_or}
 use Rattle.flush_core.specs.declared.sets.NodeSet.{NodeSet}
@@ -18,6 +18,10 @@ flight_as flight = record {
   concerned = has_node flight.concerned;
   opened = flight.opened;
 }
+
+-- a flight as it is kept, opened where it is this commit's
+abbrev pub kept_opened : ℕ → InFlight → InFlight
+kept_opened commit flight = record flight { opened = flight.opened || flight.commit == commit }
 
 -- the flight of a commit
 abbrev pub flight_in : List Flight → ℕ → Option Flight

@@ -2,7 +2,7 @@
 ghost use Rattle.std.specs.Prelude.{◌≡◌, ◌↔◌, ◌==◌, not, true, ℕ, map, filter, is_some, IfOk};
 ghost use Rattle.std.specs.List.{find};
 ghost use Rattle.flush_core.specs.Machine.{opened_for};
-ghost use Rattle.flush_core.specs.Flights.{flight_as, is_flying_in, is_opened_in, IsTaken, IsLeastTaken, lesser_of};
+ghost use Rattle.flush_core.specs.Flights.{flight_as, is_flying_in, is_opened_in, IsTaken, IsLeastTaken, lesser_of, kept_opened};
 
 use crate::sets::NodeSet;
 use sfs_base::{NoMemory, NodeId, Stamp};
@@ -112,10 +112,15 @@ pub(crate) fn mark_opened(flights: &mut Vec<InFlight>, commit: u64)
     ensures { map flight_as flights.new.items ≡ map (opened_for commit) (map flight_as flights.old.items) }
 {
     for flight in flights.iter_mut() {
-        if flight.commit == commit {
-            flight.opened = true;
-        }
+        open_for(flight, commit);
     }
+}
+
+// Marks a flight as opened where it is this commit's.
+fn open_for(flight: &mut InFlight, commit: u64)
+    ensures { flight.new ≡ kept_opened commit flight.old }
+{
+    flight.opened = flight.opened || flight.commit == commit;
 }
 
 // Takes away a commit's flight.

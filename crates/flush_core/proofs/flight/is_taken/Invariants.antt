@@ -1,4 +1,4 @@
-use Rattle.std.proofs.Common.{take}
+use Rattle.std.proofs.Common.{◌≡◌, true, take}
 use Rattle.flush_core.specs.declared.flight.InFlight.{InFlight}
 use Rattle.flush_core.specs.NodeSets.{has_node}
 use Rattle.flush_core.specs.Rules.{IsOneOf}
