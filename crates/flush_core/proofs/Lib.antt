@@ -17,5 +17,6 @@ pub mod Brought
 pub mod Counting
 pub mod Gathered
 pub mod Concerned
+pub mod NamedRows
 pub mod Lists
 pub mod Covered

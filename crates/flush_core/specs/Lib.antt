@@ -5,6 +5,7 @@ pub mod Engine
 pub mod Laws
 pub mod Machine
 pub mod Members
+pub mod Named
 pub mod NodeSets
 pub mod Past
 pub mod Rules

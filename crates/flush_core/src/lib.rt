@@ -5,6 +5,7 @@ mod closure;
 mod cut;
 mod event;
 mod laws;
+mod named;
 mod past;
 mod sets;
 
