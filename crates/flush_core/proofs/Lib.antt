@@ -18,5 +18,6 @@ pub mod Counting
 pub mod Gathered
 pub mod Concerned
 pub mod NamedRows
+pub mod Raised
 pub mod Lists
 pub mod Covered

@@ -2,6 +2,7 @@ pub mod Closure
 pub mod Covers
 pub mod Cut
 pub mod Engine
+pub mod Inodes
 pub mod Laws
 pub mod Machine
 pub mod Members

@@ -7,6 +7,7 @@ mod event;
 mod laws;
 mod named;
 mod past;
+mod raise;
 mod sets;
 
 pub use cut::Cut;
