@@ -26,6 +26,8 @@ pub mod Brought
 pub mod Counting
 pub mod Gathered
 pub mod Concerned
+pub mod NamedRows
+pub mod Raised
 pub mod Lists
 pub mod Covered
 pub mod Grows

@@ -1,5 +1,5 @@
 -- What the engine looks for in a past: the changes of a span, the nodes that members bring in, and the nodes that a change names.
-use Rattle.std.specs.Prelude.{◌≡◌, ◌⊎◌, ℕ, ◌<◌, ◌≤◌, ◌↔◌, true, false, List, [], Option, Some, None}
+use Rattle.std.specs.Prelude.{◌≡◌, ◌⊎◌, ℕ, ◌<◌, ◌≤◌, ◌↔◌, true, false, List, [], Option, Some, None, max, if◌then◌else◌}
 use Rattle.std.specs.Option.{option_map_or}
 use Rattle.flush_core.specs.declared.past.OwnChange.{OwnChange}
 use Rattle.flush_core.specs.declared.past.BornNode.{BornNode}
@@ -75,3 +75,12 @@ pub record NamesFor (cut : Cut) (stamp : ℕ) (members : NodeSet) (change : OwnC
   pub member : has_node members change.directory ≡ true
   pub spans : Spans cut stamp change
   pub child : change.child ≡ node
+
+-- A cut raised at some nodes: their stamps are this one at least, and no others move.
+pub record RaisesThose (cut : Cut) (nodes : List ℕ) (stamp : ℕ) (raised : Cut) : Type 0 where
+  pub one : (node : ℕ) → IsOneOf nodes node → cut_of raised node ≡ max (cut_of cut node) stamp
+  pub other : (node : ℕ) → IsOneOf nodes node ⊎ (cut_of raised node ≡ cut_of cut node)
+
+-- A cut raised at the members.
+abbrev pub RaisesMembers : Cut → NodeSet → ℕ → Cut → Type 0
+RaisesMembers cut members stamp raised = (node : ℕ) → cut_of raised node ≡ (if has_node members node then max (cut_of cut node) stamp else cut_of cut node)

@@ -4,9 +4,11 @@ pub mod Cut
 pub mod Flights
 pub mod Grows
 pub mod Engine
+pub mod Inodes
 pub mod Laws
 pub mod Machine
 pub mod Members
+pub mod Named
 pub mod NodeSets
 pub mod Past
 pub mod Plan

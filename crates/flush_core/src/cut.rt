@@ -1,5 +1,5 @@
 // A cut: each node's stamp lies at the node's number, and past the last lies 0.
-ghost use Rattle.std.specs.Prelude.{◌≡◌, ◌<◌, ℕ, max, ◌^◌, vec_len, slice_index, slice_set, OnOk, OnErr};
+ghost use Rattle.std.specs.Prelude.{◌≡◌, ◌<◌, ℕ, max, ◌^◌, vec_len, slice_index, slice_set, IfOk, OnOk, OnErr};
 ghost use Rattle.flush_core.specs.Cut.{cut_of};
 ghost use Rattle.flush_core.specs.Stamps.{at_least};
 
@@ -49,6 +49,15 @@ impl Cut {
         make_room(&mut self.stamps, node as usize)?;
         rise(&mut self.stamps, node as usize, stamp);
         Ok(())
+    }
+
+    // An equal cut.
+    pub(crate) fn copy(&self) -> Result<Cut, NoMemory>
+        ensures { IfOk result (λ cut. cut ≡ self.now) }
+    {
+        Ok(Cut {
+            stamps: self.stamps.clone()?,
+        })
     }
 }
 

@@ -6,8 +6,10 @@ mod cut;
 mod event;
 mod flight;
 mod laws;
+mod named;
 mod past;
 mod plan;
+mod raise;
 mod sets;
 
 pub use cut::Cut;

@@ -1,0 +1,12 @@
+use Rattle.std.proofs.Common.{◌≡◌, ◌-◌, ◌^◌, ◌<◌, ℕ, true, IsSome}
+use Rattle.std.specs.FinMap.{get}
+use Rattle.sfs_tree.specs.Least.{first_behind}
+use Rattle.sfs_tree.specs.NameRow.{number_of}
+use Rattle.flush_core.specs.NodeSets.{has_node}
+use Rattle.flush_core.proofs.named.add_nodes.Given as goal
+
+abbrev pub invariant-loop-node : goal.invariant-loop-node
+invariant-loop-node l = (node : ℕ) → node < first_behind (number_of l.after) → IsSome (get l.first.nodes node) → has_node l.directories node ≡ true
+
+abbrev pub decreases-loop-node : goal.decreases-loop-node
+decreases-loop-node l = 2 ^ 32 - first_behind (number_of l.after)
