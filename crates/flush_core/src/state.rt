@@ -1,0 +1,104 @@
+// The machine of calls and commits. What its calls have changed is kept beside them in `past`; where it is missing it is made anew,
+// so an event that is refused may lose it and leaves the state as it was.
+ghost use Rattle.std.specs.Prelude.{◌≡◌, ◌⊎◌, OnOk, OnErr, IfErr};
+ghost use Rattle.sfs_tree.specs.Sound.{IsSound};
+
+use crate::cut::Cut;
+use crate::event::{Event, Refused};
+use crate::flight::InFlight;
+use crate::past::Past;
+use crate::sets::NodeSet;
+use sfs_tree::{Entry, Tree};
+use std::alloc::Global;
+use std::marker::Model;
+
+mod calls;
+mod commits;
+
+/// The calls of a run, and what its commits have flushed: the machine that says which runs there may
+/// be. It is a plain program to compare others with: each commit goes over all calls before it.
+#[derive(Debug, Drop)]
+pub struct State {
+    alloc: Global,
+    first: Tree,
+    past: Option<Past>,
+    entries: Vec<Entry>,
+    cut: Cut,
+    // None stands for the first tree's nodes.
+    inodes: Option<NodeSet>,
+    flights: Vec<InFlight>,
+    used: Vec<u64>,
+    failed: Option<u64>,
+    crashed: bool,
+}
+
+impl Model for State {
+    ghost use Rattle.std.specs.Prelude.{map};
+    ghost use Rattle.flush_core.specs.Machine.{MachineState};
+    ghost use Rattle.flush_core.specs.Flights.{flight_as};
+    ghost use Rattle.flush_core.specs.State.{inodes_of, IsStanding};
+
+    ghost Value = { MachineState };
+
+    ghost view = { λ s. record {
+      first = s.first;
+      history = s.entries.items;
+      cut = s.cut;
+      inodes = inodes_of s.first s.inodes;
+      flights = map flight_as s.flights.items;
+      used = s.used.items;
+      failed = s.failed;
+      crashed = s.crashed;
+    } };
+
+    ghost invariant = { λ s. IsStanding s.first s.entries.items s.past };
+}
+
+impl State {
+    ghost use Rattle.flush_core.specs.Machine.{start_of, IsTold, IsRefused, Takes};
+
+    /// The state in which a run begins: no calls, the cut 0, an inode for each node of the tree, which
+    /// is sound, and no flights. It takes no memory.
+    pub fn new(alloc: Global, first: Tree) -> State
+        requires { IsSound first }
+        ensures { result ≡ start_of first }
+    {
+        State {
+            alloc,
+            first,
+            past: None,
+            entries: Vec::new(alloc),
+            cut: Cut::new(alloc),
+            inodes: None,
+            flights: Vec::new(alloc),
+            used: Vec::new(alloc),
+            failed: None,
+            crashed: false,
+        }
+    }
+
+    /// Tells it an event. A call's core is one of the first tree's, and a read asks for at most 65,536
+    /// bytes. A refusal names the first reason that holds, or want of memory, and changes nothing.
+    pub fn step(&mut self, event: &Event) -> Result<(), Refused>
+        requires told { IsTold self.old event.now }
+        ensures ok { OnOk result (Takes self.old event.now self.new) }
+        ensures err { IfErr result (λ why. (why ≡ Refused.NoMemory) ⊎ IsRefused self.old event.now why) }
+        ensures stays { OnErr result (self.new ≡ self.old) }
+    {
+        if self.crashed {
+            return Err(Refused::Crashed);
+        }
+        match event {
+            Event::Call { entry } => self.call(entry),
+            Event::CutAt {
+                commit,
+                node,
+                stamp,
+            } => self.begin(*commit, *node, *stamp),
+            Event::Opened { commit } => self.open(*commit),
+            Event::Durable { commit } => self.finish(*commit),
+            Event::Fail { commit } => self.fail(*commit),
+            Event::Crash { kept } => self.crash(kept),
+        }
+    }
+}
