@@ -10,16 +10,16 @@ use Rattle.sfs_tree.specs.declared.changes.Act.TheVariants.{Add, Remove}
 use Rattle.sfs_tree.specs.declared.changes.Change.{Change}
 use Rattle.absorb.specs.declared.nets.NetRow.{NetRow}
 
--- the rows after an act: a row that comes replaces the one of its name, and a row that goes is the one of its name
+-- rows with a change made: an addition replaces the row that has its name, and a removal takes the row of its name away
 abbrev pub with_act : Act → FinMap name_cmp ℕ → List ℕ → ℕ → FinMap name_cmp ℕ
 with_act Add rows name child = insert rows name child
 with_act Remove rows name child = remove rows name
 
--- the rows after some changes, one after the other
+-- rows with some changes made, one after the other
 abbrev pub rows_after : FinMap name_cmp ℕ → List Change → FinMap name_cmp ℕ
 rows_after = fold (λ rows change. with_act change.act rows change.name change.child.0)
 
--- the child that a name has after an act: that of the row that comes, and none where its row goes
+-- the child that a name has after its change: that of an addition, and none after a removal
 abbrev pub child_after : Act → NodeId → Option NodeId
 child_after Add child = Some child
 child_after Remove child = None

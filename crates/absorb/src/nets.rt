@@ -1,5 +1,5 @@
 // The rows are made from the last change of each name, in the order of the names.
-ghost use Rattle.std.specs.Prelude.{◌≡◌, ◌++◌, IfOk, OnOk, filter_map, option_to_list};
+ghost use Rattle.std.specs.Prelude.{◌≡◌, ◌++◌, IfOk, OnOk, OnErr, filter_map, option_to_list};
 ghost use Rattle.absorb.specs.Net.{IsNet, rows_after, child_after};
 ghost use Rattle.absorb.specs.Last.{lent_row, row_by};
 
@@ -20,10 +20,10 @@ pub struct NetRow {
 /// What changes of a directory come to: its names whose child differs, ascending by their bytes.
 pub type Net = RoomyList<NetRow>;
 
-/// The net of a directory's changes, in their order, over its rows before. An addition replaces the
-/// row that has its name; a removal takes the row of its name away, and does nothing where there is
-/// none. With n rows and m changes it takes time in m log m + m log n, and copies the names that the
-/// net has.
+/// The net of a directory's changes, in their order, over its rows before. All changes are taken as
+/// those of one directory. An addition replaces the row that has its name; a removal takes the row of
+/// its name away, and does nothing where there is none. With n rows and m changes it takes time in
+/// m log m + m log n, and it copies the names that the net has. Only want of memory refuses it.
 pub fn net_of(alloc: Global, rows: &NameMap, changes: &Changes) -> Result<Net, NoMemory>
     ensures { IfOk result (λ net. IsNet rows.now (rows_after rows.now changes.now.items) net.items) }
 {
@@ -45,7 +45,8 @@ fn rows_of(alloc: Global, rows: &NameMap, last: &ByName<'_>) -> Result<Vec<NetRo
 
 // Puts the row of a name's last change behind the others, where it changes the name's child.
 fn push_row(net: &mut Vec<NetRow>, rows: &NameMap, change: &Change) -> Result<(), NoMemory>
-    ensures { OnOk result (net.new.items ≡ net.old.items ++ option_to_list (row_by rows.now change.now)) }
+    ensures ok { OnOk result (net.new.items ≡ net.old.items ++ option_to_list (row_by rows.now change.now)) }
+    ensures err { OnErr result (net.new.items ≡ net.old.items) }
 {
     let before = rows.get(&change.name);
     let after = child_left(change);
