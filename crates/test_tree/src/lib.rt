@@ -1,4 +1,4 @@
-//! The tree of one thread, its history, cuts, and the script with its texts, with values worked out by hand.
+//! The tree of one thread, its history, net changes, cuts, and the script with its texts, with values worked out by hand.
 #![tactic(auto)]
 
 #[cfg(test)]
@@ -9,6 +9,8 @@ mod copies;
 mod cuts;
 #[cfg(test)]
 mod histories;
+#[cfg(test)]
+mod nets;
 #[cfg(test)]
 mod scripts;
 #[cfg(test)]

@@ -1,0 +1,7 @@
+//! What the changes of one directory come to.
+#![tactic(auto)]
+
+mod last;
+mod nets;
+
+pub use nets::{Net, NetRow, net_of};
