@@ -40,3 +40,4 @@ pub mod RaisesHold
 pub mod Held
 pub mod InPlace
 pub mod Least
+pub mod Legal

@@ -2,6 +2,8 @@
 use Rattle.std.specs.Prelude.{◌≡◌, ◌==◌, ◌||◌, ℕ, ◌≤◌, Bool, true, false, List, Option, Some, None, is_some, nat_le, if◌then◌else◌}
 use Rattle.std.specs.List.{find}
 use Rattle.std.specs.Option.{option_map_or}
+use Rattle.sfs_base.specs.declared.numbers.NodeId.{NodeId}
+use Rattle.sfs_base.specs.declared.numbers.Stamp.{Stamp}
 use Rattle.flush_core.specs.declared.sets.NodeSet.{NodeSet}
 use Rattle.flush_core.specs.declared.flight.InFlight.{InFlight}
 use Rattle.flush_core.specs.NodeSets.{has_node}
@@ -26,6 +28,14 @@ kept_opened commit flight = record flight { opened = flight.opened || flight.com
 -- the flight of a commit
 abbrev pub flight_in : List Flight → ℕ → Option Flight
 flight_in flights commit = find (λ flight. flight.commit == commit) flights
+
+-- the fsync of a node at a stamp
+abbrev pub flush_as : NodeId × Stamp → Flush
+flush_as flush = record { node = flush.0.0; stamp = flush.1.0 }
+
+-- the fsync of a flight
+abbrev pub flush_in : Flight → Flush
+flush_in flight = flight.flush
 
 -- whether a commit is in flight
 abbrev pub is_flying_in : List Flight → ℕ → Bool

@@ -15,3 +15,4 @@ pub mod Plan
 pub mod Rules
 pub mod Runs
 pub mod Stamps
+pub mod State

@@ -5,6 +5,7 @@ use Rattle.std.specs.Option.{option_map_or}
 use Rattle.std.specs.FinMap.{get, empty}
 use Rattle.sfs_tree.specs.declared.history.Entry.{Entry}
 use Rattle.sfs_tree.specs.Tree.{TreeState}
+use Rattle.sfs_tree.specs.Step.{IsReadable}
 use Rattle.sfs_tree.specs.Verdict.{verdict}
 use Rattle.sfs_tree.specs.History.{tree_after, MayCome}
 use Rattle.sfs_tree.specs.NameRow.{either}
@@ -85,6 +86,11 @@ goes_on (event.CutAt commit node stamp) = true
 goes_on (event.Opened commit) = true
 goes_on (event.Durable commit) = true
 goes_on _ = false
+
+-- What an event may be told with: a call's core is one of the first tree's, and a read asks for at most 65,536 bytes.
+abbrev pub IsTold : MachineState → Event → Type 0
+IsTold state (event.Call entry) = (entry.core.0 < length state.first.made) × IsReadable entry.call
+IsTold _ _ = Unit {0}
 
 -- A node that a commit would concern, and that a flight concerns.
 pub record IsShared (state : MachineState) (flush : Flush) (node : ℕ) : Type 0 where

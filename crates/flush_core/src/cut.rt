@@ -1,5 +1,6 @@
 // A cut: each node's stamp lies at the node's number, and past the last lies 0.
 ghost use Rattle.std.specs.Prelude.{◌≡◌, ◌<◌, ℕ, max, ◌^◌, vec_len, slice_index, slice_set, IfOk, OnOk, OnErr};
+ghost use Rattle.std.specs.FinMap.{empty};
 ghost use Rattle.flush_core.specs.Cut.{cut_of};
 ghost use Rattle.flush_core.specs.Stamps.{at_least};
 
@@ -27,7 +28,8 @@ impl Model for Cut {
 impl Cut {
     /// The cut in which each node has 0.
     pub fn new(alloc: Global) -> Self
-        ensures { (node : ℕ) → cut_of result node ≡ 0 }
+        ensures none { result ≡ empty }
+        ensures stamps { (node : ℕ) → cut_of result node ≡ 0 }
     {
         Cut {
             stamps: Vec::new(alloc),

@@ -1,5 +1,9 @@
-use sfs_base::{NodeId, RoomyList, Stamp};
+ghost use Rattle.std.specs.Prelude.{◌≡◌};
+ghost use Rattle.flush_core.specs.declared.event.Refused.TheVariants.{NoMemory as WantsMemory};
+
+use sfs_base::{NoMemory, NodeId, RoomyList, Stamp};
 use sfs_tree::{Entry, Reply};
+use std::alloc::AllocError;
 
 /// Numbers of commits.
 pub type CommitList = RoomyList<u64>;
@@ -60,4 +64,20 @@ pub enum Refused {
     AlreadyOpened { commit: u64 },
     /// Memory was refused.
     NoMemory,
+}
+
+impl From<NoMemory> for Refused {
+    ghost from_gives = { λ _ why. why ≡ WantsMemory };
+
+    fn from(_: NoMemory) -> Self {
+        Refused::NoMemory
+    }
+}
+
+impl From<AllocError> for Refused {
+    ghost from_gives = { λ _ why. why ≡ WantsMemory };
+
+    fn from(_: AllocError) -> Self {
+        Refused::NoMemory
+    }
 }

@@ -1,9 +1,16 @@
 // Commits in flight, and what is asked of them.
-ghost use Rattle.std.specs.Prelude.{◌≡◌, ◌↔◌, ◌==◌, not, true, ℕ, map, filter, is_some, IfOk};
+ghost use Rattle.std.specs.Prelude.{◌≡◌, ◌↔◌, ◌==◌, not, true, false, ℕ, List, map, filter, is_some, option_map, IfOk};
+ghost use Rattle.sfs_tree.specs.declared.history.Entry.{Entry};
+ghost use Rattle.sfs_tree.specs.Tree.{TreeState};
+ghost use Rattle.flush_core.specs.Members.{AreMembers, AreConcerned};
+ghost use Rattle.flush_core.specs.Past.{IsPast};
 ghost use Rattle.std.specs.List.{find};
 ghost use Rattle.flush_core.specs.Machine.{opened_for};
-ghost use Rattle.flush_core.specs.Flights.{flight_as, is_flying_in, is_opened_in, IsTaken, IsLeastTaken, lesser_of, kept_opened};
+ghost use Rattle.flush_core.specs.Flights.{flight_as, flight_in, flush_as, flush_in, is_flying_in, is_opened_in, IsTaken, IsLeastTaken, lesser_of, kept_opened};
 
+use crate::closure::{concerned_by, members_of};
+use crate::cut::Cut;
+use crate::past::Past;
 use crate::sets::NodeSet;
 use sfs_base::{NoMemory, NodeId, Stamp};
 use std::alloc::Global;
@@ -17,6 +24,48 @@ pub(crate) struct InFlight {
     pub(crate) members: NodeSet,
     pub(crate) concerned: NodeSet,
     pub(crate) opened: bool,
+}
+
+// A flight as it begins, of an fsync of a node at a stamp.
+pub(crate) fn new_flight(
+    alloc: Global,
+    past: &Past,
+    cut: &Cut,
+    inodes: &NodeSet,
+    commit: u64,
+    node: NodeId,
+    stamp: Stamp,
+) -> Result<InFlight, NoMemory>
+    ensures number { IfOk result (λ flight. flight.commit ≡ commit) }
+    ensures flush { IfOk result (λ flight. (flight.node ≡ node) × (flight.stamp ≡ stamp)) }
+    ensures closed { IfOk result (λ flight. flight.opened ≡ false) }
+    ensures members { IfOk result (λ flight. (first : TreeState) (history : List Entry) → IsPast first history past.now
+        → AreMembers first history cut.now inodes.now (record { node = node.0; stamp = stamp.0 }) flight.members) }
+    ensures concerned { IfOk result (λ flight. (first : TreeState) (history : List Entry) → IsPast first history past.now
+        → AreConcerned first history cut.now inodes.now (record { node = node.0; stamp = stamp.0 }) flight.concerned) }
+{
+    let members = members_of(alloc, past, cut, inodes, node.0, stamp.0)?;
+    let concerned = concerned_by(past, cut, &members, stamp.0)?;
+    Ok(InFlight {
+        commit,
+        node,
+        stamp,
+        members,
+        concerned,
+        opened: false,
+    })
+}
+
+// The fsync of a commit that is in flight.
+pub(crate) fn flush_of(flights: &[InFlight], commit: u64) -> Option<(NodeId, Stamp)>
+    ensures { option_map flush_as result ≡ option_map flush_in (flight_in (map flight_as flights.now) commit) }
+{
+    for flight in flights {
+        if flight.commit == commit {
+            return Some((flight.node, flight.stamp));
+        }
+    }
+    None
 }
 
 // Whether a commit is in flight.

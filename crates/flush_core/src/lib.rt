@@ -11,6 +11,7 @@ mod past;
 mod plan;
 mod raise;
 mod sets;
+mod state;
 
 pub use cut::Cut;
 pub use event::{CommitList, Event, Refused};
@@ -18,3 +19,4 @@ pub use laws::{
     closed_cuts_are_sound, directories_are_cut, files_are_cut, fsyncs_cover, fsyncs_keep,
     lists_cover, lists_keep, runs_keep,
 };
+pub use state::State;

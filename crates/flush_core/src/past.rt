@@ -1,6 +1,6 @@
 // What the machine keeps of its calls: the tree after them, and the changes and births that they made.
 ghost use Rattle.std.specs.Prelude.{◌≡◌, ◌<◌, [], ◌++◌, length, IfOk, OnOk};
-ghost use Rattle.sfs_tree.specs.Sound.{IsSound};
+ghost use Rattle.sfs_tree.specs.Sound.{IsSound, IsNumbered};
 ghost use Rattle.sfs_tree.specs.Step.{IsReadable};
 ghost use Rattle.sfs_tree.specs.Verdict.{verdict};
 ghost use Rattle.flush_core.specs.Past.{IsPast};
@@ -47,7 +47,8 @@ pub struct Past {
 impl Past {
     /// The past of no calls.
     pub fn new(alloc: Global, first: &Tree) -> Result<Past, NoMemory>
-        ensures { IfOk result (λ past. IsPast first.now [] past) }
+        ensures past { IfOk result (λ past. IsPast first.now [] past) }
+        ensures numbered { IfOk result (λ past. IsNumbered first.now) }
     {
         Ok(Past {
             tree: first.copy()?,

@@ -33,19 +33,21 @@ pub struct State {
 }
 
 impl Model for State {
-    ghost use Rattle.std.specs.Prelude.{map};
-    ghost use Rattle.flush_core.specs.Machine.{MachineState};
-    ghost use Rattle.flush_core.specs.Flights.{flight_as};
-    ghost use Rattle.flush_core.specs.State.{inodes_of, IsStanding};
+    ghost use Rattle.std.specs.Coded.{codes};
+    ghost use Rattle.sfs_tree.specs.Tree.{tree_code};
+    ghost use Rattle.flush_core.specs.Stamps.{cut_code};
+    ghost use Rattle.flush_core.specs.State.{KeptState, IsStanding};
 
-    ghost Value = { MachineState };
+    ghost Value = { KeptState };
+
+    ghost coded = { Prim.hlevel (codes, tree_code, cut_code) };
 
     ghost view = { λ s. record {
       first = s.first;
-      history = s.entries.items;
+      entries = s.entries.items;
       cut = s.cut;
-      inodes = inodes_of s.first s.inodes;
-      flights = map flight_as s.flights.items;
+      inodes = s.inodes;
+      flights = s.flights.items;
       used = s.used.items;
       failed = s.failed;
       crashed = s.crashed;
@@ -56,12 +58,13 @@ impl Model for State {
 
 impl State {
     ghost use Rattle.flush_core.specs.Machine.{start_of, IsTold, IsRefused, Takes};
+    ghost use Rattle.flush_core.specs.State.{machine_of};
 
     /// The state in which a run begins: no calls, the cut 0, an inode for each node of the tree, which
     /// is sound, and no flights. It takes no memory.
     pub fn new(alloc: Global, first: Tree) -> State
         requires { IsSound first }
-        ensures { result ≡ start_of first }
+        ensures { machine_of result ≡ start_of first }
     {
         State {
             alloc,
@@ -80,9 +83,9 @@ impl State {
     /// Tells it an event. A call's core is one of the first tree's, and a read asks for at most 65,536
     /// bytes. A refusal names the first reason that holds, or want of memory, and changes nothing.
     pub fn step(&mut self, event: &Event) -> Result<(), Refused>
-        requires told { IsTold self.old event.now }
-        ensures ok { OnOk result (Takes self.old event.now self.new) }
-        ensures err { IfErr result (λ why. (why ≡ Refused.NoMemory) ⊎ IsRefused self.old event.now why) }
+        requires told { IsTold (machine_of self.old) event.now }
+        ensures ok { OnOk result (Takes (machine_of self.old) event.now (machine_of self.new)) }
+        ensures err { IfErr result (λ why. (why ≡ Refused.NoMemory) ⊎ IsRefused (machine_of self.old) event.now why) }
         ensures stays { OnErr result (self.new ≡ self.old) }
     {
         if self.crashed {

@@ -41,7 +41,7 @@ impl State {
 
     // The past of the calls so far, which is not kept any more.
     pub(super) fn take_past(&mut self) -> Result<Past, NoMemory>
-        ensures past { IfOk result (λ past. IsPastOf self.old.first self.old.history past) }
+        ensures past { IfOk result (λ past. IsPastOf self.old.first self.old.entries past) }
         ensures same { self.new ≡ self.old }
     {
         match self.past.take() {

@@ -1,15 +1,20 @@
 // The events of commits.
-ghost use Rattle.std.specs.Prelude.{◌≡◌, ◌×◌, true, false, ℕ, List, map, IfOk, IfSome, IfNone};
+ghost use Rattle.std.specs.Prelude.{◌≡◌, false, List, map, IfOk};
 ghost use Rattle.sfs_tree.specs.Sound.{IsSound};
 ghost use Rattle.sfs_tree.specs.declared.history.Entry.{Entry};
 ghost use Rattle.flush_core.specs.declared.event.Event.TheVariants as event;
-ghost use Rattle.flush_core.specs.Closure.{every_entry, AreRaised, IsRaised, AreInodesAfter};
+ghost use Rattle.flush_core.specs.Closure.{every_entry, AreRaised};
 ghost use Rattle.flush_core.specs.NodeSets.{has_node};
-ghost use Rattle.flush_core.specs.Flights.{flight_as, kept_flushes};
+ghost use Rattle.flush_core.specs.Flights.{flight_as};
+ghost use Rattle.flush_core.specs.Past.{IsPast};
+ghost use Rattle.flush_core.specs.State.{kept_flushes, nodes_in};
 
 use super::State;
 use crate::event::{CommitList, Refused};
-use crate::flight::{InFlight, end_flight, first_not_flying, first_not_opened, flush_of, is_flying, is_opened, least_taken, mark_opened, new_flight};
+use crate::flight::{
+    InFlight, end_flight, first_not_flying, first_not_opened, flush_of, is_flying, is_opened,
+    least_taken, mark_opened, new_flight,
+};
 use crate::past::Past;
 use crate::raise::{Raise, commit};
 use crate::sets::NodeSet;
@@ -19,7 +24,7 @@ use std::alloc::Global;
 
 impl State {
     ghost use Rattle.flush_core.specs.Machine.{Begins};
-    ghost use Rattle.flush_core.specs.State.{Answers, IsRaisedTo};
+    ghost use Rattle.flush_core.specs.State.{Answers, IsRaisedTo, machine_of, inodes_of};
 
     // Begins a commit.
     pub(super) fn begin(&mut self, commit: u64, node: NodeId, stamp: Stamp) -> Result<(), Refused>
@@ -48,7 +53,7 @@ impl State {
 
     // A flight as it begins.
     fn flight(&mut self, commit: u64, node: NodeId, stamp: Stamp) -> Result<InFlight, NoMemory>
-        ensures begins { IfOk result (λ flight. Begins self.old commit (record { node = node.0; stamp = stamp.0 }) (flight_as flight)) }
+        ensures begins { IfOk result (λ flight. Begins (machine_of self.old) commit (record { node = node.0; stamp = stamp.0 }) (flight_as flight)) }
         ensures same { self.new ≡ self.old }
     {
         let past = self.take_past()?;
@@ -60,7 +65,7 @@ impl State {
 
     // The nodes with an inode.
     fn inodes_now(&self) -> Result<NodeSet, NoMemory>
-        ensures { IfOk result (λ inodes. has_node inodes ≡ self.now.inodes) }
+        ensures { IfOk result (λ inodes. has_node inodes ≡ inodes_of self.now.first self.now.inodes) }
     {
         match &self.inodes {
             Some(inodes) => inodes.copy(),
@@ -114,7 +119,15 @@ impl State {
     {
         let past = self.take_past()?;
         let inodes = self.inodes_now()?;
-        let raise = commit(self.alloc, &self.first, &past, &self.cut, &inodes, node.0, stamp.0)?;
+        let raise = commit(
+            self.alloc,
+            &self.first,
+            &past,
+            &self.cut,
+            &inodes,
+            node.0,
+            stamp.0,
+        )?;
         self.past = Some(past);
         Ok(raise)
     }
@@ -132,4 +145,82 @@ impl State {
         }
         Ok(())
     }
+
+    // Ends the run. The fsyncs of the listed commits raise the cut.
+    pub(super) fn crash(&mut self, kept: &CommitList) -> Result<(), Refused>
+        requires { self.old.crashed ≡ false }
+        ensures { Answers self.old (event.Crash kept.now) result self.new }
+    {
+        if let Some(commit) = first_not_flying(&self.flights, kept.as_slice()) {
+            return Err(Refused::NotFlying { commit });
+        }
+        if let Some(commit) = first_not_opened(&self.flights, kept.as_slice()) {
+            return Err(Refused::NotOpened { commit });
+        }
+        let raise = self.raised_by(kept.as_slice())?;
+        self.cut = raise.cut;
+        self.inodes = Some(raise.inodes);
+        self.flights = Vec::new(self.alloc);
+        self.crashed = true;
+        Ok(())
+    }
+
+    // The cut and the nodes with an inode as the fsyncs of the listed commits leave them.
+    fn raised_by(&mut self, kept: &[u64]) -> Result<Raise, NoMemory>
+        ensures raised { IfOk result (λ raise. AreRaised self.old.first self.old.entries every_entry self.old.cut (inodes_of self.old.first self.old.inodes)
+            (kept_flushes (map flight_as self.old.flights) kept.now) raise.cut (has_node raise.inodes)) }
+        ensures same { self.new ≡ self.old }
+    {
+        let past = self.take_past()?;
+        let from = Raise {
+            cut: self.cut.copy()?,
+            inodes: self.inodes_now()?,
+        };
+        let raise = raised_all(self.alloc, &self.first, &past, from, &self.flights, kept)?;
+        self.past = Some(past);
+        Ok(raise)
+    }
+}
+
+// A cut and the nodes with an inode, raised by the fsyncs of the flights whose commits are listed.
+fn raised_all(
+    alloc: Global,
+    first: &Tree,
+    past: &Past,
+    from: Raise,
+    flights: &[InFlight],
+    kept: &[u64],
+) -> Result<Raise, NoMemory>
+    requires { IsSound first.now }
+    ensures { IfOk result (λ raise. (history : List Entry) → IsPast first.now history past.now
+        → AreRaised first.now history every_entry from.cut (has_node from.inodes) (kept_flushes (map flight_as flights.now) kept.now) raise.cut (has_node raise.inodes)) }
+{
+    let mut raise = from;
+    for flight in flights {
+        if kept.contains(&flight.commit) {
+            raise = commit(
+                alloc,
+                first,
+                past,
+                &raise.cut,
+                &raise.inodes,
+                flight.node.0,
+                flight.stamp.0,
+            )?;
+        }
+    }
+    Ok(raise)
+}
+
+// The nodes of a tree.
+fn nodes_of(alloc: Global, tree: &Tree) -> Result<NodeSet, NoMemory>
+    ensures { IfOk result (λ nodes. has_node nodes ≡ nodes_in tree.now) }
+{
+    let mut nodes = NodeSet::new(alloc);
+    let mut last = None;
+    while let Some(node) = tree.next_node(last) {
+        nodes.insert(node.0)?;
+        last = Some(node);
+    }
+    Ok(nodes)
 }

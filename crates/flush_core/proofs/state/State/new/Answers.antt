@@ -1,0 +1,18 @@
+use Rattle.std.proofs.Common.{◌≡◌, None, false, [], map, refl}
+use Rattle.flush_core.specs.Cut.{Cut}
+use Rattle.flush_core.specs.Machine.{MachineState, start_of}
+use Rattle.flush_core.specs.State.{nodes_in}
+use Rattle.flush_core.specs.Flights.{flight_as}
+use Rattle.flush_core.proofs.state.State.new.Goals as goal
+
+pub returns : goal.returns
+returns c = λ i. record {
+  first = c.args.first;
+  history = c.new.ensures.items i;
+  cut = c.new-2.ensures.none i;
+  inodes = nodes_in c.args.first;
+  flights = map flight_as (c.new-3.ensures.items i);
+  used = c.new-4.ensures.items i;
+  failed = None;
+  crashed = false;
+}
