@@ -41,3 +41,5 @@ pub mod Held
 pub mod InPlace
 pub mod Least
 pub mod Legal
+pub mod KeptFlights
+pub mod Called

@@ -3,7 +3,7 @@ ghost use Rattle.flush_core.specs.declared.event.Refused.TheVariants.{NoMemory a
 
 use sfs_base::{NoMemory, NodeId, RoomyList, Stamp};
 use sfs_tree::{Entry, Reply};
-use std::alloc::AllocError;
+use std::alloc::{AllocError, AllocFailed};
 
 /// Numbers of commits.
 pub type CommitList = RoomyList<u64>;
@@ -78,6 +78,14 @@ impl From<AllocError> for Refused {
     ghost from_gives = { λ _ why. why ≡ WantsMemory };
 
     fn from(_: AllocError) -> Self {
+        Refused::NoMemory
+    }
+}
+
+impl<T: Drop> From<AllocFailed<T>> for Refused {
+    ghost from_gives = { λ _ why. why ≡ WantsMemory };
+
+    fn from(_: AllocFailed<T>) -> Self {
         Refused::NoMemory
     }
 }

@@ -26,15 +26,13 @@ impl State {
         if entry.stamp.0 != count {
             return Err(Refused::NotNext { want: Stamp(count) });
         }
-        let copied = copy_of(entry)?;
-        self.entries.reserve(1)?;
         let mut past = self.take_past()?;
         let is_flush = flushes(&past.tree, &entry.call);
         let reply = past.add(self.alloc, entry)?;
         if !is_answer(is_flush, &reply, entry) {
             return Err(Refused::NotLegal { reply });
         }
-        self.entries.push_reserved(copied);
+        self.entries.push(copy_of(entry)?)?;
         self.past = Some(past);
         Ok(())
     }
