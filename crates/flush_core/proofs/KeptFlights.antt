@@ -1,10 +1,12 @@
 -- The fsyncs of the flights whose commits are listed.
-use Rattle.std.proofs.Common.{◌≡◌, ℕ, ◌+◌, ◌<◌, Bool, true, false, cond, List, [], ◌∷◌, ◌++◌, length, map, take, get_or, refl, sym, ap, ◌∙◌, nat_eq}
-use Rattle.std.specs.Prelude.{filter}
+use Rattle.std.proofs.Common.{◌≡◌, ℕ, ◌+◌, ◌<◌, Bool, true, false, cond, List, [], ◌∷◌, ◌++◌, length, map, take, get_or, inl, inr, refl, sym, ap, ◌∙◌, nat_eq}
+use borrow.Author.Tests.{eqb-true, eqb-false}
+use Rattle.std.specs.Prelude.{filter, ◌||◌, ◌⊎◌}
 use Rattle.std.specs.List.{list_any}
 use Rattle.std.proofs.lemmas.List.{take_more, map-append, append-nil}
 use Rattle.std.proofs.lemmas.List.Elements.{filter-append}
 use Rattle.flush_core.specs.declared.flight.InFlight.{InFlight}
+use Rattle.flush_core.specs.Rules.{IsOneOf}
 use Rattle.flush_core.specs.Closure.{Flush}
 use Rattle.flush_core.specs.Machine.{Flight}
 use Rattle.flush_core.specs.Flights.{flight_as}
@@ -27,3 +29,21 @@ module _ (flights : List InFlight) (kept : List ℕ) (i : ℕ) (flight : InFligh
 
   pub kept_same : list_any (λ commit. nat_eq commit flight.commit) kept ≡ false → kept_flushes (map flight_as (take (i + 1) flights)) kept ≡ kept_flushes (map flight_as (take i flights)) kept
   kept_same out = more ∙ ap (λ b. kept_flushes (map flight_as (take i flights)) kept ++ map (λ (f : Flight). f.flush) (cond b (flight_as flight ∷ []) [])) out ∙ append-nil (kept_flushes (map flight_as (take i flights)) kept)
+
+-- a number that is looked for in a list is one of it, or is not
+pub listed_one : (numbers : List ℕ) (number : ℕ) → list_any (λ n. nat_eq n number) numbers ≡ true → IsOneOf numbers number
+listed_one [] number e = cc
+listed_one (n ∷ numbers) number e = elim (nat_eq n number) as (λ b. nat_eq n number ≡ b → (b || list_any (λ m. nat_eq m number) numbers) ≡ true → (n ≡ number) ⊎ IsOneOf numbers number) [
+  | true ↦ λ t _. inl (eqb-true _ _ t)
+  | false ↦ λ _ rest. inr (listed_one numbers number rest)
+] refl e
+
+pub not_listed : (numbers : List ℕ) (number : ℕ) → list_any (λ n. nat_eq n number) numbers ≡ false → IsOneOf numbers number → ⊥
+not_listed [] number e one = one
+not_listed (n ∷ numbers) number e one = elim (nat_eq n number) as (λ b. nat_eq n number ≡ b → (b || list_any (λ m. nat_eq m number) numbers) ≡ false → ⊥) [
+  | true ↦ λ _ f. differ f
+  | false ↦ λ t rest. elim one [ inl same ↦ eqb-false _ _ t same | inr later ↦ not_listed numbers number rest later ]
+] refl e
+  where
+    differ : true ≡ false → ⊥
+    differ e = cc

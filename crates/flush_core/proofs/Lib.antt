@@ -43,3 +43,4 @@ pub mod Least
 pub mod Legal
 pub mod KeptFlights
 pub mod Called
+pub mod Begun
