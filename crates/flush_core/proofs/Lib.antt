@@ -44,3 +44,4 @@ pub mod Legal
 pub mod KeptFlights
 pub mod Called
 pub mod Begun
+pub mod Ended
