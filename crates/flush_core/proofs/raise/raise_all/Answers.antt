@@ -1,4 +1,5 @@
 use Rattle.std.proofs.Common.{get_or, refl}
+use Rattle.std.proofs.lemmas.Result.{IfOk-from_err}
 use Rattle.flush_core.proofs.Raised.{raise_more, raise_none, raise_whole}
 use Rattle.flush_core.proofs.raise.raise_all.Goals as goal
 
@@ -10,3 +11,6 @@ loop-node-init c = raise_none c.args.cut.now c.args.nodes.now c.args.stamp
 
 pub returns : goal.returns
 returns c = raise_whole c.args.cut.now c.loop-node.cut c.args.nodes.now c.loop-node.node-index c.args.stamp c.loop-node-test.false c.loop-node.invariant
+
+pub returns-in_err-raise : goal.returns-in_err-raise
+returns-in_err-raise c = IfOk-from_err c.from_residual.result _ c.from_residual.ensures.0
