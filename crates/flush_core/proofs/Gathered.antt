@@ -1,8 +1,9 @@
 -- Sets to which the elements of a list add nodes, one after the other.
-use Rattle.std.proofs.Common.{◌≡◌, ℕ, ◌+◌, ◌<◌, ◌≤◌, true, List, length, take, get_or, ◌⊎◌, inl, inr, sym, subst, ◌∙◌}
+use Rattle.std.proofs.Common.{◌≡◌, ℕ, ◌+◌, ◌<◌, ◌≤◌, true, false, List, length, take, get_or, ◌↔◌, ◌⊎◌, inl, inr, sym, subst, ◌∙◌}
 use Rattle.flush_core.specs.declared.sets.NodeSet.{NodeSet}
 use Rattle.flush_core.specs.NodeSets.{has_node, with_node}
 use Rattle.flush_core.specs.Engine.{OfSome, Joins}
+use Rattle.flush_core.proofs.Own.{both}
 use Rattle.flush_core.proofs.Listed.{one_more, still_one, next_one, take_whole}
 use Rattle.flush_core.proofs.Marks.{with_in, with_kept, with_cases}
 
@@ -44,3 +45,9 @@ join_one More node set joined put is only x = (
 -- none is
 pub join_none : (More : ℕ → Type 0) (set joined : NodeSet) → ((x : ℕ) → has_node joined x ≡ has_node set x) → ((x : ℕ) → More x → ⊥) → Joins More set joined
 join_none More set joined same none x = (λ has. inl (sym (same x) ∙ has), λ from. elim from [ inl old ↦ same x ∙ old | inr more ↦ absurd (none x more) ])
+
+-- all of them have, and there was none at the start
+pub gather_alone : {X : Type 0} (BringsIn : X → ℕ → Type 0) (xs : List X) (i : ℕ) (start set : NodeSet) → length xs ≤ i → ((node : ℕ) → has_node start node ≡ false) → Joins (OfSome (take i xs) BringsIn) start set → (node : ℕ) → (has_node set node ≡ true) ↔ OfSome xs BringsIn node
+gather_alone BringsIn xs i start set le none joins node =
+    let all = gather_all BringsIn xs i start set le joins in
+    (λ has. elim ((all node).0 has) [ inl own ↦ absurd (both own (none node)) | inr some ↦ some ], λ some. (all node).1 (inr some))

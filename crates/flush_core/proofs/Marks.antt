@@ -1,5 +1,5 @@
 -- The places of marks, gathered one by one.
-use Rattle.std.proofs.Common.{◌≡◌, ◌≢◌, ℕ, zero, suc, ◌+◌, ◌<◌, ◌↔◌, Bool, true, false, cond, List, [], ◌∷◌, ◌++◌, length, get_or, ◌⊎◌, inl, inr, refl, sym, ap, ◌∙◌, nat_eq, arith}
+use Rattle.std.proofs.Common.{◌≡◌, ◌≢◌, ℕ, zero, suc, ◌+◌, ◌<◌, ◌≤◌, ◌↔◌, Bool, true, false, cond, List, [], ◌∷◌, ◌++◌, length, get_or, ◌⊎◌, inl, inr, refl, sym, ap, subst, ◌∙◌, nat_eq, arith}
 use borrow.Author.Tests.{eqb-true, eqb-false, eq-eqb}
 use Rattle.flush_core.specs.NodeSets.{with_node}
 use Rattle.flush_core.specs.Rules.{IsOneOf}
@@ -61,3 +61,14 @@ pub marked_within : (marks : List Bool) (node : ℕ) → get_or marks node false
 marked_within [] node mark = absurd (both mark refl)
 marked_within (m ∷ marks) zero mark = omega arith
 marked_within (m ∷ marks) (suc node) mark = let h = marked_within marks node mark in omega arith
+
+-- no place has been looked at
+pub marked_none : (marks : List Bool) (list : List ℕ) → list ≡ [] → AreMarkedBelow marks 0 list
+marked_none marks list none node = (λ one. absurd (subst (λ l. IsOneOf l node) none one), λ (lt, is). absurd (omega arith))
+
+-- all places have
+pub marked_all : (marks : List Bool) (place : ℕ) (list : List ℕ) → length marks ≤ place → AreMarkedBelow marks place list → (node : ℕ) → IsOneOf list node ↔ (get_or marks node false ≡ true)
+marked_all marks place list le below node = (
+  λ one. ((below node).0 one).1,
+  λ is. let lt = marked_within marks node is in (below node).1 (omega arith, is),
+)

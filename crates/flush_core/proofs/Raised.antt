@@ -18,7 +18,7 @@ use Rattle.flush_core.specs.Members.{AreConcerned}
 use Rattle.flush_core.specs.Named.{AreNamed}
 use Rattle.flush_core.specs.Inodes.{GetsInode, LosesInode, Settles}
 use Rattle.flush_core.proofs.Own.{both}
-use Rattle.flush_core.proofs.Listed.{one_more, still_one, next_one}
+use Rattle.flush_core.proofs.Listed.{one_more, still_one, next_one, take_whole}
 use Rattle.flush_core.proofs.Marks.{with_in, with_other}
 use Rattle.flush_core.proofs.Brought.{naming_is, is_naming}
 
@@ -72,6 +72,12 @@ raise_more cut before after nodes i d v stamp lt is raises step = record { one =
       ]
     ]
 
+pub raise_none : (cut : Cut) (nodes : List ℕ) (stamp : ℕ) → RaisesThose cut (take 0 nodes) stamp cut
+raise_none cut nodes stamp = record { one = λ x none. absurd none; other = λ x. inr refl }
+
+pub raise_whole : (cut raised : Cut) (nodes : List ℕ) (i stamp : ℕ) → length nodes ≤ i → RaisesThose cut (take i nodes) stamp raised → RaisesThose cut nodes stamp raised
+raise_whole cut raised nodes i stamp le raises = subst (λ l. RaisesThose cut l stamp raised) (take_whole i nodes le) raises
+
 -- the nodes that are settled so far, and no others have changed
 pub record AreSettled (past : Past) (raised : Cut) (inodes named : NodeSet) (own : ℕ) (nodes : List ℕ) (after : NodeSet) : Type 0 where
   pub settled : (node : ℕ) → IsOneOf nodes node → Settles past raised inodes named own node (has_node after node)
@@ -92,6 +98,12 @@ settle_more past raised inodes named own nodes i d v has before after lt is so_f
     | inr differ ↦ still_one nodes i d x lt (so_far.others x (λ same. changed (step x ∙ with_other v x has (has_node before) differ ∙ same)))
   ];
 }
+
+pub settle_none : (past : Past) (raised : Cut) (inodes named : NodeSet) (own : ℕ) (nodes : List ℕ) (after : NodeSet) → ((x : ℕ) → has_node after x ≡ has_node inodes x) → AreSettled past raised inodes named own (take 0 nodes) after
+settle_none past raised inodes named own nodes after same = record { settled = λ x none. absurd none; others = λ x changed. absurd (changed (same x)) }
+
+pub settle_whole : (past : Past) (raised : Cut) (inodes named : NodeSet) (own : ℕ) (nodes : List ℕ) (i : ℕ) (after : NodeSet) → length nodes ≤ i → AreSettled past raised inodes named own (take i nodes) after → AreSettled past raised inodes named own nodes after
+settle_whole past raised inodes named own nodes i after le settled = subst (λ l. AreSettled past raised inodes named own l after) (take_whole i nodes le) settled
 
 module _ (first : TreeState) (history : List Entry) (past : Past) (is : IsPast first history past) (raised : Cut) (named : NodeSet) (are_named : AreNamed first history raised named) where
   -- a node that gets an inode is reached

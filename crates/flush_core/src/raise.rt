@@ -138,11 +138,13 @@ fn gets_inode(past: &Past, raised: &Cut, named: &NodeSet, own: u32, node: u32) -
     ensures { (result ≡ true) ↔ GetsInode past.now raised.now named.now own node }
 {
     named.has(node)
-        || node == own && !is_folder(&past.tree, node) && has_naming(&past.changes, raised, node)
+        || node == own
+            && !is_directory_in(&past.tree, node)
+            && has_naming(&past.changes, raised, node)
 }
 
 // Whether the node is a directory of the tree.
-fn is_folder(tree: &Tree, node: u32) -> bool
+fn is_directory_in(tree: &Tree, node: u32) -> bool
     ensures { result ≡ is_directory tree.now node }
 {
     tree.kind(NodeId(node)) == Some(Kind::Directory)

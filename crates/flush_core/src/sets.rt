@@ -59,7 +59,7 @@ impl NodeSet {
         })
     }
 
-    /// Its nodes, ascending. It takes time in proportion to the highest number.
+    /// Its nodes. It takes time in proportion to the highest number that was put in.
     pub(crate) fn list(&self, alloc: Global) -> Result<Vec<u32>, NoMemory>
         ensures { IfOk result (λ list. (node : ℕ) → IsOneOf list.items node ↔ (has_node self.now node ≡ true)) }
     {
