@@ -25,3 +25,4 @@ pub mod Members
 pub mod Recount
 pub mod RaisesHold
 pub mod Held
+pub mod NamedRows
