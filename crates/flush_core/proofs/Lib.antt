@@ -26,3 +26,4 @@ pub mod Recount
 pub mod RaisesHold
 pub mod Held
 pub mod NamedRows
+pub mod Agree
