@@ -27,3 +27,4 @@ pub mod RaisesHold
 pub mod Held
 pub mod NamedRows
 pub mod Agree
+pub mod Raising
