@@ -28,3 +28,6 @@ pub mod Held
 pub mod NamedRows
 pub mod Agree
 pub mod Raising
+pub mod OneCommit
+pub mod RaiseLists
+pub mod Begun
