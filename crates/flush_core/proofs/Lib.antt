@@ -31,3 +31,4 @@ pub mod Raising
 pub mod OneCommit
 pub mod RaiseLists
 pub mod Begun
+pub mod Flying
