@@ -1,5 +1,5 @@
 -- An fsync makes one commit by cuts that agree on what it concerns.
-use Rattle.std.proofs.Common.{◌≡◌, ℕ, ◌<◌, ◌≤◌, Bool, List, Some, inl, inr, sym, ap, subst, ◌∙◌, arith}
+use Rattle.std.proofs.Common.{◌≡◌, ℕ, ◌<◌, ◌≤◌, Bool, List, Some, inl, inr, refl, sym, ap, subst, ◌∙◌, arith}
 use borrow.Author.Tests.{ltb-true}
 use Rattle.std.specs.Prelude.{◌↔◌, max}
 use Rattle.std.specs.FinMap.{get}
@@ -21,6 +21,10 @@ LeaveTheSame first history n cut other node = (change : RowChange) → IsChange 
 
 pub same_back : (first : TreeState) (history : List Entry) (n : ℕ) (cut other : Cut) (node : ℕ) → LeaveTheSame first history n cut other node → LeaveTheSame first history n other cut node
 same_back first history n cut other node same x one lt child = let both = same x one lt child in (both.1, both.0)
+
+-- a cut agrees with itself
+pub agree_itself : (first : TreeState) (history : List Entry) (n : ℕ) (cut : Cut) (inodes : ℕ → Bool) (node : ℕ) → Agree first history n cut cut inodes inodes node
+agree_itself first history n cut inodes node = record { cuts = refl; inode = refl; unflushed = λ x one lt child. (λ le. le, λ le. le) }
 
 -- to agree is to agree the other way round, and goes on over a third cut
 pub agree_back : (first : TreeState) (history : List Entry) (n : ℕ) (cut other : Cut) (inodes other_inodes : ℕ → Bool) (node : ℕ) → Agree first history n cut other inodes other_inodes node → Agree first history n other cut other_inodes inodes node

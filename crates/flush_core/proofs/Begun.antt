@@ -53,10 +53,13 @@ ended_step old e new takes ended = takes.free refused.Crashed ended
 none_shared : (old : MachineState) (commit : ℕ) (node : NodeId) (stamp : Stamp) (new : MachineState) → Takes old (event.CutAt commit node stamp) new → (bound x : ℕ) → x < bound → IsShared old (record { node = node.0; stamp = stamp.0 }) x → ⊥
 none_shared old commit node stamp new takes zero x lt shared = absurd (omega arith)
 none_shared old commit node stamp new takes (suc bound) x lt shared =
-    takes.free (refused.Meets (record { 0 = x })) (shared, λ other also. elim (below_or other x) [
-      | inl less ↦ absurd (none_shared old commit node stamp new takes bound other (omega arith) also)
-      | inr le ↦ le
-    ])
+    takes.free (refused.Meets (record { 0 = x })) (
+      shared,
+      λ other also. elim (below_or other x) [
+        | inl less ↦ absurd (none_shared old commit node stamp new takes bound other (omega arith) also)
+        | inr le ↦ le
+      ],
+    )
 
 module _ (first : TreeState) (events : List Event) (states : ℕ → MachineState) (run : IsRun first events states) where
   -- a commit begins within the events
@@ -64,7 +67,7 @@ module _ (first : TreeState) (events : List Event) (states : ℕ → MachineStat
   begun_within place commit flush begun = slice_get_within events place begun.event begun.stands
 
   -- a state takes the event that begins a commit
-  takes_cut : (place commit : ℕ) (flush : Flush) (begun : IsBegun events place commit flush) → let cut = cut_at begun.event commit flush begun.begins in Takes (states place) (event.CutAt commit cut.node cut.stamp) (states (suc place))
+  pub takes_cut : (place commit : ℕ) (flush : Flush) (begun : IsBegun events place commit flush) → let cut = cut_at begun.event commit flush begun.begins in Takes (states place) (event.CutAt commit cut.node cut.stamp) (states (suc place))
   takes_cut place commit flush begun =
       let cut = cut_at begun.event commit flush begun.begins in
       run.steps place (event.CutAt commit cut.node cut.stamp) (begun.stands ∙ ap Some cut.same)
@@ -120,7 +123,12 @@ module _ (first : TreeState) (events : List Event) (states : ℕ → MachineStat
       let e = begun_once place later commit flush other begun again in
       ap (λ (pair : ℕ × Flush). pair.1) (some_is (sym begun.begins ∙ ap flush_by (some_is (sym begun.stands ∙ ap (slice_get events) e ∙ again.stands)) ∙ again.begins))
 
-  -- and concerns no node that a flight concerns
+  -- at one place one commit begins
+  pub one_begun : (place commit other : ℕ) (flush other_flush : Flush) → IsBegun events place commit flush → IsBegun events place other other_flush → commit ≡ other
+  one_begun place commit other flush other_flush begun also =
+      ap (λ (pair : ℕ × Flush). pair.0) (some_is (sym begun.begins ∙ ap flush_by (some_is (sym begun.stands ∙ also.stands)) ∙ also.begins))
+
+  -- it concerns no node that a flight concerns
   pub begun_apart : (place commit : ℕ) (flush : Flush) → IsBegun events place commit flush → (flight : Flight) → IsOneOf (states place).flights flight → (node : ℕ) → flight.concerned node ≡ true → Concerns first flush (view_of (states place)) node → ⊥
   begun_apart place commit flush begun flight one node theirs concerned =
       let cut = cut_at begun.event commit flush begun.begins in

@@ -32,3 +32,5 @@ pub mod OneCommit
 pub mod RaiseLists
 pub mod Begun
 pub mod Flying
+pub mod Stays
+pub mod Flights

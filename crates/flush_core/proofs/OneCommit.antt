@@ -60,17 +60,21 @@ module _ (first : TreeState) (flush : Flush) where
         let both = c.rows raised last ((a.raises raised).0 raise) last_raise node directory name ((a.concerned node).0 concerned) in
         (λ row. both.0 (sym e ∙ row), λ row. e ∙ both.1 row);
     enters = λ raised last raise last_raise node.
-        let both = c.enters raised last ((a.raises raised).0 raise) last_raise node in
-        (λ e. both.0 (sym (a.inodes node) ∙ e.0, (a.concerned node).0 e.1, (a.reached raised raise node e.1).0 e.2), λ e.
-            let back = both.1 e in
-            let own = (a.concerned node).1 back.1 in
-            (a.inodes node ∙ back.0, own, (a.reached raised raise node own).1 back.2));
+        let both = c.enters raised last ((a.raises raised).0 raise) last_raise node in (
+          λ e. both.0 (sym (a.inodes node) ∙ e.0, (a.concerned node).0 e.1, (a.reached raised raise node e.1).0 e.2),
+          λ e.
+              let back = both.1 e in
+              let own = (a.concerned node).1 back.1 in
+              (a.inodes node ∙ back.0, own, (a.reached raised raise node own).1 back.2),
+        );
     leaves = λ raised last raise last_raise node.
-        let both = c.leaves raised last ((a.raises raised).0 raise) last_raise node in
-        (λ e. both.0 (sym (a.inodes node) ∙ e.0, (a.concerned node).0 e.1, (a.dead raised raise node e.1).0 e.2), λ e.
-            let back = both.1 e in
-            let own = (a.concerned node).1 back.1 in
-            (a.inodes node ∙ back.0, own, (a.dead raised raise node own).1 back.2));
+        let both = c.leaves raised last ((a.raises raised).0 raise) last_raise node in (
+          λ e. both.0 (sym (a.inodes node) ∙ e.0, (a.concerned node).0 e.1, (a.dead raised raise node e.1).0 e.2),
+          λ e.
+              let back = both.1 e in
+              let own = (a.concerned node).1 back.1 in
+              (a.inodes node ∙ back.0, own, (a.dead raised raise node own).1 back.2),
+        );
   }
 
   pub then_alike : (view other third : View) → IsOneCommit first flush view other → AreAlike first flush other third → IsOneCommit first flush view third

@@ -80,8 +80,7 @@ module _ (first : TreeState) (history : List Entry) (counts : Counts) (cut : Cut
   pub raised_once : (flush : Flush) (raised : Cut) (after : ℕ → Bool) → AreRaised first history counts cut inodes (flush ∷ []) raised after → IsRaised first history counts cut inodes flush raised × AreInodesAfter first history counts cut inodes flush raised after
   raised_once flush raised after are =
       let last = raised_last are [] flush refl in
-      let same = nothing_raised last.earlier refl in
-      (
+      let same = nothing_raised last.earlier refl in (
         subst (λ (c : Cut). IsRaised first history counts c inodes flush raised) (sym same.0) (subst (λ (i : ℕ → Bool). IsRaised first history counts last.before i flush raised) (sym same.1) last.raise),
         subst (λ (c : Cut). AreInodesAfter first history counts c inodes flush raised after) (sym same.0) (subst (λ (i : ℕ → Bool). AreInodesAfter first history counts last.before i flush raised after) (sym same.1) last.sets),
       )
