@@ -34,3 +34,4 @@ pub mod Begun
 pub mod Flying
 pub mod Stays
 pub mod Flights
+pub mod Durables
