@@ -89,7 +89,7 @@ module _ (first : TreeState) (events : List Event) (states : ℕ → MachineStat
       from_step place there.0 there.1 (run.steps place there.0 there.1) (steady_at first events states run place (omega arith)).start flight one
 
   -- a flight of a later state was one at a place, or begins from there on
-  pub flight_before : (place later : ℕ) → place ≤ later → later ≤ length events → (flight : Flight) → IsOneOf (states later).flights flight → IsAmong (states place).flights flight ⊎ ((begin : ℕ) × (place ≤ begin) × IsBegun events begin flight.commit flight.flush)
+  pub flight_before : (place later : ℕ) → place ≤ later → later ≤ length events → (flight : Flight) → IsOneOf (states later).flights flight → IsAmong (states place).flights flight ⊎ ((begin : ℕ) × (place ≤ begin) × (begin < later) × IsBegun events begin flight.commit flight.flush)
   flight_before place zero le within flight one = inl (among_itself (states place).flights flight (subst (λ (p : ℕ). IsOneOf (states p).flights flight) (none_below place le) one))
     where
       none_below : (p : ℕ) → p ≤ 0 → 0 ≡ p
@@ -97,10 +97,10 @@ module _ (first : TreeState) (events : List Event) (states : ℕ → MachineStat
   flight_before place (suc later) le within flight one = elim (below_or later place) [
     | inl lt ↦ inl (among_itself (states place).flights flight (subst (λ (p : ℕ). IsOneOf (states p).flights flight) (same place later lt le) one))
     | inr less ↦ elim (flight_from later within flight one) [
-      | inr new ↦ inr (later, less, new.begun)
+      | inr new ↦ inr (later, less, omega arith, new.begun)
       | inl old ↦ elim (flight_before place later less (omega arith) old.was old.there) [
         | inl among ↦ inl (record { was = among.was; there = among.there; commit = among.commit ∙ old.commit; flush = among.flush ∙ old.flush; concerned = among.concerned ∙ old.concerned })
-        | inr begins ↦ inr (begins.0, begins.1, subst (λ (f : Flush). IsBegun events begins.0 flight.commit f) old.flush (subst (λ (c : ℕ). IsBegun events begins.0 c old.was.flush) old.commit begins.2))
+        | inr begins ↦ inr (begins.0, begins.1, let lt = begins.2 in omega arith, subst (λ (f : Flush). IsBegun events begins.0 flight.commit f) old.flush (subst (λ (c : ℕ). IsBegun events begins.0 c old.was.flush) old.commit begins.3))
       ]
     ]
   ]

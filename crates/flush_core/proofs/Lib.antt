@@ -35,3 +35,4 @@ pub mod Flying
 pub mod Stays
 pub mod Flights
 pub mod Durables
+pub mod Awaited

@@ -72,7 +72,7 @@ module _ (first : TreeState) (history : List Entry) (counts : Counts) (cut : Cut
       }
 
   -- no fsyncs raise nothing
-  nothing_raised : {all : List Flush} {raised : Cut} {after : ℕ → Bool} → AreRaised first history counts cut inodes all raised after → all ≡ [] → (cut ≡ raised) × (inodes ≡ after)
+  pub nothing_raised : {all : List Flush} {raised : Cut} {after : ℕ → Bool} → AreRaised first history counts cut inodes all raised after → all ≡ [] → (cut ≡ raised) × (inodes ≡ after)
   nothing_raised none e = (refl, refl)
   nothing_raised (one_more others other before raised inodes_before after was raise sets) e = absurd (no_last others other e)
 
