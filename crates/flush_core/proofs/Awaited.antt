@@ -1,5 +1,5 @@
 -- The nodes that matter to a commit while others become durable before it.
-use Rattle.std.proofs.Common.{◌≡◌, ℕ, suc, ◌<◌, ◌≤◌, Bool, true, false, List, length, Some, None, ◌⊎◌, inl, inr, sym, ap, subst, ◌∙◌, arith}
+use Rattle.std.proofs.Common.{◌≡◌, ℕ, suc, ◌<◌, ◌≤◌, Bool, true, false, List, length, Some, ◌⊎◌, inl, inr, sym, ap, subst, ◌∙◌, arith}
 use Rattle.std.specs.Prelude.{slice_get}
 use Rattle.sfs_tree.specs.Tree.{TreeState}
 use Rattle.sfs_tree.specs.Laws.{IsSoundTree}
@@ -13,16 +13,10 @@ use Rattle.flush_core.specs.Runs.{IsRun, flush_by, IsBegun, AreAlive, view_of, C
 use Rattle.flush_core.proofs.Own.{both}
 use Rattle.flush_core.proofs.Runs.{below_or}
 use Rattle.flush_core.proofs.RunFacts.{flight_found}
-use Rattle.flush_core.proofs.Begun.{begun_within, begun_once, one_flush}
+use Rattle.flush_core.proofs.Begun.{some_is, none_some, begun_within, begun_once, one_flush}
 use Rattle.flush_core.proofs.Flying.{flight_before}
 use Rattle.flush_core.proofs.Stays.{Stays, StayApart}
 use Rattle.flush_core.proofs.Flights.{stay_apart}
-
-some_is : {X : Type 0} {x y : X} → Some x ≡ Some y → x ≡ y
-some_is e = cc
-
-none_some : {X : Type 0} {x : X} → None ≡ Some x → ⊥
-none_some e = cc
 
 module _ (first : TreeState) (events : List Event) (states : ℕ → MachineState) (is : IsSoundTree first) (run : IsRun first events states) (alive : AreAlive first events states) (within : length events ≤ length events) where
   -- what a commit concerned as it began, its flight concerns

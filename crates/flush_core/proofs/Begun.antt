@@ -1,5 +1,5 @@
 -- Where the commits of a run begin.
-use Rattle.std.proofs.Common.{◌≡◌, ℕ, zero, suc, ◌<◌, ◌≤◌, true, List, [], ◌∷◌, length, Some, inl, inr, refl, sym, ap, subst, ◌∙◌, arith}
+use Rattle.std.proofs.Common.{◌≡◌, ℕ, zero, suc, ◌<◌, ◌≤◌, true, List, [], ◌∷◌, length, Some, None, inl, inr, refl, sym, ap, subst, ◌∙◌, arith}
 use Rattle.std.specs.Prelude.{slice_get}
 use Rattle.std.proofs.lemmas.Option.{slice_get_within}
 use Rattle.sfs_base.specs.declared.numbers.NodeId.{NodeId}
@@ -23,8 +23,11 @@ pub record IsCutAt (e : Event) (commit : ℕ) (flush : Flush) : Type 0 where
   pub same : e ≡ event.CutAt commit node stamp
   pub own : record { node = node.0; stamp = stamp.0 } ≡ flush
 
-some_is : {X : Type 0} {x y : X} → Some x ≡ Some y → x ≡ y
+pub some_is : {X : Type 0} {x y : X} → Some x ≡ Some y → x ≡ y
 some_is e = cc
+
+pub none_some : {X P : Type 0} {x : X} → None ≡ Some x → P
+none_some e = cc
 
 pub cut_at : (e : Event) (commit : ℕ) (flush : Flush) → flush_by e ≡ Some (commit, flush) → IsCutAt e commit flush
 cut_at (event.CutAt other node stamp) commit flush e = record { node = node; stamp = stamp; same = ap (λ (c : ℕ). event.CutAt c node stamp) (ap (λ (begun : ℕ × Flush). begun.0) (some_is e)); own = ap (λ (begun : ℕ × Flush). begun.1) (some_is e) }
@@ -44,10 +47,6 @@ used_step old (event.Durable other) new commit takes used =
 used_step old (event.Fail other) new commit takes used = subst (λ (s : MachineState). IsOneOf s.used commit) (sym takes.moves) used
 used_step old (event.Crash kept) new commit takes used =
     subst (λ (s : MachineState). IsOneOf s.used commit) (sym takes.moves.2) (subst (λ (l : List ℕ). IsOneOf l commit) (sym (ap (λ (s : MachineState). s.used) takes.moves.1.others)) used)
-
--- a run that has ended has ended for good
-ended_step : (old : MachineState) (e : Event) (new : MachineState) → Takes old e new → old.crashed ≡ true → ⊥
-ended_step old e new takes ended = takes.free refused.Crashed ended
 
 -- no flight concerns what a commit concerns that begins
 none_shared : (old : MachineState) (commit : ℕ) (node : NodeId) (stamp : Stamp) (new : MachineState) → Takes old (event.CutAt commit node stamp) new → (bound x : ℕ) → x < bound → IsShared old (record { node = node.0; stamp = stamp.0 }) x → ⊥

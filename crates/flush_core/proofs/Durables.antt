@@ -14,13 +14,7 @@ use Rattle.flush_core.specs.Closure.{Flush}
 use Rattle.flush_core.specs.Machine.{MachineState}
 use Rattle.flush_core.specs.Runs.{IsRun, flush_by, IsBegun, flush_or, flush_of, durable_by}
 use Rattle.flush_core.proofs.Runs.{below_or}
-use Rattle.flush_core.proofs.Begun.{one_flush}
-
-some_is : {X : Type 0} {x y : X} → Some x ≡ Some y → x ≡ y
-some_is e = cc
-
-none_some : {X P : Type 0} {x : X} → None ≡ Some x → P
-none_some e = cc
+use Rattle.flush_core.proofs.Begun.{some_is, none_some, one_flush}
 
 -- the one at a place comes behind those before it
 pub take_next : {X : Type 0} (xs : List X) (place : ℕ) (x : X) → slice_get xs place ≡ Some x → take (suc place) xs ≡ take place xs ++ x ∷ []

@@ -36,3 +36,4 @@ pub mod Stays
 pub mod Flights
 pub mod Durables
 pub mod Awaited
+pub mod Tied

@@ -1,5 +1,5 @@
 // What is proved of cuts: each function's contract is a law.
-ghost use Rattle.flush_core.specs.Laws.{ClosedCutsAreSound, DirectoriesAreCut, FilesAreCut, FlightsStay, FsyncsCover, FsyncsKeep, ListsCover, ListsKeep, RunsKeep};
+ghost use Rattle.flush_core.specs.Laws.{ClosedCutsAreSound, CommitsAreTied, DirectoriesAreCut, FilesAreCut, FlightsStay, FsyncsCover, FsyncsKeep, ListsCover, ListsKeep, RunsKeep};
 
 /// In the tree at a cut a directory has its rows at its own stamp.
 pub fn directories_are_cut()
@@ -44,4 +44,9 @@ pub fn runs_keep()
 /// Whichever of the other flights have raised the cut, a flight makes the commit that it would have made as it began.
 pub fn flights_stay()
     ensures { FlightsStay }
+{}
+
+/// A commit is the one that it would have been, had only the commits come before it to which it is tied.
+pub fn commits_are_tied()
+    ensures { CommitsAreTied }
 {}
