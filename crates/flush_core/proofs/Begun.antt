@@ -1,123 +1,141 @@
--- A commit that is begun, or is refused.
-use Rattle.std.proofs.Common.{◌≡◌, ◌≢◌, inl, inr, ◌↔◌, ℕ, ◌+◌, ◌<◌, ◌≤◌, Bool, true, false, List, [], ◌∷◌, ◌++◌, length, map, Option, Some, None, refl, sym, ap, subst, ◌∙◌, arith}
-use Rattle.std.proofs.lemmas.List.{map-append}
+-- Where the commits of a run begin.
+use Rattle.std.proofs.Common.{◌≡◌, ℕ, zero, suc, ◌<◌, ◌≤◌, true, List, [], ◌∷◌, length, Some, None, inl, inr, refl, sym, ap, subst, ◌∙◌, arith}
+use Rattle.std.specs.Prelude.{slice_get}
+use Rattle.std.proofs.lemmas.Option.{slice_get_within}
 use Rattle.sfs_base.specs.declared.numbers.NodeId.{NodeId}
 use Rattle.sfs_base.specs.declared.numbers.Stamp.{Stamp}
+use Rattle.sfs_tree.specs.Tree.{TreeState}
+use Rattle.flush_core.specs.declared.event.Event.{Event}
 use Rattle.flush_core.specs.declared.event.Event.TheVariants as event
-use Rattle.flush_core.specs.declared.event.Refused.{Refused}
 use Rattle.flush_core.specs.declared.event.Refused.TheVariants as refused
-use Rattle.flush_core.specs.declared.flight.InFlight.{InFlight}
-use Rattle.flush_core.specs.declared.sets.NodeSet.{NodeSet}
-use Rattle.flush_core.specs.NodeSets.{has_node}
 use Rattle.flush_core.specs.Rules.{IsOneOf}
 use Rattle.flush_core.specs.Closure.{Flush}
-use Rattle.flush_core.specs.Machine.{Flight, MachineState, IsShared, Begins, Refuses, place_of, IsRefused, Takes}
-use Rattle.flush_core.specs.Flights.{flight_as, IsTaken, IsLeastTaken}
-use Rattle.flush_core.specs.State.{KeptState, machine_of}
+use Rattle.flush_core.specs.Machine.{Flight, MachineState, IsShared, Takes}
+use Rattle.flush_core.specs.Runs.{IsRun, flush_by, IsBegun, view_of, Concerns}
+use Rattle.flush_core.proofs.Runs.{below_or}
+use Rattle.flush_core.proofs.Along.{in_left, in_right}
+use Rattle.flush_core.proofs.RunFacts.{steady_at, event_there}
 
-module _ (old : KeptState) (commit : ℕ) (node : NodeId) (stamp : Stamp) (running : old.crashed ≡ false) (going : old.failed ≡ None) where
-  abbrev flush : Flush
-  flush = record { node = node.0; stamp = stamp.0 }
+-- The event that begins a commit.
+pub record IsCutAt (e : Event) (commit : ℕ) (flush : Flush) : Type 0 where
+  pub node : NodeId
+  pub stamp : Stamp
+  pub same : e ≡ event.CutAt commit node stamp
+  pub own : record { node = node.0; stamp = stamp.0 } ≡ flush
 
-  no_crash : {P : Type 0} → old.crashed ≡ true → P
-  no_crash crashed = absurd (differ (sym running ∙ crashed))
+pub some_is : {X : Type 0} {x y : X} → Some x ≡ Some y → x ≡ y
+some_is e = cc
+
+pub none_some : {X P : Type 0} {x : X} → None ≡ Some x → P
+none_some e = cc
+
+pub cut_at : (e : Event) (commit : ℕ) (flush : Flush) → flush_by e ≡ Some (commit, flush) → IsCutAt e commit flush
+cut_at (event.CutAt other node stamp) commit flush e = record { node = node; stamp = stamp; same = ap (λ (c : ℕ). event.CutAt c node stamp) (ap (λ (begun : ℕ × Flush). begun.0) (some_is e)); own = ap (λ (begun : ℕ × Flush). begun.1) (some_is e) }
+cut_at (event.Call entry) commit flush e = cc
+cut_at (event.Opened other) commit flush e = cc
+cut_at (event.Durable other) commit flush e = cc
+cut_at (event.Fail other) commit flush e = cc
+cut_at (event.Crash kept) commit flush e = cc
+
+-- a number that was used stays so
+used_step : (old : MachineState) (e : Event) (new : MachineState) (commit : ℕ) → Takes old e new → IsOneOf old.used commit → IsOneOf new.used commit
+used_step old (event.Call entry) new commit takes used = subst (λ (s : MachineState). IsOneOf s.used commit) (sym takes.moves.1) used
+used_step old (event.CutAt other node stamp) new commit takes used = subst (λ (s : MachineState). IsOneOf s.used commit) (sym takes.moves.2) (in_left old.used (other ∷ []) commit used)
+used_step old (event.Opened other) new commit takes used = subst (λ (s : MachineState). IsOneOf s.used commit) (sym takes.moves) used
+used_step old (event.Durable other) new commit takes used =
+    subst (λ (s : MachineState). IsOneOf s.used commit) (sym takes.moves.4) (subst (λ (l : List ℕ). IsOneOf l commit) (sym (ap (λ (s : MachineState). s.used) takes.moves.3.others)) used)
+used_step old (event.Fail other) new commit takes used = subst (λ (s : MachineState). IsOneOf s.used commit) (sym takes.moves) used
+used_step old (event.Crash kept) new commit takes used =
+    subst (λ (s : MachineState). IsOneOf s.used commit) (sym takes.moves.2) (subst (λ (l : List ℕ). IsOneOf l commit) (sym (ap (λ (s : MachineState). s.used) takes.moves.1.others)) used)
+
+-- no flight concerns what a commit concerns that begins
+none_shared : (old : MachineState) (commit : ℕ) (node : NodeId) (stamp : Stamp) (new : MachineState) → Takes old (event.CutAt commit node stamp) new → (bound x : ℕ) → x < bound → IsShared old (record { node = node.0; stamp = stamp.0 }) x → ⊥
+none_shared old commit node stamp new takes zero x lt shared = absurd (omega arith)
+none_shared old commit node stamp new takes (suc bound) x lt shared =
+    takes.free (refused.Meets (record { 0 = x })) (
+      shared,
+      λ other also. elim (below_or other x) [
+        | inl less ↦ absurd (none_shared old commit node stamp new takes bound other (omega arith) also)
+        | inr le ↦ le
+      ],
+    )
+
+module _ (first : TreeState) (events : List Event) (states : ℕ → MachineState) (run : IsRun first events states) where
+  -- a commit begins within the events
+  pub begun_within : (place commit : ℕ) (flush : Flush) → IsBegun events place commit flush → place < length events
+  begun_within place commit flush begun = slice_get_within events place begun.event begun.stands
+
+  -- a state takes the event that begins a commit
+  pub takes_cut : (place commit : ℕ) (flush : Flush) (begun : IsBegun events place commit flush) → let cut = cut_at begun.event commit flush begun.begins in Takes (states place) (event.CutAt commit cut.node cut.stamp) (states (suc place))
+  takes_cut place commit flush begun =
+      let cut = cut_at begun.event commit flush begun.begins in
+      run.steps place (event.CutAt commit cut.node cut.stamp) (begun.stands ∙ ap Some cut.same)
+
+  -- its stamp is at most the count of calls
+  pub begun_low : (place commit : ℕ) (flush : Flush) → IsBegun events place commit flush → flush.stamp ≤ length (states place).history
+  begun_low place commit flush begun =
+      let cut = cut_at begun.event commit flush begun.begins in
+      subst (λ (f : Flush). f.stamp ≤ length (states place).history) cut.own (elim (below_or (length (states place).history) cut.stamp.0) [
+        | inl lt ↦ absurd ((takes_cut place commit flush begun).free (refused.Late cut.stamp) (lt, refl))
+        | inr le ↦ le
+      ])
+
+  -- the numbers that are used in a state are so in later ones
+  used_later : (place later commit : ℕ) → place ≤ later → later ≤ length events → IsOneOf (states place).used commit → IsOneOf (states later).used commit
+  used_later place zero commit le within used = subst (λ (p : ℕ). IsOneOf (states p).used commit) (none_below place le) used
     where
-      differ : false ≡ true → ⊥
-      differ e = cc
-
-  no_fail : {P : Type 0} (failed : ℕ) → old.failed ≡ Some failed → P
-  no_fail failed is = absurd (differ (sym going ∙ is))
+      none_below : (p : ℕ) → p ≤ 0 → p ≡ 0
+      none_below p le = omega arith
+  used_later place (suc later) commit le within used = elim (below_or later place) [
+    | inl lt ↦ subst (λ (p : ℕ). IsOneOf (states p).used commit) (same place later lt le) used
+    | inr less ↦
+        let there = event_there events later (omega arith) in
+        used_step (states later) there.0 (states (suc later)) commit (run.steps later there.0 there.1) (used_later place later commit less (omega arith) used)
+  ]
     where
-      differ : {n : ℕ} → None ≡ Some n → ⊥
-      differ e = cc
+      same : (p l : ℕ) → l < p → p ≤ suc l → p ≡ suc l
+      same p l lt le = omega arith
 
-  none_named : {P : Type 0} {n : ℕ} → None ≡ Some n → P
-  none_named e = cc
+  begun_used : (place commit : ℕ) (flush : Flush) → IsBegun events place commit flush → IsOneOf (states (suc place)).used commit
+  begun_used place commit flush begun =
+      let takes = takes_cut place commit flush begun in
+      subst (λ (s : MachineState). IsOneOf s.used commit) (sym takes.moves.2) (in_right (states place).used (commit ∷ []) commit (inl refl))
 
-  no_needs : {P : Type 0} → false ≡ true → P
-  no_needs e = cc
+  never_again : (place later commit : ℕ) (flush other : Flush) → place < later → IsBegun events place commit flush → IsBegun events later commit other → ⊥
+  never_again place later commit flush other lt begun again =
+      let within = begun_within later commit other again in
+      (takes_cut later commit other again).free (refused.Used commit) (used_later (suc place) later commit (omega arith) (omega arith) (begun_used place commit flush begun), refl)
 
-  first_used : (other : Refused) → Refuses (machine_of old) (event.CutAt commit node stamp) other → 5 ≤ place_of other
-  first_used refused.Crashed holds = no_crash holds
-  first_used (refused.NotNext want) holds = absurd holds
-  first_used (refused.NotLegal reply) holds = absurd holds
-  first_used (refused.Stopped failed) holds = no_fail failed holds.1
-  first_used (refused.Used other) holds = omega arith
-  first_used (refused.Meets met) holds = omega arith
-  first_used (refused.Late late) holds = omega arith
-  first_used (refused.NotFlying other) holds = none_named holds
-  first_used (refused.NotOpened other) holds = no_needs holds.0
-  first_used (refused.AlreadyOpened other) holds = absurd holds
-  first_used refused.NoMemory holds = absurd holds
+  -- a commit begins once
+  pub begun_once : (place later commit : ℕ) (flush other : Flush) → IsBegun events place commit flush → IsBegun events later commit other → place ≡ later
+  begun_once place later commit flush other begun again = elim (below_or place later) [
+    | inl lt ↦ absurd (never_again place later commit flush other lt begun again)
+    | inr le ↦ elim (below_or later place) [
+      | inl lt ↦ absurd (never_again later place commit other flush lt again begun)
+      | inr ge ↦ omega arith
+    ]
+  ]
 
-  pub used_before : IsOneOf old.used commit → IsRefused (machine_of old) (event.CutAt commit node stamp) (refused.Used commit)
-  used_before one = record { holds = (one, refl); first = first_used }
+  -- for one fsync
+  pub one_flush : (place later commit : ℕ) (flush other : Flush) → IsBegun events place commit flush → IsBegun events later commit other → flush ≡ other
+  one_flush place later commit flush other begun again =
+      let e = begun_once place later commit flush other begun again in
+      ap (λ (pair : ℕ × Flush). pair.1) (some_is (sym begun.begins ∙ ap flush_by (some_is (sym begun.stands ∙ ap (slice_get events) e ∙ again.stands)) ∙ again.begins))
 
-  module _ (unused : IsOneOf old.used commit → ⊥) (flight : InFlight) (begins : Begins (machine_of old) commit flush (flight_as flight)) (least : Option ℕ) (is_least : IsLeastTaken (map flight_as old.flights) flight.concerned least) where
-    -- what flights share with the commit is what they concern of its nodes
-    shared : (other : ℕ) → IsShared (machine_of old) flush other → (has_node flight.concerned other ≡ true) × IsTaken (map flight_as old.flights) other
-    shared other is = ((begins.concerned other).1 is.concerned, record { flight = is.flight; flies = is.flies; concerned = is.theirs })
+  -- at one place one commit begins
+  pub one_begun : (place commit other : ℕ) (flush other_flush : Flush) → IsBegun events place commit flush → IsBegun events place other other_flush → commit ≡ other
+  one_begun place commit other flush other_flush begun also =
+      ap (λ (pair : ℕ × Flush). pair.0) (some_is (sym begun.begins ∙ ap flush_by (some_is (sym begun.stands ∙ also.stands)) ∙ also.begins))
 
-    share : (other : ℕ) → has_node flight.concerned other ≡ true → IsTaken (map flight_as old.flights) other → IsShared (machine_of old) flush other
-    share other has taken = record { concerned = (begins.concerned other).0 has; flight = taken.flight; flies = taken.flies; theirs = taken.concerned }
-
-    first_meets : (other : Refused) → Refuses (machine_of old) (event.CutAt commit node stamp) other → 6 ≤ place_of other
-    first_meets refused.Crashed holds = no_crash holds
-    first_meets (refused.NotNext want) holds = absurd holds
-    first_meets (refused.NotLegal reply) holds = absurd holds
-    first_meets (refused.Stopped failed) holds = no_fail failed holds.1
-    first_meets (refused.Used other) holds = absurd (unused holds.0)
-    first_meets (refused.Meets met) holds = omega arith
-    first_meets (refused.Late late) holds = omega arith
-    first_meets (refused.NotFlying other) holds = none_named holds
-    first_meets (refused.NotOpened other) holds = no_needs holds.0
-    first_meets (refused.AlreadyOpened other) holds = absurd holds
-    first_meets refused.NoMemory holds = absurd holds
-
-    pub meets : (met : NodeId) → least ≡ Some met.0 → IsRefused (machine_of old) (event.CutAt commit node stamp) (refused.Meets met)
-    meets met is = record {
-      holds = (share met.0 (is_least.is_in met.0 is) (is_least.taken met.0 is), λ other common. let both = shared other common in is_least.least_of met.0 other is both.0 both.1);
-      first = first_meets;
-    }
-
-    module _ (none : least ≡ None) where
-      apart : (other : ℕ) → IsShared (machine_of old) flush other → ⊥
-      apart other common = let both = shared other common in is_least.none other none both.0 both.1
-
-      first_late : (other : Refused) → Refuses (machine_of old) (event.CutAt commit node stamp) other → 7 ≤ place_of other
-      first_late refused.Crashed holds = no_crash holds
-      first_late (refused.NotNext want) holds = absurd holds
-      first_late (refused.NotLegal reply) holds = absurd holds
-      first_late (refused.Stopped failed) holds = no_fail failed holds.1
-      first_late (refused.Used other) holds = absurd (unused holds.0)
-      first_late (refused.Meets met) holds = absurd (apart met.0 holds.0)
-      first_late (refused.Late late) holds = omega arith
-      first_late (refused.NotFlying other) holds = none_named holds
-      first_late (refused.NotOpened other) holds = no_needs holds.0
-      first_late (refused.AlreadyOpened other) holds = absurd holds
-      first_late refused.NoMemory holds = absurd holds
-
-      pub late : length old.entries < stamp.0 → IsRefused (machine_of old) (event.CutAt commit node stamp) (refused.Late stamp)
-      late above = record { holds = (above, refl); first = first_late }
-
-      none_holds : stamp.0 ≤ length old.entries → (why : Refused) → Refuses (machine_of old) (event.CutAt commit node stamp) why → ⊥
-      none_holds low refused.Crashed holds = no_crash holds
-      none_holds low (refused.NotNext want) holds = holds
-      none_holds low (refused.NotLegal reply) holds = holds
-      none_holds low (refused.Stopped failed) holds = no_fail failed holds.1
-      none_holds low (refused.Used other) holds = unused holds.0
-      none_holds low (refused.Meets met) holds = apart met.0 holds.0
-      none_holds low (refused.Late late) holds = not_both low holds.0
-        where
-          not_both : {a b : ℕ} → a ≤ b → b < a → ⊥
-          not_both le lt = omega arith
-      none_holds low (refused.NotFlying other) holds = none_named holds
-      none_holds low (refused.NotOpened other) holds = no_needs holds.0
-      none_holds low (refused.AlreadyOpened other) holds = holds
-      none_holds low refused.NoMemory holds = holds
-
-      pub takes_begun : stamp.0 ≤ length old.entries → (new : KeptState) → new ≡ record old { flights = old.flights ++ flight ∷ []; used = old.used ++ commit ∷ [] } → Takes (machine_of old) (event.CutAt commit node stamp) (machine_of new)
-      takes_begun low new is = record {
-        free = none_holds low;
-        moves = (flight_as flight, begins, ap machine_of is ∙ ap (λ l. record (machine_of old) { flights = l; used = old.used ++ commit ∷ [] }) (map-append flight_as old.flights (flight ∷ [])));
-      }
+  -- it concerns no node that a flight concerns
+  pub begun_apart : (place commit : ℕ) (flush : Flush) → IsBegun events place commit flush → (flight : Flight) → IsOneOf (states place).flights flight → (node : ℕ) → flight.concerned node ≡ true → Concerns first flush (view_of (states place)) node → ⊥
+  begun_apart place commit flush begun flight one node theirs concerned =
+      let cut = cut_at begun.event commit flush begun.begins in
+      let within = begun_within place commit flush begun in
+      let start = (steady_at first events states run place (omega arith)).start in
+      none_shared (states place) commit cut.node cut.stamp (states (suc place)) (takes_cut place commit flush begun) (suc node) node (omega arith) (record {
+        concerned = subst (λ (f : TreeState). Concerns f (record { node = cut.node.0; stamp = cut.stamp.0 }) (view_of (states place)) node) (sym start) (subst (λ (f : Flush). Concerns first f (view_of (states place)) node) (sym cut.own) concerned);
+        flight = flight;
+        flies = one;
+        theirs = theirs;
+      })

@@ -128,6 +128,11 @@ module _ (first : TreeState) (history : List Entry) (is : IsSoundTree first) (le
       nothing [] = refl
       nothing (e ∷ h) = refl
 
+  -- at each stamp they have the changes till then made
+  pub seen_till : (t : ℕ) → seen_of.rows t ≡ fold with_own first.rows (filter (is_within cut) (changes_till first history t))
+  unfolding seen_of
+  seen_till t = refl
+
   -- past the last stamp they are the rows at the cut
   pub seen_end : seen_of.rows (length history) ≡ rows_at_cut first history cut
   unfolding seen_of

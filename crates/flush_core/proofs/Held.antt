@@ -69,7 +69,7 @@ module _ (first : TreeState) (events : List Event) (states : ℕ → MachineStat
   legal_whole = (steady_at first events states run last within).legal
 
   -- what is alive after some entries of a state's history is so after those of the whole
-  live_whole : (place : ℕ) → place ≤ last → (flush : Flush) → flush.stamp ≤ count place → is_alive (tree_after first (take flush.stamp (states place).history)) flush.node ≡ true → IsLive first whole flush
+  pub live_whole : (place : ℕ) → place ≤ last → (flush : Flush) → flush.stamp ≤ count place → is_alive (tree_after first (take flush.stamp (states place).history)) flush.node ≡ true → IsLive first whole flush
   live_whole place le flush low live =
       subst (λ (h : List Entry). is_alive (tree_after first h) flush.node ≡ true) (ap (take flush.stamp) (sym (prefix_at place le).first_part) ∙ take_take whole flush.stamp (count place) low) live
 

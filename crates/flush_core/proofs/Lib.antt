@@ -45,3 +45,15 @@ pub mod KeptFlights
 pub mod Called
 pub mod Begun
 pub mod Ended
+pub mod Agree
+pub mod Raising
+pub mod OneCommit
+pub mod RaiseLists
+pub mod Flying
+pub mod Stays
+pub mod Flights
+pub mod Durables
+pub mod Awaited
+pub mod Tied
+pub mod Beginning
+pub mod ChildRows

@@ -25,7 +25,7 @@ some_is e = cc
 no_node : {o : Option Node} → IsSome o → o ≡ None → ⊥
 no_node some none = cc
 
-row_at : (tree : TreeState) (d e : ℕ) (k l : List ℕ) (x : ℕ) → d ≡ e → k ≡ l → row_of tree d k ≡ Some x → row_of tree e l ≡ Some x
+pub row_at : (tree : TreeState) (d e : ℕ) (k l : List ℕ) (x : ℕ) → d ≡ e → k ≡ l → row_of tree d k ≡ Some x → row_of tree e l ≡ Some x
 row_at tree d e k l x same names row = subst (λ (y : ℕ). row_of tree y l ≡ Some x) same (subst (λ (y : List ℕ). row_of tree d y ≡ Some x) names row)
 
 module _ (tree : TreeState) (core : ℕ) (s : IsSound tree) where

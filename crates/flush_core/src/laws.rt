@@ -1,5 +1,5 @@
 // What is proved of cuts: each function's contract is a law.
-ghost use Rattle.flush_core.specs.Laws.{ClosedCutsAreSound, DirectoriesAreCut, FilesAreCut, FsyncsCover, FsyncsKeep, ListsCover, ListsKeep, RunsKeep};
+ghost use Rattle.flush_core.specs.Laws.{ClosedCutsAreSound, CommitsAreTied, DirectoriesAreCut, FilesAreCut, FlightsStay, FsyncsCover, FsyncsKeep, ListsCover, ListsKeep, RunsKeep};
 
 /// In the tree at a cut a directory has its rows at its own stamp.
 pub fn directories_are_cut()
@@ -39,4 +39,14 @@ pub fn lists_cover()
 /// In each state of a run, and when any fsyncs have raised its cut, the cut is closed and the tree at it is sound.
 pub fn runs_keep()
     ensures { RunsKeep }
+{}
+
+/// Whichever of the other flights have raised the cut, a flight makes the commit that it would have made as it began.
+pub fn flights_stay()
+    ensures { FlightsStay }
+{}
+
+/// A commit is the one that it would have been, had only the commits come before it to which it is tied.
+pub fn commits_are_tied()
+    ensures { CommitsAreTied }
 {}

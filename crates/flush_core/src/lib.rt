@@ -16,7 +16,7 @@ mod state;
 pub use cut::Cut;
 pub use event::{CommitList, Event, Refused};
 pub use laws::{
-    closed_cuts_are_sound, directories_are_cut, files_are_cut, fsyncs_cover, fsyncs_keep,
-    lists_cover, lists_keep, runs_keep,
+    closed_cuts_are_sound, commits_are_tied, directories_are_cut, files_are_cut, flights_stay,
+    fsyncs_cover, fsyncs_keep, lists_cover, lists_keep, runs_keep,
 };
 pub use state::State;

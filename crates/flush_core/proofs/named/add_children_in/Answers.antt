@@ -1,7 +1,7 @@
 use Rattle.std.proofs.Common.{ap, ◌∙◌}
 use Rattle.std.proofs.lemmas.Result.{on_ok_weaker}
 use Rattle.flush_core.specs.Named.{kept_rows}
-use Rattle.flush_core.proofs.NamedRows.{children_join}
+use Rattle.flush_core.proofs.ChildRows.{children_join}
 use Rattle.flush_core.proofs.named.add_children_in.Goals as goal
 
 pub returns : goal.returns

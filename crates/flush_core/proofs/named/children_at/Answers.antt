@@ -1,5 +1,5 @@
 use Rattle.std.proofs.lemmas.Result.{IfOk-weaker}
-use Rattle.flush_core.proofs.NamedRows.{are_children}
+use Rattle.flush_core.proofs.ChildRows.{are_children}
 use Rattle.flush_core.proofs.named.children_at.Goals as goal
 
 pub returns : goal.returns

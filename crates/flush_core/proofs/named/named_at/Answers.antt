@@ -1,5 +1,5 @@
 use Rattle.std.proofs.lemmas.Result.{IfOk-weaker}
-use Rattle.flush_core.proofs.NamedRows.{are_named}
+use Rattle.flush_core.proofs.ChildRows.{are_named}
 use Rattle.flush_core.proofs.named.named_at.Goals as goal
 
 pub returns : goal.returns

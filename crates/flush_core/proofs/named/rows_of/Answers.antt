@@ -1,4 +1,4 @@
-use Rattle.flush_core.proofs.NamedRows.{kept_more}
+use Rattle.flush_core.proofs.ChildRows.{kept_more}
 use Rattle.flush_core.proofs.named.rows_of.Goals as goal
 
 pub loop-change-preserved : goal.loop-change-preserved

@@ -1,7 +1,7 @@
 use Rattle.std.proofs.Common.{◌≡◌, Option, Some, None, false, is_some, sym, ◌∙◌}
 use Rattle.sfs_base.specs.declared.numbers.NodeId.{NodeId}
 use Rattle.sfs_tree.specs.NameRow.{number_of}
-use Rattle.flush_core.proofs.NamedRows.{remove_absent}
+use Rattle.flush_core.proofs.ChildRows.{remove_absent}
 use Rattle.flush_core.proofs.named.take.Goals as goal
 
 no_number : (found : Option NodeId) → is_some found ≡ false → number_of found ≡ None

@@ -4,7 +4,7 @@ use Rattle.flush_core.specs.Flights.{flight_as, IsLeastTaken}
 use Rattle.flush_core.specs.State.{KeptState, machine_of}
 use Rattle.flush_core.specs.contracts.state.State as shown
 use Rattle.flush_core.proofs.KeptFlights.{listed_one, not_listed}
-use Rattle.flush_core.proofs.Begun.{used_before, meets, late, takes_begun}
+use Rattle.flush_core.proofs.Beginning.{used_before, meets, late, takes_begun}
 use Rattle.flush_core.proofs.state.State.begin.Goals as goal
 
 pub returns-then-contains : goal.returns-then-contains
