@@ -40,3 +40,7 @@ pub mod RaisesHold
 pub mod Held
 pub mod InPlace
 pub mod Least
+pub mod Searched
+pub mod Placings
+pub mod Ways
+pub mod Breaks

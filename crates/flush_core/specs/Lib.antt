@@ -1,3 +1,4 @@
+pub mod Broken
 pub mod Closure
 pub mod Covers
 pub mod Cut

@@ -10,6 +10,7 @@ mod named;
 mod past;
 mod plan;
 mod raise;
+mod rules;
 mod sets;
 
 pub use cut::Cut;
@@ -18,3 +19,4 @@ pub use laws::{
     closed_cuts_are_sound, directories_are_cut, files_are_cut, fsyncs_cover, fsyncs_keep,
     lists_cover, lists_keep, runs_keep,
 };
+pub use rules::Rule;
