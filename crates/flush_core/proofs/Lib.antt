@@ -44,3 +44,4 @@ pub mod Searched
 pub mod Placings
 pub mod Ways
 pub mod Breaks
+pub mod Stories

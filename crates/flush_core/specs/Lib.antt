@@ -16,3 +16,4 @@ pub mod Plan
 pub mod Rules
 pub mod Runs
 pub mod Stamps
+pub mod Story

@@ -12,6 +12,7 @@ mod plan;
 mod raise;
 mod rules;
 mod sets;
+mod story;
 
 pub use cut::Cut;
 pub use event::{CommitList, Event, Refused};
@@ -20,3 +21,4 @@ pub use laws::{
     lists_cover, lists_keep, runs_keep,
 };
 pub use rules::Rule;
+pub use story::Story;
