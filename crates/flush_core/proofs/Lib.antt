@@ -57,3 +57,8 @@ pub mod Awaited
 pub mod Tied
 pub mod Beginning
 pub mod ChildRows
+pub mod Searched
+pub mod Placings
+pub mod Ways
+pub mod Breaks
+pub mod Stories

@@ -1,3 +1,4 @@
+pub mod Broken
 pub mod Closure
 pub mod Covers
 pub mod Cut
@@ -16,3 +17,4 @@ pub mod Rules
 pub mod Runs
 pub mod Stamps
 pub mod State
+pub mod Story

@@ -10,8 +10,10 @@ mod named;
 mod past;
 mod plan;
 mod raise;
+mod rules;
 mod sets;
 mod state;
+mod story;
 
 pub use cut::Cut;
 pub use event::{CommitList, Event, Refused};
@@ -20,3 +22,5 @@ pub use laws::{
     fsyncs_cover, fsyncs_keep, lists_cover, lists_keep, runs_keep,
 };
 pub use state::State;
+pub use rules::Rule;
+pub use story::Story;

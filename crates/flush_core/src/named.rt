@@ -135,7 +135,7 @@ fn add_child_of(named: &mut NodeSet, row: &NameRow) -> Result<(), NoMemory>
 }
 
 // A directory's rows at a stamp.
-fn rows_of(
+pub(crate) fn rows_of(
     first: &Tree,
     changes: &[OwnChange],
     directory: u32,

@@ -1,0 +1,6 @@
+use Rattle.std.proofs.Common.{take}
+use Rattle.flush_core.specs.Story.{IsReady}
+use Rattle.flush_core.proofs.story.replayed.Given as goal
+
+abbrev pub invariant-loop-entry : goal.invariant-loop-entry
+invariant-loop-entry l = IsReady l.first (take l.entry-index l.entries) l.past

@@ -1,0 +1,79 @@
+-- A first tree and a history from it, as a program keeps them.
+use Rattle.std.specs.Prelude.{◌≡◌, ℕ, List, [], ◌∷◌, ◌++◌, length, Option, Some, None, refl, if◌then◌else◌}
+use Rattle.std.specs.Coded.{Coded, code_by, coded×}
+use Rattle.sfs_base.specs.declared.numbers.CoreId.{CoreId}
+use Rattle.sfs_tree.specs.declared.call.Call.{Call}
+use Rattle.sfs_tree.specs.declared.history.Entry.{Entry}
+use Rattle.sfs_tree.specs.Tree.{TreeState, tree_code}
+use Rattle.sfs_tree.specs.Verdict.{verdict}
+use Rattle.sfs_tree.specs.History.{tree_after, flushes, IsLegal}
+use Rattle.sfs_tree.specs.Laws.{IsSoundTree}
+use Rattle.sfs_tree.specs.Sound.{IsSound}
+use Rattle.sfs_tree.specs.Step.{IsReadable}
+use Rattle.flush_core.specs.declared.past.Past.{Past}
+use Rattle.flush_core.specs.Past.{IsPast}
+use Rattle.flush_core.specs.Rules.{IsOneOf}
+
+-- A first tree and the calls from it on.
+pub record StoryState : Type 0 where
+  pub first : TreeState
+  pub history : List Entry
+
+-- how a story is stored
+abbrev pub story_code : Coded (List Entry) → Coded StoryState
+story_code entries_code = code_by (TreeState × List Entry) (coded× tree_code entries_code) (λ s. (s.first, s.history)) (λ p. record { first = p.0; history = p.1 }) (λ _. refl)
+
+-- a story without calls
+abbrev pub story_of : TreeState → StoryState
+story_of first = record { first = first; history = [] }
+
+-- the tree after a story's calls
+abbrev pub end_of : StoryState → TreeState
+end_of story = tree_after story.first story.history
+
+-- when a call is acknowledged that a tree answers: an fsync of a live node at once, and no other call
+abbrev pub ack_of : TreeState → Call → Option ℕ
+ack_of tree call = if flushes tree call then Some 0 else None
+
+-- a call as an entry, answered by the table
+abbrev pub entry_of : TreeState → ℕ → CoreId → Call → Entry
+entry_of tree stamp core call = record {
+  stamp = record { 0 = stamp };
+  core = core;
+  call = call;
+  reply = (verdict tree core.0 call).reply;
+  ack = ack_of tree call;
+}
+
+-- the entry of a story's next call
+abbrev pub next_entry : StoryState → CoreId → Call → Entry
+next_entry story core call = entry_of (end_of story) (length story.history) core call
+
+-- a story with a call more
+abbrev pub with_call : StoryState → CoreId → Call → StoryState
+with_call story core call = record {
+  first = story.first;
+  history = story.history ++ next_entry story core call ∷ [];
+}
+
+-- Each read asks for no more than it may.
+abbrev pub AreReadable : List Entry → Type 0
+AreReadable entries = (entry : Entry) → IsOneOf entries entry → IsReadable entry.call
+
+-- What is kept as the past of some calls is their past.
+abbrev pub Keeps : TreeState → List Entry → Option Past → Type 0
+Keeps first entries None = Unit {0}
+Keeps first entries (Some past) = IsPast first entries past
+
+-- A story as it is kept: the first tree is sound, the calls are legal, and their past is kept or missing.
+pub record IsStanding (first : TreeState) (entries : List Entry) (kept : Option Past) : Type 0 where
+  pub sound : IsSoundTree first
+  pub legal : IsLegal first entries
+  pub readable : AreReadable entries
+  pub keeps : Keeps first entries kept
+
+-- A past of some calls to which a call can be added: its tree is sound and has the first tree's cores.
+pub record IsReady (first : TreeState) (entries : List Entry) (past : Past) : Type 0 where
+  pub is_past : IsPast first entries past
+  pub sound : IsSound past.tree
+  pub cores : length past.tree.made ≡ length first.made
