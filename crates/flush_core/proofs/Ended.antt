@@ -57,8 +57,13 @@ module _ (old : KeptState) (commit : ℕ) (running : old.crashed ≡ false) (goi
       no_flush e = cc
   takes_durable flush (Some flight) is mapped opened raise raised new flights left same = record {
     free = none_holds (ap is_some is) opened;
-    moves = (flight, machine_of (raised_to old raise), is, record { raised = subst (λ (f : Flush). AreRaised old.first old.entries every_entry old.cut (inodes_of old.first old.inodes) (f ∷ []) raise.cut (has_node raise.inodes)) (same_flush (sym mapped)) one_raise; others = refl },
-      ap machine_of same ∙ ap (λ l. record (machine_of (raised_to old raise)) { flights = l }) left);
+    moves = (
+      flight,
+      machine_of (raised_to old raise),
+      is,
+      record { raised = subst (λ (f : Flush). AreRaised old.first old.entries every_entry old.cut (inodes_of old.first old.inodes) (f ∷ []) raise.cut (has_node raise.inodes)) (same_flush (sym mapped)) one_raise; others = refl },
+      ap machine_of same ∙ ap (λ l. record (machine_of (raised_to old raise)) { flights = l }) left,
+    );
   }
     where
       same_flush : Some flush ≡ Some flight.flush → flush ≡ flight.flush

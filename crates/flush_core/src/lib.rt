@@ -21,6 +21,6 @@ pub use laws::{
     closed_cuts_are_sound, commits_are_tied, directories_are_cut, files_are_cut, flights_stay,
     fsyncs_cover, fsyncs_keep, lists_cover, lists_keep, runs_keep,
 };
-pub use state::State;
 pub use rules::Rule;
+pub use state::State;
 pub use story::Story;

@@ -8,6 +8,7 @@ use crate::event::{Event, Refused};
 use crate::flight::InFlight;
 use crate::past::Past;
 use crate::sets::NodeSet;
+use sfs_base::NodeId;
 use sfs_tree::{Entry, Tree};
 use std::alloc::Global;
 use std::marker::Model;
@@ -77,6 +78,23 @@ impl State {
             used: Vec::new(alloc),
             failed: None,
             crashed: false,
+        }
+    }
+
+    /// The cut that its commits have raised.
+    pub fn cut(&self) -> &Cut
+        ensures { result.now ≡ (machine_of self.now).cut }
+    {
+        &self.cut
+    }
+
+    /// Whether a node has an inode.
+    pub fn has_inode(&self, node: NodeId) -> bool
+        ensures { result ≡ (machine_of self.now).inodes node.0 }
+    {
+        match &self.inodes {
+            Some(inodes) => inodes.has(node.0),
+            None => self.first.kind(node).is_some(),
         }
     }
 

@@ -15,9 +15,11 @@ add-requires-clause-sound c =
     past_sound c.args.self.now (subst (λ (s : KeptState). IsSound s.first) c.self.view_is c.self.invariant.sound) (subst (λ (s : KeptState). IsLegal s.first s.entries) c.self.view_is c.self.invariant.legal) c.in_ok-past.past c.in_ok-past.ensures.past
 
 pub returns-then-not-is_answer : goal.returns-then-not-is_answer
-returns-then-not-is_answer c =
-    (inr (not_legal c.args.self.now (subst (λ (s : KeptState). IsSound s.first) c.self.view_is c.self.invariant.sound) (subst (λ (s : KeptState). IsLegal s.first s.entries) c.self.view_is c.self.invariant.legal) c.in_ok-past.past c.in_ok-past.ensures.past
-      c.args.entry.now c.requires.running (search rules) c.requires.core c.flushes-is_flush.result c.flushes-is_flush.ensures c.in_ok-reply.reply c.in_ok-reply.ensures.reply (λ right. differ (sym c.if-not-is_answer.true ∙ c.is_answer.ensures.1 right))), c.take_past.ensures.same)
+returns-then-not-is_answer c = (
+  inr (not_legal c.args.self.now (subst (λ (s : KeptState). IsSound s.first) c.self.view_is c.self.invariant.sound) (subst (λ (s : KeptState). IsLegal s.first s.entries) c.self.view_is c.self.invariant.legal) c.in_ok-past.past c.in_ok-past.ensures.past
+      c.args.entry.now c.requires.running (search rules) c.requires.core c.flushes-is_flush.result c.flushes-is_flush.ensures c.in_ok-reply.reply c.in_ok-reply.ensures.reply (λ right. differ (sym c.if-not-is_answer.true ∙ c.is_answer.ensures.1 right))),
+  c.take_past.ensures.same,
+)
   where
     differ : false ≡ true → ⊥
     differ e = cc
@@ -25,9 +27,9 @@ returns-then-not-is_answer c =
 pub invariant_of-self-2 : goal.invariant_of-self-2
 invariant_of-self-2 c =
     subst (λ first. IsStanding first c.push.new.self.items (Some c.add.new.self)) (sym (ap (λ (s : KeptState). s.first) same)) (subst (λ items. IsStanding c.args.self.now.first items (Some c.add.new.self)) (sym items_are)
-      (stands_called c.args.self.now (subst (λ (s : KeptState). IsSound s.first) c.self.view_is c.self.invariant.sound) (subst (λ (s : KeptState). IsLegal s.first s.entries) c.self.view_is c.self.invariant.legal) c.in_ok-past.past c.in_ok-past.ensures.past
-      c.args.entry.now c.requires.running (search rules) c.requires.core c.flushes-is_flush.result c.flushes-is_flush.ensures c.in_ok-reply.reply c.in_ok-reply.ensures.reply (c.is_answer.ensures.0 c.if-not-is_answer.false)
-        (subst (λ (s : KeptState). AreReadable s.entries) c.self.view_is c.self.invariant.readable) c.requires.readable c.add.new.self c.in_ok-reply.ensures.grows))
+    (stands_called c.args.self.now (subst (λ (s : KeptState). IsSound s.first) c.self.view_is c.self.invariant.sound) (subst (λ (s : KeptState). IsLegal s.first s.entries) c.self.view_is c.self.invariant.legal) c.in_ok-past.past c.in_ok-past.ensures.past
+    c.args.entry.now c.requires.running (search rules) c.requires.core c.flushes-is_flush.result c.flushes-is_flush.ensures c.in_ok-reply.reply c.in_ok-reply.ensures.reply (c.is_answer.ensures.0 c.if-not-is_answer.false)
+    (subst (λ (s : KeptState). AreReadable s.entries) c.self.view_is c.self.invariant.readable) c.requires.readable c.add.new.self c.in_ok-reply.ensures.grows))
   where
     same : shown.the_view c.self-2.inside ≡ c.args.self.now
     same = c.self-2.view_is ∙ c.take_past.ensures.same
@@ -37,16 +39,16 @@ invariant_of-self-2 c =
 
 pub returns : goal.returns
 returns c = takes_call c.args.self.now (subst (λ (s : KeptState). IsSound s.first) c.self.view_is c.self.invariant.sound) (subst (λ (s : KeptState). IsLegal s.first s.entries) c.self.view_is c.self.invariant.legal) c.in_ok-past.past c.in_ok-past.ensures.past
-      c.args.entry.now c.requires.running (search rules) c.requires.core c.flushes-is_flush.result c.flushes-is_flush.ensures c.in_ok-reply.reply c.in_ok-reply.ensures.reply (c.is_answer.ensures.0 c.if-not-is_answer.false) _ (λ i. record {
-  first = (same i).first;
-  entries = items_are i;
-  cut = (same i).cut;
-  inodes = (same i).inodes;
-  flights = (same i).flights;
-  used = (same i).used;
-  failed = (same i).failed;
-  crashed = (same i).crashed;
-})
+    c.args.entry.now c.requires.running (search rules) c.requires.core c.flushes-is_flush.result c.flushes-is_flush.ensures c.in_ok-reply.reply c.in_ok-reply.ensures.reply (c.is_answer.ensures.0 c.if-not-is_answer.false) _ (λ i. record {
+      first = (same i).first;
+      entries = items_are i;
+      cut = (same i).cut;
+      inodes = (same i).inodes;
+      flights = (same i).flights;
+      used = (same i).used;
+      failed = (same i).failed;
+      crashed = (same i).crashed;
+    })
   where
     same : shown.the_view c.self-2.inside ≡ c.args.self.now
     same = c.self-2.view_is ∙ c.take_past.ensures.same
