@@ -20,35 +20,21 @@ use Rattle.flush_core.specs.Rules.{IsOneOf}
 use Rattle.flush_core.specs.Past.{IsPast}
 use Rattle.flush_core.specs.Grows.{Grows}
 use Rattle.flush_core.specs.Machine.{MachineState, Refuses, place_of, IsRefused, Takes}
-use Rattle.flush_core.specs.State.{KeptState, machine_of, IsPastOf, IsAnswered, IsStanding}
+use Rattle.flush_core.specs.State.{KeptState, machine_of, IsAnswered}
+use Rattle.flush_core.specs.Story.{IsReady}
 use Rattle.flush_core.proofs.Along.{in_either}
 use Rattle.flush_core.proofs.Grown.{grown_past}
 
-module _ (old : KeptState) (sound : IsSound old.first) (legal : IsLegal old.first old.entries) (past : Past) (is_past : IsPastOf old.first old.entries past) where
+module _ (old : KeptState) (past : Past) (ready : IsReady old.first old.entries past) where
   abbrev tree : TreeState
   tree = tree_after old.first old.entries
 
-  first_sound : IsSoundTree old.first
-  first_sound = record { sound = sound; numbered = is_past.numbered }
-
-  now_sound : IsSoundTree tree
-  now_sound = subst (λ (h : List Entry). IsSoundTree (tree_after old.first h)) (take_all (length old.entries) old.entries (le (length old.entries))) (histories_keep_sound old.first old.entries (length old.entries) first_sound legal)
-    where
-      le : (n : ℕ) → n ≤ n
-      le n = omega arith
-
-  pub past_sound : IsSound past.tree
-  past_sound = subst IsSound (sym is_past.past.tree) now_sound.sound
-
-  pub past_core : (core : ℕ) → core < length old.first.made → core < length past.tree.made
-  past_core core less = subst (λ n. core < n) (sym (ap (λ (t : TreeState). length t.made) is_past.past.tree ∙ cores_stay old.first old.entries)) less
-
   module _ (entry : Entry) (running : old.crashed ≡ false) (stamped : entry.stamp.0 ≡ length old.entries) (core : entry.core.0 < length old.first.made) (is_flush : Bool) (flushing : is_flush ≡ flushes past.tree entry.call) (reply : Reply) (due : reply ≡ (verdict past.tree entry.core.0 entry.call).reply) where
     due_now : reply ≡ (verdict tree entry.core.0 entry.call).reply
-    due_now = due ∙ ap (λ (t : TreeState). (verdict t entry.core.0 entry.call).reply) is_past.past.tree
+    due_now = due ∙ ap (λ (t : TreeState). (verdict t entry.core.0 entry.call).reply) ready.is_past.tree
 
     flushing_now : is_flush ≡ flushes tree entry.call
-    flushing_now = flushing ∙ ap (λ (t : TreeState). flushes t entry.call) is_past.past.tree
+    flushing_now = flushing ∙ ap (λ (t : TreeState). flushes t entry.call) ready.is_past.tree
 
     pub answered : MayCome tree (length old.entries) entry → IsAnswered is_flush reply entry
     answered may = record {
@@ -113,23 +99,3 @@ module _ (old : KeptState) (sound : IsSound old.first) (legal : IsLegal old.firs
       free = none_holds right;
       moves = (may_come right, ap machine_of is);
     }
-
-    pub stands_called : IsAnswered is_flush reply entry → ((e : Entry) → IsOneOf old.entries e → IsReadable e.call) → IsReadable entry.call → (new : Past) → Grows past entry new → IsStanding old.first (old.entries ++ entry ∷ []) (Some new)
-    stands_called right readable own new grows = record {
-      sound = sound;
-      legal = whole;
-      readable = λ e one. elim (in_either old.entries (entry ∷ []) e one) [
-        | inl before ↦ readable e before
-        | inr last ↦ elim last [ inl same ↦ subst (λ (x : Entry). IsReadable x.call) same own | inr none ↦ absurd none ]
-      ];
-      past = λ kept is. subst (IsPastOf old.first (old.entries ++ entry ∷ [])) (same_some is) (record {
-        past = grown_past old.first old.entries entry first_sound whole stamped (may_come right).core past new is_past.past grows;
-        numbered = is_past.numbered;
-      });
-    }
-      where
-        whole : IsLegal old.first (old.entries ++ entry ∷ [])
-        whole = IsLegal-push old.first old.entries entry legal (may_come right)
-
-        same_some : {a b : Past} → Some a ≡ Some b → a ≡ b
-        same_some e = cc

@@ -24,58 +24,53 @@ use Rattle.flush_core.specs.Cut.{Cut, cut_of, tree_at_cut}
 use Rattle.flush_core.specs.Grows.{Grows}
 use Rattle.flush_core.specs.Named.{kept_rows}
 use Rattle.flush_core.specs.Past.{IsPast}
-use Rattle.flush_core.specs.Story.{entry_of, Keeps, IsStanding, IsReady}
+use Rattle.flush_core.specs.Story.{StoryState, end_of, entry_of, IsStanding, IsReady}
 use Rattle.flush_core.specs.declared.past.OwnChange.{OwnChange}
 use Rattle.flush_core.proofs.Along.{in_either}
 use Rattle.flush_core.proofs.CutRows.{directories_are_cut}
 use Rattle.flush_core.proofs.Grown.{grown_past}
+use Rattle.flush_core.proofs.Legal.{comes_at}
 use Rattle.flush_core.proofs.Listed.{take_whole}
 use Rattle.flush_core.proofs.Own.{both}
 use Rattle.flush_core.proofs.Prefix.{legal_take}
 
--- a call can be added to the past of legal calls
-pub is_ready : (first : TreeState) (entries : List Entry) (past : Past) → IsSoundTree first → IsLegal first entries → IsPast first entries past → IsReady first entries past
-is_ready first entries past sound legal is = record {
-  is_past = is;
-  sound = subst IsSound (sym (is.tree ∙ ap (tree_after first) (sym (take_whole (length entries) entries (omega arith))))) (histories_keep_sound first entries (length entries) sound legal).sound;
-  cores = ap (λ (t : TreeState). length t.made) is.tree ∙ cores_stay first entries;
-}
+-- the tree of a past that is ready is sound, and has the first tree's cores
+module _ (first : TreeState) (entries : List Entry) (past : Past) (ready : IsReady first entries past) where
+  pub now_sound : IsSoundTree (tree_after first entries)
+  now_sound = subst (λ (h : List Entry). IsSoundTree (tree_after first h)) (take_whole (length entries) entries (omega arith)) (histories_keep_sound first entries (length entries) ready.sound ready.legal)
 
--- what is kept as the past of a story
-pub kept_ready : (first : TreeState) (entries : List Entry) (kept : Option Past) (past : Past) → IsStanding first entries kept → kept ≡ Some past → IsReady first entries past
-kept_ready first entries kept past stands is =
-    is_ready first entries past stands.sound stands.legal (subst (Keeps first entries) is stands.keeps)
+  pub past_sound : IsSound past.tree
+  past_sound = subst IsSound (sym ready.is_past.tree) now_sound.sound
 
--- each entry of a legal history may come where it stands
-legal_at : (first : TreeState) (stamp : ℕ) (history : List Entry) (i : ℕ) (d : Entry) → IsLegalFrom first stamp history → i < length history → MayCome (tree_after first (take i history)) (stamp + i) (get_or history i d)
-legal_at first stamp [] i d legal lt = absurd (omega arith)
-legal_at first stamp (entry ∷ history) zero d legal lt = subst (λ (n : ℕ). MayCome first n entry) (none_on stamp) legal.0
-  where
-    none_on : (n : ℕ) → n ≡ n + 0
-    none_on n = omega arith
-legal_at first stamp (entry ∷ history) (suc i) d legal lt =
-    subst (λ (n : ℕ). MayCome (tree_after first (take (suc i) (entry ∷ history))) n (get_or history i d)) (one_on stamp i) (legal_at (tree_after_entry first entry) (suc stamp) history i d legal.1 (omega arith))
-  where
-    one_on : (n m : ℕ) → suc n + m ≡ n + suc m
-    one_on n m = omega arith
+  pub past_core : (core : ℕ) → core < length first.made → core < length past.tree.made
+  past_core core less = subst (λ n. core < n) (sym (ap (λ (t : TreeState). length t.made) ready.is_past.tree ∙ cores_stay first entries)) less
+
+  -- with an entry that may come it is that of one call more
+  pub joined_ready : (entry : Entry) → MayCome (tree_after first entries) (length entries) entry → (new : Past) → Grows past entry new → IsReady first (entries ++ entry ∷ []) new
+  joined_ready entry may new grows = record {
+    is_past = grown_past first entries entry ready.sound whole may.stamped may.core past new ready.is_past grows;
+    sound = ready.sound;
+    legal = whole;
+  }
+    where
+      whole : IsLegal first (entries ++ entry ∷ [])
+      whole = IsLegal-push first entries entry ready.legal may
 
 -- the past of the first of the calls goes on by the next
-module _ (first : TreeState) (entries : List Entry) (i : ℕ) (d entry : Entry) (sound : IsSoundTree first) (legal : IsLegal first entries) (lt : i < length entries) (is : entry ≡ get_or entries i d) where
-  next_may : MayCome (tree_after first (take i entries)) (0 + i) entry
-  next_may = subst (MayCome (tree_after first (take i entries)) (0 + i)) (sym is) (legal_at first 0 entries i d legal lt)
+module _ (first : TreeState) (entries : List Entry) (i : ℕ) (entry d : Entry) (legal : IsLegal first entries) (less : i < length entries) (is : entry ≡ get_or entries i d) where
+  next_may : MayCome (tree_after first (take i entries)) i entry
+  next_may = comes_at first entries i entry d legal less is
 
-  pub next_core : (past : Past) → IsReady first (take i entries) past → entry.core.0 < length past.tree.made
-  next_core past ready = subst (λ (t : TreeState). entry.core.0 < length t.made) (sym ready.is_past.tree) next_may.core
+  there : length (take i entries) ≡ i
+  there = length-take-le i entries (omega arith)
 
   pub next_ready : (old new : Past) → IsReady first (take i entries) old → Grows old entry new → IsReady first (take (i + 1) entries) new
   next_ready old new ready grows =
-      is_ready first (take (i + 1) entries) new sound (legal_take first entries (i + 1) legal) (subst (λ (l : List Entry). IsPast first l new) (sym more) (grown_past first (take i entries) entry sound (subst (IsLegal first) more (legal_take first entries (i + 1) legal)) stamped next_may.core old new ready.is_past grows))
-    where
-      more : take (i + 1) entries ≡ take i entries ++ entry ∷ []
-      more = take_more entries i d lt ∙ ap (λ (x : Entry). take i entries ++ x ∷ []) (sym is)
+      subst (λ (l : List Entry). IsReady first l new) (sym (take_more entries i d less ∙ ap (λ (x : Entry). take i entries ++ x ∷ []) (sym is)))
+      (joined_ready first (take i entries) old ready entry (subst (λ s. MayCome (tree_after first (take i entries)) s entry) (sym there) next_may) new grows)
 
-      stamped : entry.stamp.0 ≡ length (take i entries)
-      stamped = let e = next_may.stamped in let n = length-take-le i entries (omega arith) in omega arith
+  pub next_core : (past : Past) → IsReady first (take i entries) past → entry.core.0 < length past.tree.made
+  next_core past ready = subst (λ (t : TreeState). entry.core.0 < length t.made) (sym ready.is_past.tree) next_may.core
 
 -- an fsync of a live node is answered Ok
 flush_ok : (tree : TreeState) (core : ℕ) (c : Call) → flushes tree c ≡ true → (verdict tree core c).reply ≡ reply.Ok
@@ -113,29 +108,26 @@ may_come tree stamp core c within = record {
     known true e = subst (λ (r : Reply). IsSome {T = ℕ} (Some 0) ↔ IsTrue (true && is_ok_reply r)) (sym (flush_ok tree core.0 c e)) (λ _. refl, λ _. refl)
     known false e = (λ some. some, λ is. is)
 
--- the next call of a story joins what it keeps
-pub still_standing : (first : TreeState) (entries : List Entry) (kept : Option Past) (core : CoreId) (c : Call) (old new : Past) (entry : Entry) → IsStanding first entries kept → core.0 < length first.made → IsReadable c → IsPast first entries old
-    → entry ≡ entry_of old.tree (length entries) core c → Grows old (entry_of old.tree (length entries) core c) new → IsStanding first (entries ++ entry ∷ []) (Some new)
-still_standing first entries kept core c old new entry stands within readable is entry_is grows = record {
+-- so may the next call of a story
+pub called : (story : StoryState) (past : Past) → IsReady story.first story.history past → (core : CoreId) (c : Call) → core.0 < length story.first.made → (entry : Entry) → entry ≡ entry_of past.tree (length story.history) core c → MayCome (end_of story) (length story.history) entry
+called story past ready core c within entry is =
+    subst (MayCome (end_of story) (length story.history)) (sym (is ∙ ap (λ (t : TreeState). entry_of t (length story.history) core c) ready.is_past.tree))
+      (may_come (end_of story) (length story.history) core c (subst (λ (n : ℕ). core.0 < n) (sym (cores_stay story.first story.history)) within))
+
+-- an entry that may come joins what a story keeps
+pub still_standing : (first : TreeState) (entries : List Entry) (kept : Option Past) (entry : Entry) (new : Past) → IsStanding first entries kept → IsReadable entry.call → IsReady first (entries ++ entry ∷ []) new → IsStanding first (entries ++ entry ∷ []) (Some new)
+still_standing first entries kept entry new stands own ready = record {
   sound = stands.sound;
-  legal = legal;
+  legal = ready.legal;
   readable = λ other one. elim (in_either entries (entry ∷ []) other one) [
     | inl was ↦ stands.readable other was
-    | inr next ↦ elim next [ inl e ↦ subst (λ (x : Entry). IsReadable x.call) (sym entry_is ∙ e) readable | inr none ↦ absurd none ]
+    | inr next ↦ elim next [ inl e ↦ subst (λ (x : Entry). IsReadable x.call) e own | inr none ↦ absurd none ]
   ];
-  keeps = grown_past first entries entry stands.sound legal (ap (λ (x : Entry). x.stamp.0) entry_is) there old new is (subst (λ (x : Entry). Grows old x new) (sym entry_is) grows);
+  ready = λ past is. subst (IsReady first (entries ++ entry ∷ [])) (same_some is) ready;
 }
   where
-    cores : length (tree_after first entries).made ≡ length first.made
-    cores = cores_stay first entries
-
-    there : entry.core.0 < length (tree_after first entries).made
-    there = subst (λ (x : Entry). x.core.0 < length (tree_after first entries).made) (sym entry_is) (subst (λ (n : ℕ). core.0 < n) (sym cores) within)
-
-    legal : IsLegal first (entries ++ entry ∷ [])
-    legal =
-        IsLegal-push first entries entry stands.legal
-        (subst (MayCome (tree_after first entries) (length entries)) (ap (λ (t : TreeState). entry_of t (length entries) core c) (sym is.tree) ∙ sym entry_is) (may_come (tree_after first entries) (length entries) core c (subst (λ (n : ℕ). core.0 < n) (sym cores) within)))
+    same_some : {a b : Past} → Some a ≡ Some b → a ≡ b
+    same_some e = cc
 
 -- the rows of a directory by the changes that are kept are those of the tree at a cut
 pub kept_rows_cut : (first : TreeState) (history : List Entry) (past : Past) (changes : List OwnChange) (cut : Cut) (directory : ℕ) → IsPast first history past → changes ≡ past.changes.items → kept_rows first changes directory (cut_of cut directory) ≡ names_of directory (tree_at_cut first history cut).rows

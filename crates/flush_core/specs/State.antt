@@ -32,22 +32,6 @@ abbrev pub inodes_of : TreeState → Option NodeSet → ℕ → Bool
 inodes_of first None = nodes_in first
 inodes_of first (Some inodes) = has_node inodes
 
--- calls of which none reads too much
-abbrev pub AreReadable : List Entry → Type 0
-AreReadable entries = (entry : Entry) → IsOneOf entries entry → IsReadable entry.call
-
--- The past of some calls, over a first tree whose nodes have numbers that were given.
-pub record IsPastOf (first : TreeState) (entries : List Entry) (kept : Past) : Type 0 where
-  pub past : IsPast first entries kept
-  pub numbered : IsNumbered first
-
--- What is kept is right: the first tree is sound, the calls are legal, and what they changed is theirs, where it is kept.
-pub record IsStanding (first : TreeState) (entries : List Entry) (kept : Option Past) : Type 0 where
-  pub sound : IsSound first
-  pub legal : IsLegal first entries
-  pub readable : AreReadable entries
-  pub past : (past : Past) → kept ≡ Some past → IsPastOf first entries past
-
 -- An entry's reply is one that may come where this one is due, and it has a moment of acknowledgement exactly where it is an fsync
 -- of a live node that is answered Ok.
 pub record IsAnswered (is_flush : Bool) (due : Reply) (entry : Entry) : Type 0 where

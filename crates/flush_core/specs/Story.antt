@@ -49,31 +49,27 @@ entry_of tree stamp core call = record {
 abbrev pub next_entry : StoryState → CoreId → Call → Entry
 next_entry story core call = entry_of (end_of story) (length story.history) core call
 
+-- a story with an entry more
+abbrev pub with_entry : StoryState → Entry → StoryState
+with_entry story entry = record { first = story.first; history = story.history ++ entry ∷ [] }
+
 -- a story with a call more
 abbrev pub with_call : StoryState → CoreId → Call → StoryState
-with_call story core call = record {
-  first = story.first;
-  history = story.history ++ next_entry story core call ∷ [];
-}
+with_call story core call = with_entry story (next_entry story core call)
 
 -- Each read asks for no more than it may.
 abbrev pub AreReadable : List Entry → Type 0
 AreReadable entries = (entry : Entry) → IsOneOf entries entry → IsReadable entry.call
 
--- What is kept as the past of some calls is their past.
-abbrev pub Keeps : TreeState → List Entry → Option Past → Type 0
-Keeps first entries None = Unit {0}
-Keeps first entries (Some past) = IsPast first entries past
-
--- A story as it is kept: the first tree is sound, the calls are legal, and their past is kept or missing.
-pub record IsStanding (first : TreeState) (entries : List Entry) (kept : Option Past) : Type 0 where
-  pub sound : IsSoundTree first
-  pub legal : IsLegal first entries
-  pub readable : AreReadable entries
-  pub keeps : Keeps first entries kept
-
--- A past of some calls to which a call can be added: its tree is sound and has the first tree's cores.
+-- A past of some legal calls to which a call can be added: the first tree is sound, and its nodes have numbers that were given.
 pub record IsReady (first : TreeState) (entries : List Entry) (past : Past) : Type 0 where
   pub is_past : IsPast first entries past
-  pub sound : IsSound past.tree
-  pub cores : length past.tree.made ≡ length first.made
+  pub sound : IsSoundTree first
+  pub legal : IsLegal first entries
+
+-- A story as it is kept: the first tree is sound, the calls are legal, and what is kept as their past is ready.
+pub record IsStanding (first : TreeState) (entries : List Entry) (kept : Option Past) : Type 0 where
+  pub sound : IsSound first
+  pub legal : IsLegal first entries
+  pub readable : AreReadable entries
+  pub ready : (past : Past) → kept ≡ Some past → IsReady first entries past

@@ -1,15 +1,14 @@
-// The machine of calls and commits. What its calls have changed is kept beside them in `past`; where it is missing it is made anew,
-// so an event that is refused may lose it and leaves the state as it was.
+// The machine of calls and commits. An event that is refused may lose the past that its story keeps, and leaves the state as it was.
 ghost use Rattle.std.specs.Prelude.{◌≡◌, ◌⊎◌, OnOk, OnErr, IfErr};
 ghost use Rattle.sfs_tree.specs.Sound.{IsSound};
 
 use crate::cut::Cut;
 use crate::event::{Event, Refused};
 use crate::flight::InFlight;
-use crate::past::Past;
 use crate::sets::NodeSet;
+use crate::story::Story;
 use sfs_base::NodeId;
-use sfs_tree::{Entry, Tree};
+use sfs_tree::Tree;
 use std::alloc::Global;
 use std::marker::Model;
 
@@ -21,9 +20,7 @@ mod commits;
 #[derive(Debug, Drop)]
 pub struct State {
     alloc: Global,
-    first: Tree,
-    past: Option<Past>,
-    entries: Vec<Entry>,
+    story: Story,
     cut: Cut,
     // None stands for the first tree's nodes.
     inodes: Option<NodeSet>,
@@ -37,15 +34,15 @@ impl Model for State {
     ghost use Rattle.std.specs.Coded.{codes};
     ghost use Rattle.sfs_tree.specs.Tree.{tree_code};
     ghost use Rattle.flush_core.specs.Stamps.{cut_code};
-    ghost use Rattle.flush_core.specs.State.{KeptState, IsStanding};
+    ghost use Rattle.flush_core.specs.State.{KeptState};
 
     ghost Value = { KeptState };
 
     ghost coded = { Prim.hlevel (codes, tree_code, cut_code) };
 
     ghost view = { λ s. record {
-      first = s.first;
-      entries = s.entries.items;
+      first = s.story.first;
+      entries = s.story.history;
       cut = s.cut;
       inodes = s.inodes;
       flights = s.flights.items;
@@ -53,8 +50,6 @@ impl Model for State {
       failed = s.failed;
       crashed = s.crashed;
     } };
-
-    ghost invariant = { λ s. IsStanding s.first s.entries.items s.past };
 }
 
 impl State {
@@ -69,9 +64,7 @@ impl State {
     {
         State {
             alloc,
-            first,
-            past: None,
-            entries: Vec::new(alloc),
+            story: Story::new(alloc, first),
             cut: Cut::new(alloc),
             inodes: None,
             flights: Vec::new(alloc),
@@ -94,7 +87,7 @@ impl State {
     {
         match &self.inodes {
             Some(inodes) => inodes.has(node.0),
-            None => self.first.kind(node).is_some(),
+            None => self.story.first().kind(node).is_some(),
         }
     }
 

@@ -4,7 +4,6 @@ ghost use Rattle.std.specs.Prelude.{◌≡◌, ◌<◌, ℕ, List, length, IfOk,
 ghost use Rattle.sfs_base.specs.declared.numbers.CoreId.{CoreId};
 ghost use Rattle.sfs_tree.specs.declared.history.Entry.{Entry};
 ghost use Rattle.sfs_tree.specs.History.{IsLegal, flushes};
-ghost use Rattle.sfs_tree.specs.Laws.{IsSoundTree};
 ghost use Rattle.sfs_tree.specs.Sound.{IsSound};
 ghost use Rattle.sfs_tree.specs.Step.{IsReadable};
 ghost use Rattle.sfs_tree.specs.Tree.{names_of};
@@ -28,6 +27,7 @@ pub struct Story {
     alloc: Global,
     first: Tree,
     entries: Vec<Entry>,
+    // None where it has to be made anew.
     past: Option<Past>,
 }
 
@@ -48,24 +48,19 @@ impl Model for Story {
 impl Story {
     ghost use Rattle.sfs_tree.specs.Verdict.{verdict};
     ghost use Rattle.flush_core.specs.Broken.{FindsBroken};
-    ghost use Rattle.flush_core.specs.Story.{story_of, end_of, with_call, IsReady};
+    ghost use Rattle.flush_core.specs.Story.{story_of, end_of, with_call};
 
-    /// The story without calls, from a sound tree. It copies the tree.
-    pub fn new(alloc: Global, first: Tree) -> Result<Story, NoMemory>
+    /// The story without calls, from a sound tree. It takes no memory.
+    pub fn new(alloc: Global, first: Tree) -> Story
         requires { IsSound first }
-        ensures { IfOk result (λ story. story ≡ story_of first) }
+        ensures { result ≡ story_of first }
     {
-        let tree = first.copy()?;
-        Ok(Story {
+        Story {
             alloc,
             first,
             entries: Vec::new(alloc),
-            past: Some(Past {
-                tree,
-                changes: Vec::new(alloc),
-                births: Vec::new(alloc),
-            }),
-        })
+            past: None,
+        }
     }
 
     /// Makes a core's call as the next one, and gives its reply, which is that of the table; an fsync of
@@ -79,26 +74,14 @@ impl Story {
         ensures err { OnErr result (self.new ≡ self.old) }
     {
         let mut past = self.take_past()?;
-        let entry = joined(self.alloc, &mut past, self.entries.len() as u64, core, call)?;
+        let entry = joined(self.alloc, &mut past, self.len(), core, call)?;
         let reply = entry.reply.copy()?;
-        self.entries.push(entry)?;
-        self.past = Some(past);
+        self.join(entry, past)?;
         Ok(reply)
     }
 
-    // The past of the calls, which is not kept any more.
-    fn take_past(&mut self) -> Result<Past, NoMemory>
-        ensures past { IfOk result (λ past. IsReady self.old.first self.old.history past) }
-        ensures same { self.new ≡ self.old }
-    {
-        match self.past.take() {
-            Some(past) => Ok(past),
-            None => replayed(self.alloc, &self.first, &self.entries),
-        }
-    }
-
     /// The rows of a directory in the tree at a cut. It takes time in proportion to the number of
-    /// changes, and where the last call was refused memory, it makes all calls anew.
+    /// changes, and makes all calls anew where their past is not kept.
     pub fn rows_at(&self, cut: &Cut, directory: NodeId) -> Result<NameMap, NoMemory>
         ensures { IfOk result (λ names. names ≡ names_of directory.0 (tree_at_cut self.now.first self.now.history cut.now).rows) }
     {
@@ -112,8 +95,8 @@ impl Story {
     }
 
     /// The first rule that a cut breaks, or None where it is closed. It takes time in proportion to the
-    /// square of the number of changes, times that of the directories above one; and where the last
-    /// call was refused memory, it makes all calls anew.
+    /// square of the number of changes, times that of the directories above one, and makes all calls
+    /// anew where their past is not kept.
     pub fn broken_rule(&self, cut: &Cut) -> Result<Option<Rule>, NoMemory>
         ensures { IfOk result (λ broken. FindsBroken self.now.first self.now.history cut.now broken) }
     {
@@ -127,11 +110,62 @@ impl Story {
     }
 }
 
+impl Story {
+    ghost use Rattle.sfs_tree.specs.History.{MayCome};
+    ghost use Rattle.flush_core.specs.Story.{end_of, with_entry, IsReady};
+
+    // How many calls there are.
+    pub(crate) fn len(&self) -> u64
+        ensures { result ≡ length self.now.history }
+    {
+        self.entries.len() as u64
+    }
+
+    // The first tree.
+    pub(crate) fn first(&self) -> &Tree
+        ensures { result.now ≡ self.now.first }
+    {
+        &self.first
+    }
+
+    // The past of the calls, which is not kept any more.
+    pub(crate) fn take_past(&mut self) -> Result<Past, NoMemory>
+        ensures past { IfOk result (λ past. IsReady self.old.first self.old.history past) }
+        ensures same { self.new ≡ self.old }
+    {
+        match self.past.take() {
+            Some(past) => Ok(past),
+            None => replayed(self.alloc, &self.first, &self.entries),
+        }
+    }
+
+    // Keeps the past of the calls again.
+    pub(crate) fn keep_past(&mut self, past: Past)
+        requires { IsReady self.old.first self.old.history past }
+        ensures { self.new ≡ self.old }
+    {
+        self.past = Some(past);
+    }
+
+    // Puts an entry behind the others, with the past that it makes.
+    pub(crate) fn join(&mut self, entry: Entry, past: Past) -> Result<(), NoMemory>
+        requires may { MayCome (end_of self.old) (length self.old.history) entry }
+        requires readable { IsReadable entry.call }
+        requires past { IsReady self.old.first (with_entry self.old entry).history past }
+        ensures ok { OnOk result (self.new ≡ with_entry self.old entry) }
+        ensures err { OnErr result (self.new ≡ self.old) }
+    {
+        self.entries.push(entry)?;
+        self.past = Some(past);
+        Ok(())
+    }
+}
+
 ghost use Rattle.flush_core.specs.Story.{ack_of, entry_of, AreReadable, IsReady};
 
 // The past of some calls, made anew.
 fn replayed(alloc: Global, first: &Tree, entries: &[Entry]) -> Result<Past, NoMemory>
-    requires sound { IsSoundTree first.now }
+    requires sound { IsSound first.now }
     requires legal { IsLegal first.now entries.now }
     requires readable { AreReadable entries.now }
     ensures { IfOk result (λ past. IsReady first.now entries.now past) }
@@ -177,7 +211,7 @@ fn ack_of(tree: &Tree, call: &Call) -> Option<u64>
 }
 
 // Whether a call is an fsync of a live node.
-fn flushes(tree: &Tree, call: &Call) -> bool
+pub(crate) fn flushes(tree: &Tree, call: &Call) -> bool
     ensures { result ≡ flushes tree.now call.now }
 {
     match call {

@@ -1,19 +1,17 @@
 // A call joins the history where its answer is one that it may have.
 ghost use Rattle.std.specs.Prelude.{◌≡◌, ◌<◌, ◌↔◌, true, false, length, IfOk};
-ghost use Rattle.sfs_tree.specs.Sound.{IsSound};
 ghost use Rattle.sfs_tree.specs.Step.{IsReadable};
-ghost use Rattle.sfs_tree.specs.History.{IsLegal, flushes, IsFsyncReply, is_ok_reply};
+ghost use Rattle.sfs_tree.specs.History.{IsFsyncReply, is_ok_reply};
 ghost use Rattle.flush_core.specs.declared.event.Event.TheVariants as event;
 
 use super::State;
 use crate::event::Refused;
-use crate::past::Past;
+use crate::story::flushes;
 use sfs_base::{NoMemory, Stamp};
-use sfs_tree::{Call, Entry, Reply, Tree};
-use std::alloc::Global;
+use sfs_tree::{Entry, Reply};
 
 impl State {
-    ghost use Rattle.flush_core.specs.State.{Answers, IsPastOf};
+    ghost use Rattle.flush_core.specs.State.{Answers};
 
     // Adds a call.
     pub(super) fn call(&mut self, entry: &Entry) -> Result<(), Refused>
@@ -22,48 +20,22 @@ impl State {
         requires readable { IsReadable entry.now.call }
         ensures { Answers self.old (event.Call entry.now) result self.new }
     {
-        let count = self.entries.len() as u64;
+        let count = self.story.len();
         if entry.stamp.0 != count {
             return Err(Refused::NotNext { want: Stamp(count) });
         }
-        let mut past = self.take_past()?;
+        let mut past = self.story.take_past()?;
         let is_flush = flushes(&past.tree, &entry.call);
         let reply = past.add(self.alloc, entry)?;
         if !is_answer(is_flush, &reply, entry) {
             return Err(Refused::NotLegal { reply });
         }
-        self.entries.push(copy_of(entry)?)?;
-        self.past = Some(past);
+        self.story.join(copy_of(entry)?, past)?;
         Ok(())
     }
-
-    // The past of the calls so far, which is not kept any more.
-    pub(super) fn take_past(&mut self) -> Result<Past, NoMemory>
-        ensures past { IfOk result (λ past. IsPastOf self.old.first self.old.entries past) }
-        ensures same { self.new ≡ self.old }
-    {
-        match self.past.take() {
-            Some(past) => Ok(past),
-            None => replayed(self.alloc, &self.first, &self.entries),
-        }
-    }
 }
 
-ghost use Rattle.flush_core.specs.State.{AreReadable, IsPastOf, IsAnswered};
-
-// The past of some calls, made anew.
-fn replayed(alloc: Global, first: &Tree, entries: &[Entry]) -> Result<Past, NoMemory>
-    requires sound { IsSound first.now }
-    requires legal { IsLegal first.now entries.now }
-    requires readable { AreReadable entries.now }
-    ensures { IfOk result (λ past. IsPastOf first.now entries.now past) }
-{
-    let mut past = Past::new(alloc, first)?;
-    for entry in entries {
-        past.add(alloc, entry)?;
-    }
-    Ok(past)
-}
+ghost use Rattle.flush_core.specs.State.{IsAnswered};
 
 // An equal entry.
 fn copy_of(entry: &Entry) -> Result<Entry, NoMemory>
@@ -76,16 +48,6 @@ fn copy_of(entry: &Entry) -> Result<Entry, NoMemory>
         reply: entry.reply.copy()?,
         ack: entry.ack,
     })
-}
-
-// Whether a call is an fsync of a live node.
-fn flushes(tree: &Tree, call: &Call) -> bool
-    ensures { result ≡ flushes tree.now call.now }
-{
-    match call {
-        Call::Fsync { node } => tree.is_alive(*node),
-        _ => false,
-    }
 }
 
 // Whether an entry's answer and moment of acknowledgement are such as it may have, where this reply

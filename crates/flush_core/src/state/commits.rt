@@ -41,7 +41,7 @@ impl State {
         if let Some(met) = least_taken(self.alloc, &self.flights, &flight.concerned)? {
             return Err(Refused::Meets { node: NodeId(met) });
         }
-        if (self.entries.len() as u64) < stamp.0 {
+        if self.story.len() < stamp.0 {
             return Err(Refused::Late { stamp });
         }
         self.used.reserve(1)?;
@@ -56,10 +56,10 @@ impl State {
         ensures begins { IfOk result (λ flight. Begins (machine_of self.old) commit (record { node = node.0; stamp = stamp.0 }) (flight_as flight)) }
         ensures same { self.new ≡ self.old }
     {
-        let past = self.take_past()?;
+        let past = self.story.take_past()?;
         let inodes = self.inodes_now()?;
         let flight = new_flight(self.alloc, &past, &self.cut, &inodes, commit, node, stamp)?;
-        self.past = Some(past);
+        self.story.keep_past(past);
         Ok(flight)
     }
 
@@ -69,7 +69,7 @@ impl State {
     {
         match &self.inodes {
             Some(inodes) => inodes.copy(),
-            None => nodes_of(self.alloc, &self.first),
+            None => nodes_of(self.alloc, self.story.first()),
         }
     }
 
@@ -117,18 +117,18 @@ impl State {
         ensures raised { IfOk result (λ raise. IsRaisedTo self.old (record { node = node.0; stamp = stamp.0 }) raise) }
         ensures same { self.new ≡ self.old }
     {
-        let past = self.take_past()?;
+        let past = self.story.take_past()?;
         let inodes = self.inodes_now()?;
         let raise = commit(
             self.alloc,
-            &self.first,
+            self.story.first(),
             &past,
             &self.cut,
             &inodes,
             node.0,
             stamp.0,
         )?;
-        self.past = Some(past);
+        self.story.keep_past(past);
         Ok(raise)
     }
 
@@ -171,13 +171,20 @@ impl State {
             (kept_flushes (map flight_as self.old.flights) kept.now) raise.cut (has_node raise.inodes)) }
         ensures same { self.new ≡ self.old }
     {
-        let past = self.take_past()?;
+        let past = self.story.take_past()?;
         let from = Raise {
             cut: self.cut.copy()?,
             inodes: self.inodes_now()?,
         };
-        let raise = raised_all(self.alloc, &self.first, &past, from, &self.flights, kept)?;
-        self.past = Some(past);
+        let raise = raised_all(
+            self.alloc,
+            self.story.first(),
+            &past,
+            from,
+            &self.flights,
+            kept,
+        )?;
+        self.story.keep_past(past);
         Ok(raise)
     }
 }

@@ -1,57 +1,50 @@
-use Rattle.std.proofs.Common.{rules, ◌≡◌, ◌++◌, ◌∷◌, [], length, true, false, Some, inr, refl, sym, ap, subst, ◌∙◌}
-use Rattle.sfs_tree.specs.Sound.{IsSound}
-use Rattle.sfs_tree.specs.History.{IsLegal}
-use Rattle.flush_core.specs.State.{KeptState, machine_of, AreReadable, IsPastOf, IsAnswered, IsStanding}
+use Rattle.std.proofs.Common.{rules, ◌≡◌, ◌<◌, ◌++◌, ◌∷◌, [], length, true, false, inr, refl, sym, ap, subst, ◌∙◌}
+use Rattle.sfs_tree.specs.declared.history.Entry.{Entry}
+use Rattle.sfs_tree.specs.History.{MayCome}
+use Rattle.flush_core.specs.declared.event.Event.TheVariants as event
+use Rattle.flush_core.specs.declared.event.Refused.TheVariants as refused
+use Rattle.flush_core.specs.Machine.{IsRefused, Takes}
+use Rattle.flush_core.specs.State.{KeptState, machine_of, IsAnswered}
+use Rattle.flush_core.specs.Story.{StoryState, end_of, with_entry, IsReady}
 use Rattle.flush_core.specs.contracts.state.State as shown
-use Rattle.flush_core.proofs.Called.{past_sound, past_core, not_legal, takes_call, stands_called}
+use Rattle.flush_core.proofs.Stories.{past_sound, past_core, joined_ready}
+use Rattle.flush_core.proofs.Called.{not_legal, may_come, takes_call}
 use Rattle.flush_core.proofs.state.State.call.Goals as goal
 
 pub add-requires-clause-core : goal.add-requires-clause-core
-add-requires-clause-core c =
-    past_core c.args.self.now (subst (λ (s : KeptState). IsSound s.first) c.self.view_is c.self.invariant.sound) (subst (λ (s : KeptState). IsLegal s.first s.entries) c.self.view_is c.self.invariant.legal) c.in_ok-past.past c.in_ok-past.ensures.past c.args.entry.now.core.0 c.requires.core
+add-requires-clause-core c = past_core _ _ c.in_ok-past.past c.in_ok-past.ensures.past c.args.entry.now.core.0 (subst (λ (s : KeptState). c.args.entry.now.core.0 < length s.first.made) (sym c.self.view_is) c.requires.core)
 
 pub add-requires-clause-sound : goal.add-requires-clause-sound
-add-requires-clause-sound c =
-    past_sound c.args.self.now (subst (λ (s : KeptState). IsSound s.first) c.self.view_is c.self.invariant.sound) (subst (λ (s : KeptState). IsLegal s.first s.entries) c.self.view_is c.self.invariant.legal) c.in_ok-past.past c.in_ok-past.ensures.past
+add-requires-clause-sound c = past_sound _ _ c.in_ok-past.past c.in_ok-past.ensures.past
 
 pub returns-then-not-is_answer : goal.returns-then-not-is_answer
-returns-then-not-is_answer c = (
-  inr (not_legal c.args.self.now (subst (λ (s : KeptState). IsSound s.first) c.self.view_is c.self.invariant.sound) (subst (λ (s : KeptState). IsLegal s.first s.entries) c.self.view_is c.self.invariant.legal) c.in_ok-past.past c.in_ok-past.ensures.past
-      c.args.entry.now c.requires.running (search rules) c.requires.core c.flushes-is_flush.result c.flushes-is_flush.ensures c.in_ok-reply.reply c.in_ok-reply.ensures.reply (λ right. differ (sym c.if-not-is_answer.true ∙ c.is_answer.ensures.1 right))),
-  c.take_past.ensures.same,
-)
+returns-then-not-is_answer c =
+    (inr (subst (λ (s : KeptState). IsRefused (machine_of s) (event.Call c.args.entry.now) (refused.NotLegal c.in_ok-reply.reply)) c.self.view_is (not_legal (shown.the_view c.self.inside) c.in_ok-past.past c.in_ok-past.ensures.past
+      c.args.entry.now (ap (λ (s : KeptState). s.crashed) c.self.view_is ∙ c.requires.running) (search rules) (subst (λ (s : KeptState). c.args.entry.now.core.0 < length s.first.made) (sym c.self.view_is) c.requires.core) c.flushes-is_flush.result c.flushes-is_flush.ensures c.in_ok-reply.reply c.in_ok-reply.ensures.reply (λ right. differ (sym c.if-not-is_answer.true ∙ c.is_answer.ensures.1 right)))),
+      (λ i. record (shown.the_view c.self.inside) { first = (c.take_past.ensures.same i).first; entries = (c.take_past.ensures.same i).history }) ∙ c.self.view_is)
   where
     differ : false ≡ true → ⊥
     differ e = cc
 
-pub invariant_of-self-2 : goal.invariant_of-self-2
-invariant_of-self-2 c =
-    subst (λ first. IsStanding first c.push.new.self.items (Some c.add.new.self)) (sym (ap (λ (s : KeptState). s.first) same)) (subst (λ items. IsStanding c.args.self.now.first items (Some c.add.new.self)) (sym items_are)
-    (stands_called c.args.self.now (subst (λ (s : KeptState). IsSound s.first) c.self.view_is c.self.invariant.sound) (subst (λ (s : KeptState). IsLegal s.first s.entries) c.self.view_is c.self.invariant.legal) c.in_ok-past.past c.in_ok-past.ensures.past
-    c.args.entry.now c.requires.running (search rules) c.requires.core c.flushes-is_flush.result c.flushes-is_flush.ensures c.in_ok-reply.reply c.in_ok-reply.ensures.reply (c.is_answer.ensures.0 c.if-not-is_answer.false)
-    (subst (λ (s : KeptState). AreReadable s.entries) c.self.view_is c.self.invariant.readable) c.requires.readable c.add.new.self c.in_ok-reply.ensures.grows))
-  where
-    same : shown.the_view c.self-2.inside ≡ c.args.self.now
-    same = c.self-2.view_is ∙ c.take_past.ensures.same
+pub join-requires-clause-may : goal.join-requires-clause-may
+join-requires-clause-may c =
+    subst (λ (st : StoryState). MayCome (end_of st) (length st.history) c.in_ok-copy_of.field-0) (sym c.take_past.ensures.same)
+      (subst (λ (e : Entry). MayCome (end_of c.self.inside.story) (length c.self.inside.story.history) e) (sym c.in_ok-copy_of.ensures) (may_come (shown.the_view c.self.inside) c.in_ok-past.past c.in_ok-past.ensures.past
+      c.args.entry.now (ap (λ (s : KeptState). s.crashed) c.self.view_is ∙ c.requires.running) (search rules) (subst (λ (s : KeptState). c.args.entry.now.core.0 < length s.first.made) (sym c.self.view_is) c.requires.core) c.flushes-is_flush.result c.flushes-is_flush.ensures c.in_ok-reply.reply c.in_ok-reply.ensures.reply (c.is_answer.ensures.0 c.if-not-is_answer.false)))
 
-    items_are : c.push.new.self.items ≡ c.args.self.now.entries ++ c.args.entry.now ∷ []
-    items_are = c.in_ok-push.ensures.items ∙ ap (λ (s : KeptState). s.entries ++ c.in_ok-copy_of.field-0 ∷ []) same ∙ ap (λ e. c.args.self.now.entries ++ e ∷ []) c.in_ok-copy_of.ensures
+pub join-requires-clause-past : goal.join-requires-clause-past
+join-requires-clause-past c =
+    subst (λ (st : StoryState). IsReady st.first (with_entry st c.in_ok-copy_of.field-0).history c.add.new.self) (sym c.take_past.ensures.same)
+      (subst (λ (e : Entry). IsReady c.self.inside.story.first (c.self.inside.story.history ++ e ∷ []) c.add.new.self) (sym c.in_ok-copy_of.ensures)
+        (joined_ready c.self.inside.story.first c.self.inside.story.history c.in_ok-past.past c.in_ok-past.ensures.past c.args.entry.now (may_come (shown.the_view c.self.inside) c.in_ok-past.past c.in_ok-past.ensures.past
+      c.args.entry.now (ap (λ (s : KeptState). s.crashed) c.self.view_is ∙ c.requires.running) (search rules) (subst (λ (s : KeptState). c.args.entry.now.core.0 < length s.first.made) (sym c.self.view_is) c.requires.core) c.flushes-is_flush.result c.flushes-is_flush.ensures c.in_ok-reply.reply c.in_ok-reply.ensures.reply (c.is_answer.ensures.0 c.if-not-is_answer.false)) c.add.new.self c.in_ok-reply.ensures.grows))
 
 pub returns : goal.returns
-returns c = takes_call c.args.self.now (subst (λ (s : KeptState). IsSound s.first) c.self.view_is c.self.invariant.sound) (subst (λ (s : KeptState). IsLegal s.first s.entries) c.self.view_is c.self.invariant.legal) c.in_ok-past.past c.in_ok-past.ensures.past
-    c.args.entry.now c.requires.running (search rules) c.requires.core c.flushes-is_flush.result c.flushes-is_flush.ensures c.in_ok-reply.reply c.in_ok-reply.ensures.reply (c.is_answer.ensures.0 c.if-not-is_answer.false) _ (λ i. record {
-      first = (same i).first;
-      entries = items_are i;
-      cut = (same i).cut;
-      inodes = (same i).inodes;
-      flights = (same i).flights;
-      used = (same i).used;
-      failed = (same i).failed;
-      crashed = (same i).crashed;
-    })
+returns c = subst (λ (s : KeptState). Takes (machine_of s) (event.Call c.args.entry.now) (machine_of (record (shown.the_view c.self.inside) { first = c.join.new.self.first; entries = c.join.new.self.history }))) c.self.view_is (takes_call (shown.the_view c.self.inside) c.in_ok-past.past c.in_ok-past.ensures.past
+      c.args.entry.now (ap (λ (s : KeptState). s.crashed) c.self.view_is ∙ c.requires.running) (search rules) (subst (λ (s : KeptState). c.args.entry.now.core.0 < length s.first.made) (sym c.self.view_is) c.requires.core) c.flushes-is_flush.result c.flushes-is_flush.ensures c.in_ok-reply.reply c.in_ok-reply.ensures.reply (c.is_answer.ensures.0 c.if-not-is_answer.false) _ (λ i. record (shown.the_view c.self.inside) {
+        first = (joined i).first;
+        entries = (joined i).history;
+      }))
   where
-    same : shown.the_view c.self-2.inside ≡ c.args.self.now
-    same = c.self-2.view_is ∙ c.take_past.ensures.same
-
-    items_are : c.push.new.self.items ≡ c.args.self.now.entries ++ c.args.entry.now ∷ []
-    items_are = c.in_ok-push.ensures.items ∙ ap (λ (s : KeptState). s.entries ++ c.in_ok-copy_of.field-0 ∷ []) same ∙ ap (λ e. c.args.self.now.entries ++ e ∷ []) c.in_ok-copy_of.ensures
+    joined : c.join.new.self ≡ with_entry c.self.inside.story c.args.entry.now
+    joined = c.in_ok-join.ensures.ok ∙ ap (λ (st : StoryState). with_entry st c.in_ok-copy_of.field-0) c.take_past.ensures.same ∙ ap (with_entry c.self.inside.story) c.in_ok-copy_of.ensures

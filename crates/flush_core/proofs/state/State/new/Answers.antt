@@ -1,16 +1,14 @@
-use Rattle.std.proofs.Common.{◌≡◌, None, false, [], map, refl}
-use Rattle.flush_core.specs.Cut.{Cut}
-use Rattle.flush_core.specs.Machine.{MachineState, start_of}
+use Rattle.std.proofs.Common.{None, false, map}
 use Rattle.flush_core.specs.State.{nodes_in}
 use Rattle.flush_core.specs.Flights.{flight_as}
 use Rattle.flush_core.proofs.state.State.new.Goals as goal
 
 pub returns : goal.returns
 returns c = λ i. record {
-  first = c.args.first;
-  history = c.new.ensures.items i;
+  first = (c.new.ensures i).first;
+  history = (c.new.ensures i).history;
   cut = c.new-2.ensures.none i;
-  inodes = nodes_in c.args.first;
+  inodes = nodes_in (c.new.ensures i).first;
   flights = map flight_as (c.new-3.ensures.items i);
   used = c.new-4.ensures.items i;
   failed = None;

@@ -1,20 +1,21 @@
-use Rattle.std.proofs.Common.{◌≡◌, List, ◌<◌, ℕ, Some, length, sym, ap, subst, ◌∙◌, arith}
+use Rattle.std.proofs.Common.{◌≡◌, ◌<◌, length, sym, ap, subst, ◌∙◌}
 use Rattle.sfs_tree.specs.declared.history.Entry.{Entry}
 use Rattle.flush_core.specs.Grows.{Grows}
-use Rattle.flush_core.specs.Past.{IsPast}
-use Rattle.flush_core.specs.Story.{StoryState, entry_of, IsStanding}
-use Rattle.flush_core.proofs.Stories.{still_standing}
+use Rattle.flush_core.specs.Story.{StoryState, entry_of, IsReady}
+use Rattle.flush_core.proofs.Stories.{past_sound, past_core, joined_ready, called}
 use Rattle.flush_core.proofs.story.Story.add.Goals as goal
 
-pub invariant_of-self-2 : goal.invariant_of-self-2
-invariant_of-self-2 c =
-    let e = c.self.view_is ∙ c.take_past.ensures.same in
-    let inside = c.self.inside in
-    let count : c.len.result ≡ length inside.entries.items = omega (arith, c.len.ensures, inside.entries.ok.0) in
-    subst (λ (l : List Entry). IsStanding inside.first l (Some c.joined.new.past)) (sym c.in_ok-push.ensures.items)
-    (still_standing inside.first inside.entries.items inside.past c.args.core c.args.call.now c.in_ok-past.past c.joined.new.past c.in_ok-entry.entry c.self.invariant
-    (subst (λ (s : StoryState). c.args.core.0 < length s.first.made) (sym e) c.requires.core)
-    c.requires.readable
-    (subst (λ (s : StoryState). IsPast s.first s.history c.in_ok-past.past) (sym e) c.in_ok-past.ensures.past.is_past)
-    (c.in_ok-entry.ensures.entry ∙ ap (λ (n : ℕ). entry_of c.in_ok-past.past.tree n c.args.core c.args.call.now) count)
-    (subst (λ (n : ℕ). Grows c.in_ok-past.past (entry_of c.in_ok-past.past.tree n c.args.core c.args.call.now) c.joined.new.past) count c.in_ok-entry.ensures.grows))
+pub joined-requires-clause-core : goal.joined-requires-clause-core
+joined-requires-clause-core c = past_core _ _ c.in_ok-past.past c.in_ok-past.ensures.past c.args.core.0 c.requires.core
+
+pub joined-requires-clause-sound : goal.joined-requires-clause-sound
+joined-requires-clause-sound c = past_sound _ _ c.in_ok-past.past c.in_ok-past.ensures.past
+
+pub join-requires-clause-may : goal.join-requires-clause-may
+join-requires-clause-may c = called c.take_past.new.self c.in_ok-past.past (subst (λ (s : StoryState). IsReady s.first s.history c.in_ok-past.past) (sym c.take_past.ensures.same) c.in_ok-past.ensures.past) c.args.core c.args.call.now (subst (λ (s : StoryState). c.args.core.0 < length s.first.made) (sym c.take_past.ensures.same) c.requires.core) c.in_ok-entry.entry (c.in_ok-entry.ensures.entry ∙ ap (λ n. entry_of c.in_ok-past.past.tree n c.args.core c.args.call.now) c.len.ensures)
+
+pub join-requires-clause-past : goal.join-requires-clause-past
+join-requires-clause-past c =
+    joined_ready c.take_past.new.self.first c.take_past.new.self.history c.in_ok-past.past (subst (λ (s : StoryState). IsReady s.first s.history c.in_ok-past.past) (sym c.take_past.ensures.same) c.in_ok-past.ensures.past) c.in_ok-entry.entry
+      (called c.take_past.new.self c.in_ok-past.past (subst (λ (s : StoryState). IsReady s.first s.history c.in_ok-past.past) (sym c.take_past.ensures.same) c.in_ok-past.ensures.past) c.args.core c.args.call.now (subst (λ (s : StoryState). c.args.core.0 < length s.first.made) (sym c.take_past.ensures.same) c.requires.core) c.in_ok-entry.entry (c.in_ok-entry.ensures.entry ∙ ap (λ n. entry_of c.in_ok-past.past.tree n c.args.core c.args.call.now) c.len.ensures))
+      c.joined.new.past (subst (λ (e : Entry). Grows c.in_ok-past.past e c.joined.new.past) (sym c.in_ok-entry.ensures.entry) c.in_ok-entry.ensures.grows)
