@@ -1,5 +1,5 @@
 -- A commit that is begun, or is refused.
-use Rattle.std.proofs.Common.{◌≡◌, ◌≢◌, inl, inr, ◌↔◌, ℕ, ◌+◌, ◌<◌, ◌≤◌, Bool, true, false, List, [], ◌∷◌, ◌++◌, length, map, Option, Some, None, refl, sym, ap, subst, ◌∙◌, arith}
+use Rattle.std.proofs.Common.{◌≡◌, ℕ, ◌<◌, ◌≤◌, true, false, [], ◌∷◌, ◌++◌, length, map, Option, Some, None, refl, sym, ap, ◌∙◌, arith}
 use Rattle.std.proofs.lemmas.List.{map-append}
 use Rattle.sfs_base.specs.declared.numbers.NodeId.{NodeId}
 use Rattle.sfs_base.specs.declared.numbers.Stamp.{Stamp}
@@ -7,11 +7,10 @@ use Rattle.flush_core.specs.declared.event.Event.TheVariants as event
 use Rattle.flush_core.specs.declared.event.Refused.{Refused}
 use Rattle.flush_core.specs.declared.event.Refused.TheVariants as refused
 use Rattle.flush_core.specs.declared.flight.InFlight.{InFlight}
-use Rattle.flush_core.specs.declared.sets.NodeSet.{NodeSet}
 use Rattle.flush_core.specs.NodeSets.{has_node}
 use Rattle.flush_core.specs.Rules.{IsOneOf}
 use Rattle.flush_core.specs.Closure.{Flush}
-use Rattle.flush_core.specs.Machine.{Flight, MachineState, IsShared, Begins, Refuses, place_of, IsRefused, Takes}
+use Rattle.flush_core.specs.Machine.{IsShared, Begins, Refuses, place_of, IsRefused, Takes}
 use Rattle.flush_core.specs.Flights.{flight_as, IsTaken, IsLeastTaken}
 use Rattle.flush_core.specs.State.{KeptState, machine_of}
 

@@ -1,29 +1,18 @@
 -- A call that is told to a state.
-use Rattle.std.proofs.Common.{◌≡◌, ◌≢◌, ◌⊎◌, inl, inr, ◌↔◌, ℕ, ◌+◌, ◌<◌, ◌≤◌, Bool, true, false, ◌&&◌, List, [], ◌∷◌, ◌++◌, length, take, Option, Some, None, IsSome, IsTrue, refl, sym, ap, subst, ◌∙◌, arith}
-use Rattle.std.proofs.lemmas.List.{take_all}
+use Rattle.std.proofs.Common.{◌≡◌, ◌↔◌, ℕ, ◌<◌, ◌≤◌, Bool, true, false, ◌&&◌, [], ◌∷◌, ◌++◌, length, Some, None, IsSome, IsTrue, sym, ap, subst, ◌∙◌, arith}
 use Rattle.sfs_tree.specs.declared.history.Entry.{Entry}
 use Rattle.sfs_tree.specs.declared.reply.Reply.{Reply}
 use Rattle.sfs_tree.specs.Tree.{TreeState}
-use Rattle.sfs_tree.specs.Sound.{IsSound}
-use Rattle.sfs_tree.specs.Step.{IsReadable}
 use Rattle.sfs_tree.specs.Verdict.{verdict}
-use Rattle.sfs_tree.specs.History.{tree_after, flushes, MayCome, IsLegal, IsDue, is_ok_reply}
-use Rattle.sfs_tree.specs.Laws.{IsSoundTree}
+use Rattle.sfs_tree.specs.History.{tree_after, flushes, MayCome, IsDue, is_ok_reply}
 use Rattle.sfs_tree.proofs.Cores.{cores_stay}
-use Rattle.sfs_tree.proofs.FileHistories.{histories_keep_sound}
-use Rattle.sfs_tree.proofs.Histories.{IsLegal-push}
 use Rattle.flush_core.specs.declared.event.Event.TheVariants as event
 use Rattle.flush_core.specs.declared.event.Refused.{Refused}
 use Rattle.flush_core.specs.declared.event.Refused.TheVariants as refused
 use Rattle.flush_core.specs.declared.past.Past.{Past}
-use Rattle.flush_core.specs.Rules.{IsOneOf}
-use Rattle.flush_core.specs.Past.{IsPast}
-use Rattle.flush_core.specs.Grows.{Grows}
-use Rattle.flush_core.specs.Machine.{MachineState, Refuses, place_of, IsRefused, Takes}
+use Rattle.flush_core.specs.Machine.{Refuses, place_of, IsRefused, Takes}
 use Rattle.flush_core.specs.State.{KeptState, machine_of, IsAnswered}
 use Rattle.flush_core.specs.Story.{IsReady}
-use Rattle.flush_core.proofs.Along.{in_either}
-use Rattle.flush_core.proofs.Grown.{grown_past}
 
 module _ (old : KeptState) (past : Past) (ready : IsReady old.first old.entries past) where
   abbrev tree : TreeState

@@ -1,8 +1,7 @@
 -- A commit that becomes durable, and a run that ends.
-use Rattle.std.proofs.Common.{◌≡◌, ◌≢◌, ◌↔◌, ℕ, Bool, true, false, cond, not, ◌≤◌, arith, List, [], ◌∷◌, ◌++◌, map, Option, Some, None, option_map, is_some, refl, sym, ap, subst, ◌∙◌, nat_eq}
+use Rattle.std.proofs.Common.{◌≡◌, ℕ, Bool, true, false, cond, not, ◌≤◌, arith, List, [], ◌∷◌, map, Option, Some, None, option_map, is_some, refl, sym, ap, subst, ◌∙◌}
 use Rattle.std.specs.Prelude.{filter, ◌==◌}
 use Rattle.std.specs.List.{find}
-use Rattle.std.specs.Option.{option_map_or}
 use Rattle.flush_core.specs.declared.event.Event.{Event}
 use Rattle.flush_core.specs.declared.event.Event.TheVariants as event
 use Rattle.flush_core.specs.declared.event.Refused.{Refused}
@@ -11,8 +10,8 @@ use Rattle.flush_core.specs.declared.flight.InFlight.{InFlight}
 use Rattle.flush_core.specs.declared.raise.Raise.{Raise}
 use Rattle.flush_core.specs.NodeSets.{has_node}
 use Rattle.flush_core.specs.Closure.{every_entry, Flush, AreRaised, none, one_more}
-use Rattle.flush_core.specs.Machine.{Flight, MachineState, Refuses, place_of, IsRefused, IsRaisedBy, Takes, flight_of, is_flying, is_opened, kept_of}
-use Rattle.flush_core.specs.Flights.{flight_as, flight_in, flush_in, is_flying_in, is_opened_in}
+use Rattle.flush_core.specs.Machine.{Flight, Refuses, place_of, IsRefused, Takes, flight_of, is_flying, is_opened}
+use Rattle.flush_core.specs.Flights.{flight_as, flush_in}
 use Rattle.flush_core.specs.State.{KeptState, machine_of, inodes_of, IsRaisedTo, kept_flushes}
 
 no_true : {P : Type 0} → false ≡ true → P

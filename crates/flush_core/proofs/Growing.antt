@@ -1,5 +1,5 @@
 -- What a call adds to the past, by what it is and what it answers.
-use Rattle.std.proofs.Common.{◌≡◌, ℕ, List, [], ◌∷◌, ◌++◌, map, None, ◌⊎◌, inl, inr, refl, sym, ap, subst, ◌∙◌}
+use Rattle.std.proofs.Common.{◌≡◌, ℕ, List, [], ◌∷◌, ◌++◌, map, refl, sym, ap, ◌∙◌}
 use Rattle.std.proofs.lemmas.List.{append-nil}
 use Rattle.sfs_base.specs.declared.numbers.Kind.{Kind}
 use Rattle.sfs_base.specs.declared.numbers.NodeId.{NodeId}
@@ -7,7 +7,6 @@ use Rattle.sfs_tree.specs.declared.history.Entry.{Entry}
 use Rattle.sfs_tree.specs.declared.call.Call.{Call}
 use Rattle.sfs_tree.specs.declared.call.Call.TheVariants as call
 use Rattle.sfs_tree.specs.declared.reply.Reply.TheVariants as reply
-use Rattle.sfs_tree.specs.Tree.{TreeState}
 use Rattle.sfs_tree.specs.Changes.{changes_by}
 use Rattle.sfs_tree.specs.Verdict.{verdict}
 use Rattle.sfs_tree.specs.History.{tree_after_entry}

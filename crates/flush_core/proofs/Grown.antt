@@ -1,5 +1,5 @@
 -- A past to which a legal call was added is that of the longer history.
-use Rattle.std.proofs.Common.{◌≡◌, ◌≢◌, ℕ, zero, suc, ◌<◌, ◌≤◌, Bool, true, false, List, [], ◌∷◌, ◌++◌, length, take, map, Option, Some, None, IsSome, ◌⊎◌, inl, inr, refl, sym, ap, subst, ◌∙◌, arith}
+use Rattle.std.proofs.Common.{◌≡◌, ◌≢◌, ℕ, ◌<◌, ◌≤◌, true, false, List, [], ◌∷◌, ◌++◌, length, take, map, Option, Some, None, IsSome, inl, inr, refl, sym, ap, subst, ◌∙◌, arith}
 use Rattle.std.proofs.lemmas.List.{append_assoc, append-nil, map-append}
 use Rattle.std.specs.FinMap.{get}
 use Rattle.sfs_base.specs.declared.numbers.Kind.{Kind}
@@ -10,7 +10,7 @@ use Rattle.sfs_tree.specs.Sound.{Above, IsSound}
 use Rattle.sfs_tree.specs.Fits.{Fits}
 use Rattle.sfs_tree.specs.Verdict.{verdict}
 use Rattle.sfs_tree.specs.Changes.{RowChange, added, removed, replaced, other_side, changes_by, changes_of}
-use Rattle.sfs_tree.specs.History.{tree_after, tree_after_entry, IsLegalFrom, IsLegal}
+use Rattle.sfs_tree.specs.History.{tree_after, tree_after_entry, IsLegal}
 use Rattle.sfs_tree.specs.Laws.{IsSoundTree}
 use Rattle.sfs_tree.proofs.Histories.{tree_after-push}
 use Rattle.sfs_tree.proofs.KeepsNodes.{directory_node}
@@ -18,14 +18,14 @@ use Rattle.sfs_tree.proofs.SoundTrees.{calls_fit}
 use Rattle.sfs_tree.proofs.FileHistories.{histories_keep_sound}
 use Rattle.flush_core.specs.declared.past.OwnChange.{OwnChange}
 use Rattle.flush_core.specs.declared.past.Past.{Past}
-use Rattle.flush_core.specs.Rules.{IsOneOf, IsChange, IsMove, Birth, births_by, births_of}
-use Rattle.flush_core.specs.Past.{row_change_of, birth_of, KeepsAbove, IsPast}
-use Rattle.flush_core.specs.Plan.{MovesDirectory, IsNoted}
+use Rattle.flush_core.specs.Rules.{IsOneOf, IsChange, IsMove, births_by, births_of}
+use Rattle.flush_core.specs.Past.{row_change_of, KeepsAbove, IsPast}
+use Rattle.flush_core.specs.Plan.{IsNoted}
 use Rattle.flush_core.specs.Grows.{Grows}
 use Rattle.flush_core.proofs.Own.{stamp_of}
-use Rattle.flush_core.proofs.Along.{tree_at, tree_at-after, in_left, in_right, in_either}
+use Rattle.flush_core.proofs.Along.{tree_at-after, in_right, in_either}
 use Rattle.flush_core.proofs.Lives.{live_own}
-use Rattle.flush_core.proofs.Prefix.{legal_take, take_take, change_below, kind_whole}
+use Rattle.flush_core.proofs.Prefix.{take_take, change_below, kind_whole}
 use Rattle.flush_core.proofs.Prefixes.{move_whole, move_prefix}
 
 -- the changes and births of a history with an entry more

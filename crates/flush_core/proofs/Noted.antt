@@ -1,7 +1,7 @@
 -- When the directories above are noted of a change.
-use Rattle.std.proofs.Common.{◌≡◌, ◌≢◌, ◌++◌, ℕ, Bool, true, false, cond, List, [], ◌∷◌, Option, Some, None, IsSome, Vec, Global, ◌⊎◌, inl, inr, refl, sym, ap, subst, ◌∙◌, nat_eq}
+use Rattle.std.proofs.Common.{◌≡◌, ◌≢◌, ◌++◌, ℕ, Bool, true, false, cond, List, [], ◌∷◌, Option, Some, None, IsSome, Vec, Global, inl, inr, refl, sym, ap, subst, ◌∙◌, nat_eq}
 use borrow.Author.Tests.{eqb-true, eqb-false}
-use Rattle.sfs_tree.specs.Tree.{TreeState, is_directory, is_alive, walk_up}
+use Rattle.sfs_tree.specs.Tree.{TreeState, is_directory, is_alive}
 use Rattle.sfs_tree.specs.Sound.{Above, IsSound}
 use Rattle.sfs_tree.specs.Changes.{RowChange, added, removed, other_side}
 use Rattle.sfs_tree.proofs.KeepsSound.{way_up}

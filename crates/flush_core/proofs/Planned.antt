@@ -1,6 +1,6 @@
 -- What a call does is what was read off the tree before it, where it is not refused.
 use Rattle.std.specs.Prelude.{not, ◌==◌}
-use Rattle.std.proofs.Common.{◌≡◌, ℕ, Bool, true, false, cond, List, [], ◌∷◌, length, take, drop, Option, Some, None, is_some, refl, sym, ap, ◌∙◌, nat_eq, nat_lt}
+use Rattle.std.proofs.Common.{◌≡◌, ℕ, Bool, true, false, cond, List, [], ◌∷◌, take, drop, Option, Some, None, refl, ap}
 use Rattle.sfs_base.specs.declared.numbers.Kind.{Kind}
 use Rattle.sfs_base.specs.declared.numbers.NodeId.{NodeId}
 use Rattle.sfs_tree.specs.declared.call.Call.{Call}
@@ -12,8 +12,8 @@ use Rattle.sfs_tree.specs.declared.reply.Reply.TheVariants as reply
 use Rattle.sfs_tree.specs.Tree.{TreeState, row_of, is_directory, row_count, next_number, bytes_of, kind_of, links_of, names_of}
 use Rattle.sfs_tree.specs.Names.{with_kinds}
 use Rattle.sfs_tree.specs.Effect.{Effect, Stays, Adds, Removes, Moves, Edits, Edit}
-use Rattle.sfs_tree.specs.Changes.{RowChange, added, changes_by}
-use Rattle.sfs_tree.specs.Verdict.{Verdict, verdict, directory_fault, file_fault, node_fault, size_of, refused, answered, done, or_else, look_row, make_fault, make_node, unlink_row, rmdir_row, move_fault, move_row, names_child, write_bytes, trunc_file, LARGEST_FILE}
+use Rattle.sfs_tree.specs.Changes.{added, changes_by}
+use Rattle.sfs_tree.specs.Verdict.{Verdict, verdict, directory_fault, file_fault, node_fault, size_of, refused, answered, done, or_else, look_row, make_fault, make_node, unlink_row, rmdir_row, move_fault, move_row, names_child}
 use Rattle.flush_core.specs.Rules.{Birth, births_by}
 use Rattle.flush_core.specs.Plan.{plan_of, removal, moving}
 

@@ -1,5 +1,5 @@
 -- What a story keeps as calls come.
-use Rattle.std.proofs.Common.{◌≡◌, ◌↔◌, ℕ, zero, suc, ◌+◌, ◌<◌, Bool, true, false, cond, ◌&&◌, not, List, [], ◌∷◌, ◌++◌, length, take, get_or, Option, Some, None, IsSome, IsTrue, inl, inr, refl, sym, ap, subst, ◌∙◌, arith}
+use Rattle.std.proofs.Common.{◌≡◌, ◌↔◌, ℕ, ◌+◌, ◌<◌, Bool, true, false, cond, ◌&&◌, not, List, [], ◌∷◌, ◌++◌, length, take, get_or, Option, Some, None, IsSome, IsTrue, inl, inr, refl, sym, ap, subst, ◌∙◌, arith}
 use Rattle.std.specs.Prelude.{filter, fold}
 use Rattle.std.proofs.lemmas.List.{take_more, length-take-le}
 use Rattle.sfs_base.specs.declared.numbers.CoreId.{CoreId}
@@ -14,7 +14,7 @@ use Rattle.sfs_tree.specs.Verdict.{verdict, or_else, answered}
 use Rattle.sfs_tree.specs.Sound.{IsSound}
 use Rattle.sfs_tree.specs.Step.{IsReadable}
 use Rattle.sfs_tree.specs.Changes.{is_own_below, with_change, RowChange}
-use Rattle.sfs_tree.specs.History.{MayCome, IsLegalFrom, IsLegal, IsDue, IsFsyncReply, flushes, tree_after, tree_after_entry, is_ok_reply}
+use Rattle.sfs_tree.specs.History.{MayCome, IsLegal, IsDue, IsFsyncReply, flushes, tree_after, is_ok_reply}
 use Rattle.sfs_tree.specs.Laws.{IsSoundTree}
 use Rattle.sfs_tree.proofs.Cores.{cores_stay}
 use Rattle.sfs_tree.proofs.Histories.{IsLegal-push}
@@ -32,7 +32,6 @@ use Rattle.flush_core.proofs.Grown.{grown_past}
 use Rattle.flush_core.proofs.Legal.{comes_at}
 use Rattle.flush_core.proofs.Listed.{take_whole}
 use Rattle.flush_core.proofs.Own.{both}
-use Rattle.flush_core.proofs.Prefix.{legal_take}
 
 -- the tree of a past that is ready is sound, and has the first tree's cores
 module _ (first : TreeState) (entries : List Entry) (past : Past) (ready : IsReady first entries past) where
@@ -112,7 +111,7 @@ may_come tree stamp core c within = record {
 pub called : (story : StoryState) (past : Past) → IsReady story.first story.history past → (core : CoreId) (c : Call) → core.0 < length story.first.made → (entry : Entry) → entry ≡ entry_of past.tree (length story.history) core c → MayCome (end_of story) (length story.history) entry
 called story past ready core c within entry is =
     subst (MayCome (end_of story) (length story.history)) (sym (is ∙ ap (λ (t : TreeState). entry_of t (length story.history) core c) ready.is_past.tree))
-      (may_come (end_of story) (length story.history) core c (subst (λ (n : ℕ). core.0 < n) (sym (cores_stay story.first story.history)) within))
+    (may_come (end_of story) (length story.history) core c (subst (λ (n : ℕ). core.0 < n) (sym (cores_stay story.first story.history)) within))
 
 -- an entry that may come joins what a story keeps
 pub still_standing : (first : TreeState) (entries : List Entry) (kept : Option Past) (entry : Entry) (new : Past) → IsStanding first entries kept → IsReadable entry.call → IsReady first (entries ++ entry ∷ []) new → IsStanding first (entries ++ entry ∷ []) (Some new)

@@ -1,15 +1,12 @@
 -- How a state is kept, and what the code of an event owes.
-use Rattle.std.specs.Prelude.{◌≡◌, ◌==◌, ◌⊎◌, ◌↔◌, ℕ, ◌<◌, Bool, true, ◌&&◌, List, length, map, filter, Option, Some, None, is_some, IsSome, IsTrue, Result, Ok, Err}
+use Rattle.std.specs.Prelude.{◌≡◌, ◌==◌, ◌⊎◌, ◌↔◌, ℕ, Bool, ◌&&◌, List, map, filter, Option, Some, None, is_some, IsSome, IsTrue, Result, Ok, Err}
 use Rattle.std.specs.List.{list_any}
 use Rattle.std.specs.FinMap.{get}
 use Rattle.sfs_tree.specs.declared.history.Entry.{Entry}
 use Rattle.sfs_tree.specs.declared.reply.Reply.{Reply}
 use Rattle.sfs_tree.specs.Tree.{TreeState}
-use Rattle.sfs_tree.specs.Sound.{IsSound, IsNumbered}
-use Rattle.sfs_tree.specs.Step.{IsReadable}
-use Rattle.sfs_tree.specs.History.{IsLegal, IsDue, is_ok_reply}
+use Rattle.sfs_tree.specs.History.{IsDue, is_ok_reply}
 use Rattle.flush_core.specs.declared.flight.InFlight.{InFlight}
-use Rattle.flush_core.specs.declared.past.Past.{Past}
 use Rattle.flush_core.specs.declared.sets.NodeSet.{NodeSet}
 use Rattle.flush_core.specs.declared.raise.Raise.{Raise}
 use Rattle.flush_core.specs.declared.event.Event.{Event}
@@ -18,9 +15,7 @@ use Rattle.flush_core.specs.declared.event.Refused.TheVariants as refused
 use Rattle.flush_core.specs.Cut.{Cut}
 use Rattle.flush_core.specs.Flights.{flight_as}
 use Rattle.flush_core.specs.NodeSets.{has_node}
-use Rattle.flush_core.specs.Rules.{IsOneOf}
-use Rattle.flush_core.specs.Closure.{every_entry, Flush, IsRaised, AreInodesAfter, AreRaised}
-use Rattle.flush_core.specs.Past.{IsPast}
+use Rattle.flush_core.specs.Closure.{every_entry, Flush, IsRaised, AreInodesAfter}
 use Rattle.flush_core.specs.Machine.{Flight, MachineState, IsRefused, Takes}
 
 -- whether a tree has a node

@@ -45,7 +45,7 @@ impl Model for Tale {
 
 fn begun(alloc: Global) -> Result<Tale, Fail> {
     let tree = Tree::empty(alloc, 3, 8, 1)?;
-    let story = Story::new(alloc, tree)?;
+    let story = Story::new(alloc, tree);
     Ok(Tale { alloc, story })
 }
 

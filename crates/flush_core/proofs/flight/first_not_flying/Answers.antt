@@ -1,4 +1,4 @@
-use Rattle.std.proofs.Common.{◌≡◌, ℕ, Bool, true, false, not, map, Some, refl, sym, ap, ◌∙◌}
+use Rattle.std.proofs.Common.{ℕ, not, map, refl, sym, ap, ◌∙◌}
 use Rattle.std.specs.List.{find}
 use Rattle.std.proofs.lemmas.List.{map-id}
 use Rattle.flush_core.specs.Flights.{flight_as, is_flying_in}

@@ -1,6 +1,6 @@
-use Rattle.std.proofs.Common.{◌≡◌, ◌++◌, ◌∷◌, [], true, false, map, take, get_or, refl, sym, ap, subst, ◌∙◌}
+use Rattle.std.proofs.Common.{◌≡◌, ◌++◌, ◌∷◌, [], true, false, map, take, get_or, sym, subst, ◌∙◌}
 use Rattle.std.proofs.lemmas.List.{take_more}
-use Rattle.flush_core.specs.Flights.{flight_as, IsTaken}
+use Rattle.flush_core.specs.Flights.{flight_as}
 use Rattle.flush_core.proofs.Listed.{take_whole}
 use Rattle.flush_core.proofs.Least.{IsLeastOf, least_passed, least_more, least_in}
 use Rattle.flush_core.proofs.flight.least_taken.Goals.{then-is_taken, else-is_taken}

@@ -1,4 +1,4 @@
-use Rattle.std.proofs.Common.{◌≡◌, true, false, refl, sym, ap, subst, ◌∙◌}
+use Rattle.std.proofs.Common.{◌≡◌, false, sym, ap, subst, ◌∙◌}
 use Rattle.sfs_tree.specs.Tree.{is_directory, is_alive}
 use Rattle.sfs_tree.specs.Changes.{RowChange, added, other_side}
 use Rattle.flush_core.specs.declared.past.OwnChange.{OwnChange}

@@ -1,4 +1,3 @@
-use Rattle.std.proofs.Common.{◌≡◌, refl}
 use Rattle.flush_core.proofs.Listed.{one_at}
 use Rattle.flush_core.proofs.Stories.{past_sound, next_core, next_ready}
 use Rattle.flush_core.proofs.story.replayed.Goals as goal

@@ -1,8 +1,6 @@
-use Rattle.std.proofs.Common.{◌≡◌, refl, sym, ap, subst, ◌∙◌}
-use Rattle.sfs_tree.specs.Tree.{TreeState}
-use Rattle.sfs_tree.specs.History.{tree_after_entry}
+use Rattle.std.proofs.Common.{refl, sym, ap, subst, ◌∙◌}
 use Rattle.flush_core.specs.declared.past.Past.{Past}
-use Rattle.flush_core.specs.Grows.{Grows, HasBirth}
+use Rattle.flush_core.specs.Grows.{Grows}
 use Rattle.flush_core.proofs.past.Past.add.Goals.{in-Make+in-Node+in_ok-add_birth-in-Make, in-Make+in_default-reply, in_default+in-Ok+in_ok-append-in_default, in_default+in_default-reply-2}
 use Rattle.flush_core.proofs.Growing.{grows_born, grows_unborn, grows_planned, grows_refused}
 use Rattle.flush_core.proofs.past.Past.add.Goals as goal

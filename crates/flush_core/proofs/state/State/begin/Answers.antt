@@ -1,7 +1,7 @@
-use Rattle.std.proofs.Common.{rules, ◌≡◌, ◌≤◌, ◌<◌, ◌++◌, ◌∷◌, [], length, map, Bool, true, false, Option, Some, None, inr, refl, sym, ap, subst, ◌∙◌, nat_eq, arith}
+use Rattle.std.proofs.Common.{rules, ◌≡◌, ◌≤◌, ◌<◌, ◌++◌, ◌∷◌, [], length, map, inr, refl, sym, ap, subst, ◌∙◌, nat_eq}
 use Rattle.std.specs.List.{list_any}
 use Rattle.flush_core.specs.Flights.{flight_as, IsLeastTaken}
-use Rattle.flush_core.specs.State.{KeptState, machine_of}
+use Rattle.flush_core.specs.State.{KeptState}
 use Rattle.flush_core.specs.contracts.state.State as shown
 use Rattle.flush_core.proofs.KeptFlights.{listed_one, not_listed}
 use Rattle.flush_core.proofs.Beginning.{used_before, meets, late, takes_begun}

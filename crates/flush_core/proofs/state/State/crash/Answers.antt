@@ -1,9 +1,9 @@
-use Rattle.std.proofs.Common.{◌≡◌, true, not, [], map, option_map, Some, None, inr, refl, sym, ap, subst, ◌∙◌}
+use Rattle.std.proofs.Common.{◌≡◌, true, not, map, Some, inr, refl, sym, ap, subst, ◌∙◌}
 use Rattle.std.specs.List.{find}
 use Rattle.flush_core.specs.NodeSets.{has_node}
 use Rattle.flush_core.specs.Closure.{every_entry, AreRaised}
 use Rattle.flush_core.specs.Flights.{flight_as, is_flying_in, is_opened_in}
-use Rattle.flush_core.specs.State.{KeptState, machine_of, inodes_of, kept_flushes}
+use Rattle.flush_core.specs.State.{KeptState, inodes_of, kept_flushes}
 use Rattle.flush_core.specs.contracts.state.State as shown
 use Rattle.flush_core.proofs.Ended.{keeps_not_flying, keeps_not_opened, takes_crash}
 use Rattle.flush_core.proofs.state.State.crash.Goals as goal

@@ -1,10 +1,8 @@
-use Rattle.std.proofs.Common.{◌≡◌, true, map, option_map, Some, refl, sym, ap, ◌∙◌}
+use Rattle.std.proofs.Common.{◌≡◌, map, option_map, Some, refl, sym, ap, ◌∙◌}
 use Rattle.std.specs.Prelude.{not, ◌==◌, filter}
 use Rattle.flush_core.specs.Machine.{Flight}
-use Rattle.flush_core.specs.declared.flight.InFlight.{InFlight}
-use Rattle.flush_core.specs.Closure.{Flush}
 use Rattle.flush_core.specs.Flights.{flight_as, flight_in, flush_as, flush_in, is_opened_in}
-use Rattle.flush_core.specs.State.{KeptState, machine_of}
+use Rattle.flush_core.specs.State.{KeptState}
 use Rattle.flush_core.specs.contracts.state.State as shown
 use Rattle.flush_core.proofs.Ended.{takes_durable}
 use Rattle.flush_core.proofs.state.State.finish.Goals as goal

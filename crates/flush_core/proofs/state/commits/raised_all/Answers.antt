@@ -1,6 +1,5 @@
-use Rattle.std.proofs.Common.{◌≡◌, ◌+◌, Bool, true, false, List, map, take, refl, sym, ap, subst, ◌∙◌, nat_eq}
+use Rattle.std.proofs.Common.{◌≡◌, ◌+◌, Bool, List, map, take, sym, subst, ◌∙◌, nat_eq}
 use Rattle.std.specs.List.{list_any}
-use Rattle.sfs_tree.specs.declared.history.Entry.{Entry}
 use Rattle.flush_core.specs.declared.raise.Raise.{Raise}
 use Rattle.flush_core.specs.NodeSets.{has_node}
 use Rattle.flush_core.specs.Closure.{every_entry, Flush, AreRaised, none, one_more}

@@ -1,4 +1,4 @@
-use Rattle.std.proofs.Common.{◌≡◌, subst}
+use Rattle.std.proofs.Common.{subst}
 use Rattle.flush_core.specs.Broken.{FindsBroken}
 use Rattle.flush_core.specs.Story.{StoryState}
 use Rattle.flush_core.proofs.story.Story.broken_rule.Goals as goal
