@@ -35,13 +35,13 @@ pub record IsHeld (first : TreeState) (history : List Entry) (cut : Cut) (inodes
   pub kept : IsKept first history cut inodes
   pub named : (node : ℕ) → IsNamedIn (rows_at_cut first history cut) node → inodes node ≡ true
 
--- P. A prefix of a history, and the whole with the entries of the prefix counted.
+-- A prefix of a history, and the whole with the entries of the prefix counted.
 abbrev pub PrefixesCount : Type 0
 PrefixesCount = (first : TreeState) (history : List Entry) (n : ℕ) (flush : Flush) (cut : Cut) (inodes : ℕ → Bool) → IsSoundTree first → IsLegal first history → n ≤ length history
     → flush.stamp ≤ n → IsLive first history flush
     → AreAlike first flush (record { history = take n history; counts = every_entry; cut = cut; inodes = inodes }) (record { history = history; counts = below n; cut = cut; inodes = inodes })
 
--- R. Two ways to count that both count all below a stamp, up to which all cuts and the fsync lie.
+-- Two ways to count that both count all below a stamp, up to which all cuts and the fsync lie.
 abbrev pub Recounts : Type 0
 Recounts = (first : TreeState) (history : List Entry) (k : ℕ) (counts other : Counts) (flush : Flush) (cut : Cut) (inodes : ℕ → Bool) → IsSoundTree first → IsLegal first history
     → ((t : ℕ) → t < k → counts t ≡ true) → ((t : ℕ) → t < k → other t ≡ true)
@@ -55,7 +55,7 @@ RaisesHold = (first : TreeState) (history : List Entry) (n : ℕ) (flush : Flush
     → ((node : ℕ) → cut_of cut node ≤ n) → flush.stamp ≤ n → IsLive first history flush → IsHeld first history cut inodes
     → IsRaised first history (below n) cut inodes flush raised → AreInodesAfter first history (below n) cut inodes flush raised after → IsHeld first history raised after
 
--- N. A row names a node by the changes that name it alone.
+-- A row names a node by the changes that name it alone.
 abbrev pub NamesDecideRows : Type 0
 NamesDecideRows = (first : TreeState) (history : List Entry) (n : ℕ) (cut other : Cut) (node directory : ℕ) (name : List ℕ) → IsSoundTree first → IsLegal first history
     → ((change : RowChange) → IsChange first history change → change.stamp < n → change.child ≡ node → change.directory ≡ directory → IsWithin cut change ↔ IsWithin other change)
@@ -67,7 +67,7 @@ pub record Agree (first : TreeState) (history : List Entry) (n : ℕ) (cut other
   pub inode : inodes node ≡ other_inodes node
   pub unflushed : (change : RowChange) → IsChange first history change → change.stamp < n → change.child ≡ node → (cut_of cut change.directory ≤ change.stamp) ↔ (cut_of other change.directory ≤ change.stamp)
 
--- A. Cuts that agree on what an fsync concerns.
+-- Cuts that agree on what an fsync concerns.
 abbrev pub Agrees : Type 0
 Agrees = (first : TreeState) (history : List Entry) (n : ℕ) (flush : Flush) (cut other : Cut) (inodes other_inodes : ℕ → Bool) → IsSoundTree first → IsLegal first history
     → ((node : ℕ) → Concerns first flush (record { history = history; counts = below n; cut = cut; inodes = inodes }) node → Agree first history n cut other inodes other_inodes node)
