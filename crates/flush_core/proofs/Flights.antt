@@ -11,7 +11,8 @@ use Rattle.flush_core.specs.Machine.{Flight, MachineState, flight_of}
 use Rattle.flush_core.specs.Runs.{IsRun, IsBegun, AreAlive, view_of, Concerns, IsOneCommit}
 use Rattle.flush_core.specs.Laws.{FlightsStay}
 use Rattle.flush_core.proofs.Views.{below, IsHeld}
-use Rattle.flush_core.proofs.RunFacts.{IsSteady, steady_at, event_there, flight_found, cuts_stay_low, in_map}
+use Rattle.flush_core.proofs.Listed.{from_map}
+use Rattle.flush_core.proofs.RunFacts.{IsSteady, steady_at, event_there, flight_found, cuts_stay_low}
 use Rattle.flush_core.proofs.Held.{flights_hold, held_at}
 use Rattle.flush_core.proofs.OneCommit.{alike_back, then_alike}
 use Rattle.flush_core.proofs.Begun.{takes_cut, begun_once, one_flush, one_begun, begun_apart}
@@ -99,7 +100,7 @@ module _ (first : TreeState) (events : List Event) (states : ℕ → MachineStat
   steady = steady_at first events states run later within
 
   from : (f : Flush) → IsOneOf (map (λ (other : Flight). other.flush) others) f → (g : Flight) × IsOneOf (states later).flights g × (g.flush ≡ f)
-  from f it = let one = in_map (λ (g : Flight). g.flush) others f it in (one.0, among one.0 one.1, one.2)
+  from f it = let one = from_map (λ (g : Flight). g.flush) others f it in (one.0, among one.0 one.1, one.2)
 
   cuts : (node : ℕ) → cut_of cut node ≤ length (states later).history
   cuts = cuts_stay_low first (states later).history every_entry (length (states later).history) raised steady.cuts (λ f it. let g = from f it in subst (λ (h : Flush). h.stamp ≤ length (states later).history) g.2 (steady.stamps g.0 g.1))

@@ -11,7 +11,8 @@ use Rattle.flush_core.specs.Machine.{Flight, MachineState, opened_for, Begins, T
 use Rattle.flush_core.specs.Runs.{IsRun, IsBegun, view_of, Concerns, durable_by}
 use Rattle.flush_core.proofs.Runs.{below_or}
 use Rattle.flush_core.proofs.Along.{in_either}
-use Rattle.flush_core.proofs.RunFacts.{in_filter, in_map, flight_found, event_there, steady_at}
+use Rattle.flush_core.proofs.Listed.{from_map}
+use Rattle.flush_core.proofs.RunFacts.{in_filter, flight_found, event_there, steady_at}
 
 -- A flight that is one of these, whether opened or not.
 pub record IsAmong (flights : List Flight) (flight : Flight) : Type 0 where
@@ -75,7 +76,7 @@ module _ (first : TreeState) (events : List Event) (states : ℕ → MachineStat
     ]
   ]
   from_step place (event.Opened commit) stands takes start flight one =
-      let from = in_map (opened_for commit) (states place).flights flight (subst (λ (s : MachineState). IsOneOf s.flights flight) takes.moves one) in
+      let from = from_map (opened_for commit) (states place).flights flight (subst (λ (s : MachineState). IsOneOf s.flights flight) takes.moves one) in
       inl (record { was = from.0; there = from.1; commit = ap (λ (f : Flight). f.commit) from.2; flush = ap (λ (f : Flight). f.flush) from.2; concerned = ap (λ (f : Flight). f.concerned) from.2 })
   from_step place (event.Durable commit) stands takes start flight one =
       inl (among_itself (states place).flights flight (in_filter (λ (f : Flight). not (nat_eq f.commit commit)) (states place).flights flight (subst (λ (s : MachineState). IsOneOf s.flights flight) takes.moves.4 one)).0)

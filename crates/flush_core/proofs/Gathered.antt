@@ -1,10 +1,11 @@
 -- Sets to which the elements of a list add nodes, one after the other.
 use Rattle.std.proofs.Common.{◌≡◌, ℕ, ◌+◌, ◌<◌, ◌≤◌, true, false, List, length, take, get_or, ◌↔◌, ◌⊎◌, inl, inr, sym, subst, ◌∙◌}
+use Rattle.std.proofs.lemmas.List.{take_all}
 use Rattle.flush_core.specs.declared.sets.NodeSet.{NodeSet}
 use Rattle.flush_core.specs.NodeSets.{has_node, with_node}
 use Rattle.flush_core.specs.Engine.{OfSome, Joins}
 use Rattle.flush_core.proofs.Own.{both}
-use Rattle.flush_core.proofs.Listed.{one_more, still_one, next_one, take_whole}
+use Rattle.flush_core.proofs.Listed.{one_more, still_one, next_one}
 use Rattle.flush_core.proofs.Marks.{with_in, with_kept, with_cases}
 
 -- none of them has added any
@@ -30,7 +31,7 @@ gather_more BringsIn xs i d v start before after lt is first next node = (come, 
 
 -- all of them have
 pub gather_all : {X : Type 0} (BringsIn : X → ℕ → Type 0) (xs : List X) (i : ℕ) (start set : NodeSet) → length xs ≤ i → Joins (OfSome (take i xs) BringsIn) start set → Joins (OfSome xs BringsIn) start set
-gather_all BringsIn xs i start set le joins = subst (λ l. Joins (OfSome l BringsIn) start set) (take_whole i xs le) joins
+gather_all BringsIn xs i start set le joins = subst (λ l. Joins (OfSome l BringsIn) start set) (take_all i xs le) joins
 
 -- a node is put in
 pub join_one : (More : ℕ → Type 0) (node : ℕ) (set joined : NodeSet) → ((x : ℕ) → has_node joined x ≡ with_node node true (has_node set) x) → More node → ((x : ℕ) → More x → node ≡ x) → Joins More set joined

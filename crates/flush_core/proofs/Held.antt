@@ -18,7 +18,8 @@ use Rattle.flush_core.proofs.Along.{in_left, in_right, in_either}
 use Rattle.flush_core.proofs.Covered.{from_rows}
 use Rattle.flush_core.proofs.Lists.{first_kept, nothing_within}
 use Rattle.flush_core.proofs.Views.{IsLive, IsHeld}
-use Rattle.flush_core.proofs.RunFacts.{IsPrefix, IsSteady, in_filter, in_map, flight_found, kept_flush, cuts_stay_low, event_there, steady_at, prefix_later}
+use Rattle.flush_core.proofs.Listed.{from_map}
+use Rattle.flush_core.proofs.RunFacts.{IsPrefix, IsSteady, in_filter, flight_found, kept_flush, cuts_stay_low, event_there, steady_at, prefix_later}
 use Rattle.flush_core.proofs.Prefix.{take_take}
 use Rattle.flush_core.proofs.Alike.{inodes_alike}
 use Rattle.flush_core.proofs.Prefixes.{prefixes_count}
@@ -98,7 +99,7 @@ module _ (first : TreeState) (events : List Event) (states : ℕ → MachineStat
           low : stamp.0 ≤ count place
           low = subst (λ (s : MachineState). stamp.0 ≤ length s.history) takes.moves.2 (subst (λ (f : Flush). f.stamp ≤ count (suc place)) takes.moves.1.own (steady.stamps takes.moves.0 new_one))
   live_step place (event.Opened commit) le stands takes steady was =
-      subst AreLive (sym takes.moves) (λ flight one. let from = in_map (opened_for commit) (states place).flights flight one in subst (λ (f : Flight). IsLive first whole f.flush) from.2 (was from.0 from.1))
+      subst AreLive (sym takes.moves) (λ flight one. let from = from_map (opened_for commit) (states place).flights flight one in subst (λ (f : Flight). IsLive first whole f.flush) from.2 (was from.0 from.1))
   live_step place (event.Durable commit) le stands takes steady was = subst AreLive (sym takes.moves.4) (λ flight one. was flight (in_filter (λ (f : Flight). not (nat_eq f.commit commit)) (states place).flights flight one).0)
   live_step place (event.Fail commit) le stands takes steady was = subst AreLive (sym takes.moves) was
   live_step place (event.Crash kept) le stands takes steady was = subst AreLive (sym takes.moves.2) (λ flight one. absurd one)

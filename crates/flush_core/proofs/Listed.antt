@@ -1,6 +1,6 @@
 -- Elements of lists, and of the first of them.
 use Rattle.std.proofs.Common.{◌≡◌, ℕ, zero, suc, ◌+◌, ◌<◌, ◌≤◌, List, [], ◌∷◌, length, take, map, get_or, ◌⊎◌, inl, inr, refl, sym, ap, subst, ◌∙◌, arith}
-use Rattle.std.proofs.lemmas.List.{take_more}
+use Rattle.std.proofs.lemmas.List.{take_more, take_all}
 use Rattle.flush_core.specs.Rules.{IsOneOf}
 use Rattle.flush_core.proofs.Along.{in_left, in_right, in_either}
 
@@ -15,13 +15,6 @@ pub one_of_take : {X : Type 0} (i : ℕ) (xs : List X) (x : X) → IsOneOf (take
 one_of_take zero xs x one = absurd one
 one_of_take (suc i) [] x one = absurd one
 one_of_take (suc i) (y ∷ xs) x one = elim one [ inl e ↦ inl e | inr rest ↦ inr (one_of_take i xs x rest) ]
-
--- the first of a list, as many as it has, are all of it
-pub take_whole : {X : Type 0} (i : ℕ) (xs : List X) → length xs ≤ i → take i xs ≡ xs
-take_whole zero [] le = refl
-take_whole zero (y ∷ xs) le = absurd (omega arith)
-take_whole (suc i) [] le = refl
-take_whole (suc i) (y ∷ xs) le = ap (λ l. y ∷ l) (take_whole i xs (omega arith))
 
 -- one of the first and the next is one of the first or the next
 pub one_more : {X : Type 0} (xs : List X) (i : ℕ) (d v x : X) → i < length xs → v ≡ get_or xs i d → IsOneOf (take (i + 1) xs) x → IsOneOf (take i xs) x ⊎ (v ≡ x)
@@ -45,7 +38,7 @@ more_hold P xs i d v lt is first next x one = elim (one_more xs i d v x lt is on
 
 -- what holds of as many of the first as there are holds of all
 pub all_hold : {X : Type 0} (P : X → Type 0) (xs : List X) (i : ℕ) → length xs ≤ i → ((x : X) → IsOneOf (take i xs) x → P x) → (x : X) → IsOneOf xs x → P x
-all_hold P xs i le first x one = first x (subst (λ l. IsOneOf l x) (sym (take_whole i xs le)) one)
+all_hold P xs i le first x one = first x (subst (λ l. IsOneOf l x) (sym (take_all i xs le)) one)
 
 -- an element behind a map comes from one before it
 pub from_map : {X Y : Type 0} (f : X → Y) (xs : List X) (y : Y) → IsOneOf (map f xs) y → (x : X) × IsOneOf xs x × (f x ≡ y)

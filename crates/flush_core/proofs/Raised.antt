@@ -1,5 +1,6 @@
 -- What an fsync leaves: the raised cut, and the nodes that have an inode.
 use Rattle.std.proofs.Common.{◌≡◌, ◌≢◌, ℕ, ◌+◌, ◌<◌, ◌≤◌, Bool, true, false, List, length, take, get_or, ◌↔◌, ◌⊎◌, inl, inr, refl, sym, ap, subst, ◌∙◌, nat_eq, nat_lt, arith}
+use Rattle.std.proofs.lemmas.List.{take_all}
 use Rattle.std.specs.Prelude.{max, if◌then◌else◌}
 use borrow.Author.Tests.{eqb-true, eqb-false, ltb-true, ltb-false}
 use Rattle.sfs_tree.specs.declared.history.Entry.{Entry}
@@ -18,7 +19,7 @@ use Rattle.flush_core.specs.Members.{AreConcerned}
 use Rattle.flush_core.specs.Named.{AreNamed}
 use Rattle.flush_core.specs.Inodes.{GetsInode, LosesInode, Settles}
 use Rattle.flush_core.proofs.Own.{both}
-use Rattle.flush_core.proofs.Listed.{one_more, still_one, next_one, take_whole}
+use Rattle.flush_core.proofs.Listed.{one_more, still_one, next_one}
 use Rattle.flush_core.proofs.Marks.{with_in, with_other}
 use Rattle.flush_core.proofs.Brought.{naming_is, is_naming}
 
@@ -76,7 +77,7 @@ pub raise_none : (cut : Cut) (nodes : List ℕ) (stamp : ℕ) → RaisesThose cu
 raise_none cut nodes stamp = record { one = λ x none. absurd none; other = λ x. inr refl }
 
 pub raise_whole : (cut raised : Cut) (nodes : List ℕ) (i stamp : ℕ) → length nodes ≤ i → RaisesThose cut (take i nodes) stamp raised → RaisesThose cut nodes stamp raised
-raise_whole cut raised nodes i stamp le raises = subst (λ l. RaisesThose cut l stamp raised) (take_whole i nodes le) raises
+raise_whole cut raised nodes i stamp le raises = subst (λ l. RaisesThose cut l stamp raised) (take_all i nodes le) raises
 
 -- the nodes that are settled so far, and no others have changed
 pub record AreSettled (past : Past) (raised : Cut) (inodes named : NodeSet) (own : ℕ) (nodes : List ℕ) (after : NodeSet) : Type 0 where
@@ -103,7 +104,7 @@ pub settle_none : (past : Past) (raised : Cut) (inodes named : NodeSet) (own : �
 settle_none past raised inodes named own nodes after same = record { settled = λ x none. absurd none; others = λ x changed. absurd (changed (same x)) }
 
 pub settle_whole : (past : Past) (raised : Cut) (inodes named : NodeSet) (own : ℕ) (nodes : List ℕ) (i : ℕ) (after : NodeSet) → length nodes ≤ i → AreSettled past raised inodes named own (take i nodes) after → AreSettled past raised inodes named own nodes after
-settle_whole past raised inodes named own nodes i after le settled = subst (λ l. AreSettled past raised inodes named own l after) (take_whole i nodes le) settled
+settle_whole past raised inodes named own nodes i after le settled = subst (λ l. AreSettled past raised inodes named own l after) (take_all i nodes le) settled
 
 module _ (first : TreeState) (history : List Entry) (past : Past) (is : IsPast first history past) (raised : Cut) (named : NodeSet) (are_named : AreNamed first history raised named) where
   -- a node that gets an inode is reached

@@ -20,6 +20,7 @@ use Rattle.flush_core.specs.Rules.{IsOneOf}
 use Rattle.flush_core.specs.Closure.{Counts, Flush, IsRaised, AreRaised, none, one_more}
 use Rattle.flush_core.specs.Machine.{Flight, MachineState, start_of, tree_now, flight_of, opened_for, kept_of, IsRaisedBy, Begins, Takes}
 use Rattle.flush_core.specs.Runs.{IsRun, AreApart}
+use Rattle.flush_core.proofs.Listed.{from_map}
 use Rattle.flush_core.proofs.Runs.{below_or}
 use Rattle.flush_core.proofs.Along.{in_left, in_right, in_either}
 use Rattle.flush_core.proofs.Prefix.{take_take}
@@ -66,22 +67,13 @@ in_filter {X} w (y ∷ xs) x one =
       | false ↦ λ t h. let rest = in_filter w xs x h in (inr rest.0, rest.1)
     ] refl one
 
--- what a map gives comes from one of the list
-pub in_map : {X Y : Type 0} (f : X → Y) (xs : List X) (y : Y) → IsOneOf (map f xs) y → (x : X) × IsOneOf xs x × (f x ≡ y)
-in_map f [] y one = absurd one
-in_map f (x ∷ xs) y one = elim one [
-  | inl same ↦ (x, inl refl, same)
-  | inr more ↦ let rest = in_map f xs y more in (rest.0, inr rest.1, rest.2)
-]
-
--- the flight of a commit is one of the flights, and has its number
 pub flight_found : (state : MachineState) (commit : ℕ) (flight : Flight) → flight_of state commit ≡ Some flight → IsOneOf state.flights flight × (flight.commit ≡ commit)
 flight_found state commit flight found = let there = found_in (λ (other : Flight). nat_eq other.commit commit) state.flights flight found in (there.0, eqb-true _ _ there.1)
 
 -- the fsyncs that a crash keeps are those of flights
 pub kept_flush : (state : MachineState) (kept : List ℕ) (flush : Flush) → IsOneOf (kept_of state kept) flush → (flight : Flight) × IsOneOf state.flights flight × (flight.flush ≡ flush)
 kept_flush state kept flush one =
-    let from = in_map (λ (flight : Flight). flight.flush) _ flush one in
+    let from = from_map (λ (flight : Flight). flight.flush) _ flush one in
     (from.0, (in_filter _ state.flights from.0 from.1).0, from.2)
 
 -- flights that are left have different numbers
@@ -97,7 +89,7 @@ apart_filter w (flight ∷ flights) apart =
 apart_opened : (commit : ℕ) (flights : List Flight) → AreApart flights → AreApart (map (opened_for commit) flights)
 apart_opened commit [] apart = tt
 apart_opened commit (flight ∷ flights) apart =
-    (λ other one same. let from = in_map (opened_for commit) flights other one in apart.0 from.0 from.1 (ap (λ (f : Flight). f.commit) from.2 ∙ same), apart_opened commit flights apart.1)
+    (λ other one same. let from = from_map (opened_for commit) flights other one in apart.0 from.0 from.1 (ap (λ (f : Flight). f.commit) from.2 ∙ same), apart_opened commit flights apart.1)
 
 -- and with one more of another number
 apart_more : (flights : List Flight) (flight : Flight) → AreApart flights → ((other : Flight) → IsOneOf flights other → other.commit ≢ flight.commit) → AreApart (flights ++ flight ∷ [])
@@ -189,8 +181,8 @@ module _ (first : TreeState) where
     start = is.start;
     legal = is.legal;
     cuts = is.cuts;
-    stamps = λ flight one. let from = in_map (opened_for commit) old.flights flight one in subst (λ (f : Flight). f.flush.stamp ≤ length old.history) from.2 (is.stamps from.0 from.1);
-    used = λ flight one. let from = in_map (opened_for commit) old.flights flight one in subst (λ (f : Flight). IsOneOf old.used f.commit) from.2 (is.used from.0 from.1);
+    stamps = λ flight one. let from = from_map (opened_for commit) old.flights flight one in subst (λ (f : Flight). f.flush.stamp ≤ length old.history) from.2 (is.stamps from.0 from.1);
+    used = λ flight one. let from = from_map (opened_for commit) old.flights flight one in subst (λ (f : Flight). IsOneOf old.used f.commit) from.2 (is.used from.0 from.1);
     apart = apart_opened commit old.flights is.apart;
   }
 

@@ -1,7 +1,8 @@
 -- A search through a list for one that is such.
 use Rattle.std.proofs.Common.{◌≡◌, ℕ, ◌+◌, ◌<◌, ◌≤◌, ◌↔◌, true, false, List, length, take, get_or, inl, inr, sym, subst}
+use Rattle.std.proofs.lemmas.List.{take_all}
 use Rattle.flush_core.specs.Broken.{SomeIs}
-use Rattle.flush_core.proofs.Listed.{one_at, one_more, take_whole}
+use Rattle.flush_core.proofs.Listed.{one_at, one_more}
 
 -- one that is such was found at a place
 pub found : {X : Type 0} (Is : X → Type 0) (xs : List X) (i : ℕ) (d x : X) → i < length xs → x ≡ get_or xs i d → Is x → SomeIs xs Is
@@ -16,7 +17,7 @@ none_more Is xs i d v lt is none not (x, one, such) = elim (one_more xs i d v x 
 
 -- where none of as many as there are is such, none is
 pub none_of_all : {X : Type 0} (Is : X → Type 0) (xs : List X) (i : ℕ) → length xs ≤ i → (SomeIs (take i xs) Is → ⊥) → SomeIs xs Is → ⊥
-none_of_all Is xs i le none some = none (subst (λ l. SomeIs l Is) (sym (take_whole i xs le)) some)
+none_of_all Is xs i le none some = none (subst (λ l. SomeIs l Is) (sym (take_all i xs le)) some)
 
 pub none_at_all : {X : Type 0} (Is : X → Type 0) (xs : List X) (i : ℕ) → length xs ≤ i → (SomeIs (take i xs) Is → ⊥) → (false ≡ true) ↔ SomeIs xs Is
 none_at_all Is xs i le none = (λ e. absurd (differ e), λ some. absurd (none_of_all Is xs i le none some))

@@ -13,7 +13,8 @@ use Rattle.flush_core.specs.Machine.{Flight, MachineState}
 use Rattle.flush_core.specs.Runs.{IsRun, IsBegun, AreAlive, AreApart, view_of, IsOneCommit}
 use Rattle.flush_core.proofs.Along.{in_left, in_right}
 use Rattle.flush_core.proofs.Views.{below, AreAlike, IsLive, IsHeld, Agree}
-use Rattle.flush_core.proofs.RunFacts.{IsPrefix, IsSteady, prefix_later, steady_at, cuts_stay_low, in_map}
+use Rattle.flush_core.proofs.Listed.{from_map}
+use Rattle.flush_core.proofs.RunFacts.{IsPrefix, IsSteady, prefix_later, steady_at, cuts_stay_low}
 use Rattle.flush_core.proofs.Held.{live_whole, flights_hold, held_at}
 use Rattle.flush_core.proofs.Alike.{inodes_alike}
 use Rattle.flush_core.proofs.OneCommit.{alike_on, alike_then}
@@ -155,4 +156,4 @@ module _ (first : TreeState) (events : List Event) (states : ℕ → MachineStat
       apart_both = apart_last split.before split.last (subst AreApart split.whole apart)
 
       from : (f : Flush) → IsOneOf flushes f → (g : Flight) × IsOneOf (states place).flights g × (g.flush ≡ f)
-      from f it = let found = in_map (λ (g : Flight). g.flush) split.before f (subst (λ (l : List Flush). IsOneOf l f) split.images it) in (found.0, before_among found.0 found.1, found.2)
+      from f it = let found = from_map (λ (g : Flight). g.flush) split.before f (subst (λ (l : List Flush). IsOneOf l f) split.images it) in (found.0, before_among found.0 found.1, found.2)

@@ -1,7 +1,7 @@
 -- What a story keeps as calls come.
 use Rattle.std.proofs.Common.{◌≡◌, ◌↔◌, ℕ, ◌+◌, ◌<◌, Bool, true, false, cond, ◌&&◌, not, List, [], ◌∷◌, ◌++◌, length, take, get_or, Option, Some, None, IsSome, IsTrue, inl, inr, refl, sym, ap, subst, ◌∙◌, arith}
 use Rattle.std.specs.Prelude.{filter, fold}
-use Rattle.std.proofs.lemmas.List.{take_more, length-take-le}
+use Rattle.std.proofs.lemmas.List.{take_more, length-take-le, take_all}
 use Rattle.sfs_base.specs.declared.numbers.CoreId.{CoreId}
 use Rattle.sfs_tree.specs.declared.call.Call.{Call}
 use Rattle.sfs_tree.specs.declared.call.Call.TheVariants as call
@@ -30,13 +30,12 @@ use Rattle.flush_core.proofs.Along.{in_either}
 use Rattle.flush_core.proofs.CutRows.{directories_are_cut}
 use Rattle.flush_core.proofs.Grown.{grown_past}
 use Rattle.flush_core.proofs.Legal.{comes_at}
-use Rattle.flush_core.proofs.Listed.{take_whole}
 use Rattle.flush_core.proofs.Own.{both}
 
 -- the tree of a past that is ready is sound, and has the first tree's cores
 module _ (first : TreeState) (entries : List Entry) (past : Past) (ready : IsReady first entries past) where
   pub now_sound : IsSoundTree (tree_after first entries)
-  now_sound = subst (λ (h : List Entry). IsSoundTree (tree_after first h)) (take_whole (length entries) entries (omega arith)) (histories_keep_sound first entries (length entries) ready.sound ready.legal)
+  now_sound = subst (λ (h : List Entry). IsSoundTree (tree_after first h)) (take_all (length entries) entries (omega arith)) (histories_keep_sound first entries (length entries) ready.sound ready.legal)
 
   pub past_sound : IsSound past.tree
   past_sound = subst IsSound (sym ready.is_past.tree) now_sound.sound

@@ -1,7 +1,6 @@
 use Rattle.std.proofs.Common.{◌≡◌, ◌++◌, ◌∷◌, [], true, false, map, take, get_or, sym, subst, ◌∙◌}
-use Rattle.std.proofs.lemmas.List.{take_more}
+use Rattle.std.proofs.lemmas.List.{take_more, take_all}
 use Rattle.flush_core.specs.Flights.{flight_as}
-use Rattle.flush_core.proofs.Listed.{take_whole}
 use Rattle.flush_core.proofs.Least.{IsLeastOf, least_passed, least_more, least_in}
 use Rattle.flush_core.proofs.flight.least_taken.Goals.{then-is_taken, else-is_taken}
 use Rattle.flush_core.proofs.flight.least_taken.Goals as goal
@@ -21,4 +20,4 @@ loop-node-preserved c = subst (λ l. IsLeastOf (map flight_as c.args.flights.now
 
 pub returns : goal.returns
 returns c = least_in (map flight_as c.args.flights.now) c.args.nodes.now c.in_ok-list.list.items c.loop-node.least c.in_ok-list.ensures
-    (subst (λ l. IsLeastOf (map flight_as c.args.flights.now) l c.loop-node.least) (take_whole c.loop-node.node-index c.deref-node-items.result.now c.loop-node-test.false ∙ c.deref-node-items.ensures.value) c.loop-node.invariant)
+    (subst (λ l. IsLeastOf (map flight_as c.args.flights.now) l c.loop-node.least) (take_all c.loop-node.node-index c.deref-node-items.result.now c.loop-node-test.false ∙ c.deref-node-items.ensures.value) c.loop-node.invariant)
