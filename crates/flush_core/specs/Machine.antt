@@ -1,14 +1,13 @@
 -- The machine of calls and commits: its states, why it refuses an event, and what an event does.
 use Rattle.std.specs.Prelude.{◌≡◌, ◌≢◌, ◌↔◌, ℕ, ◌<◌, ◌≤◌, ◌==◌, Bool, true, false, not, ◌||◌, List, [], ◌∷◌, ◌++◌, length, map, filter, Option, Some, None, is_some}
 use Rattle.std.specs.List.{find, list_any}
-use Rattle.std.specs.Option.{option_map_or}
+use Rattle.std.specs.Option.{option_map_or, option_or}
 use Rattle.std.specs.FinMap.{get, empty}
 use Rattle.sfs_tree.specs.declared.history.Entry.{Entry}
 use Rattle.sfs_tree.specs.Tree.{TreeState}
 use Rattle.sfs_tree.specs.Step.{IsReadable}
 use Rattle.sfs_tree.specs.Verdict.{verdict}
 use Rattle.sfs_tree.specs.History.{tree_after, MayCome}
-use Rattle.sfs_tree.specs.NameRow.{either}
 use Rattle.flush_core.specs.declared.event.Event.{Event}
 use Rattle.flush_core.specs.declared.event.Event.TheVariants as event
 use Rattle.flush_core.specs.declared.event.Refused.{Refused}
@@ -171,7 +170,7 @@ Moves old (event.Durable commit) new =
     (flight : Flight) × (raised : MachineState) × (flight_of old commit ≡ Some flight) × IsRaisedBy old (flight.flush ∷ []) raised
     × (new ≡ record raised { flights = filter (λ other. not (other.commit == commit)) old.flights })
 -- the first commit that was left in doubt is kept in mind; its flight stays
-Moves old (event.Fail commit) new = new ≡ record old { failed = either old.failed (Some commit) }
+Moves old (event.Fail commit) new = new ≡ record old { failed = option_or old.failed (Some commit) }
 -- the fsyncs of the flights that are kept raise the cut, no flight is left, and the run ends
 Moves old (event.Crash kept) new =
     (raised : MachineState) × IsRaisedBy old (kept_of old kept.items) raised × (new ≡ record raised { flights = []; crashed = true })

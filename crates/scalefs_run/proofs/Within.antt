@@ -4,7 +4,8 @@ use Rattle.std.proofs.lemmas.Bool.Decides.{nat_tests}
 use Rattle.std.specs.List.{find, All, AllByRecursion}
 use Rattle.std.proofs.lemmas.List.Elements.{All-from_recursion}
 use Rattle.script.specs.declared.commands.Line.{Line}
-use Rattle.scalefs_run.specs.Beyond.{beyond, beyond_in, first_answer, IsWithin}
+use Rattle.scalefs_run.specs.Beyond.{beyond, beyond_in, IsWithin}
+use Rattle.std.specs.Option.{option_or}
 
 phase_within : (cores : ℕ) (phase : List Line) → beyond_in cores phase ≡ None → IsWithin cores phase
 phase_within cores [] none = tt
@@ -20,7 +21,7 @@ phase_within cores (line ∷ phase) none =
 within_all : (cores : ℕ) (phases : List (List Line)) → beyond cores phases ≡ None → AllByRecursion (IsWithin cores) phases
 within_all cores [] none = tt
 within_all cores (phase ∷ phases) none =
-    elim (beyond_in cores phase) as (λ o. beyond_in cores phase ≡ o → first_answer o (beyond cores phases) ≡ None → AllByRecursion (IsWithin cores) (phase ∷ phases)) [
+    elim (beyond_in cores phase) as (λ o. beyond_in cores phase ≡ o → option_or o (beyond cores phases) ≡ None → AllByRecursion (IsWithin cores) (phase ∷ phases)) [
       | Some worker ↦ λ o e. absurd (let never : Some worker ≡ None = e in cc)
       | None ↦ λ o e. (phase_within cores phase o, within_all cores phases e)
     ] refl none

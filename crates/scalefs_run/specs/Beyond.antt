@@ -1,5 +1,6 @@
 -- Workers for which there is no core.
 use Rattle.std.specs.Prelude.{◌≡◌, ℕ, ◌<◌, List, [], ◌∷◌, Option, Some, None, option_map, nat_le}
+use Rattle.std.specs.Option.{option_or}
 use Rattle.std.specs.List.{find, AllByRecursion}
 use Rattle.script.specs.declared.commands.Line.{Line}
 
@@ -7,15 +8,10 @@ use Rattle.script.specs.declared.commands.Line.{Line}
 abbrev pub beyond_in : ℕ → List Line → Option ℕ
 beyond_in cores phase = option_map (λ line. line.worker) (find (λ line. nat_le cores line.worker) phase)
 
--- the first of two answers
-abbrev pub first_answer : Option ℕ → Option ℕ → Option ℕ
-first_answer (Some worker) later = Some worker
-first_answer None later = later
-
 -- the worker of the first line of a script that has no core
 abbrev pub beyond : ℕ → List (List Line) → Option ℕ
 beyond cores [] = None
-beyond cores (phase ∷ phases) = first_answer (beyond_in cores phase) (beyond cores phases)
+beyond cores (phase ∷ phases) = option_or (beyond_in cores phase) (beyond cores phases)
 
 -- each line's worker has a core
 abbrev pub IsWithin : ℕ → List Line → Type 0

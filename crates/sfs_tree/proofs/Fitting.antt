@@ -12,7 +12,8 @@ use Rattle.sfs_tree.specs.declared.reply.Reply.TheVariants as reply
 use Rattle.sfs_tree.specs.Tree.{TreeState, row_of, is_alive, is_directory, row_count, lies_below, kind_of, links_of, bytes_of, names_of}
 use Rattle.sfs_tree.specs.Names.{with_kinds}
 use Rattle.sfs_tree.specs.Effect.{Effect, Adds, Removes, Moves, Edits, Puts, Resizes}
-use Rattle.sfs_tree.specs.Verdict.{LARGEST_FILE, Verdict, refused, answered, done, or_else, first_of_two, directory_fault, file_fault, make_fault, link_fault, node_fault, size_of, unlink_row, rmdir_row, place_fault, move_fault, names_child, move_row, verdict, make_node, look_row, write_bytes}
+use Rattle.sfs_tree.specs.Verdict.{LARGEST_FILE, Verdict, refused, answered, done, or_else, directory_fault, file_fault, make_fault, link_fault, node_fault, size_of, unlink_row, rmdir_row, place_fault, move_fault, names_child, move_row, verdict, make_node, look_row, write_bytes}
+use Rattle.std.specs.Option.{option_or}
 use Rattle.sfs_tree.specs.Sound.{Above, IsSound, IsNumbered}
 use Rattle.sfs_tree.specs.Fits.{Fits, FitsTree, FitsEdits, MayHold, HasNoRows, Lacks}
 use Rattle.sfs_tree.proofs.RowFacts.{alive_named, no_rows}
@@ -41,7 +42,7 @@ unless_done tree core false code effect h = h refl
 answer_fits : (tree : TreeState) (core : ℕ) (fault : Option Code) (r : Reply) → VerdictFits tree core (or_else fault (answered r))
 answer_fits tree core fault r = or_else_fits tree core fault (answered r) (λ _. tt)
 
-pub neither : (a b : Option Code) → first_of_two a b ≡ None → (a ≡ None) × (b ≡ None)
+pub neither : (a b : Option Code) → option_or a b ≡ None → (a ≡ None) × (b ≡ None)
 neither (Some code) b e = cc
 neither None b e = (refl, e)
 

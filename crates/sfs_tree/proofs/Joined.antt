@@ -12,7 +12,7 @@ use Rattle.std.proofs.lemmas.List.Sums.{sum_by-cons, count_by-le-length}
 use Rattle.std.proofs.lemmas.List.{get_or-set_same, get_or-set_other, length-map, length-append}
 use Rattle.sfs_base.specs.Name.{bucket}
 use Rattle.sfs_tree.specs.Order.{name_cmp, Key, key_cmp}
-use Rattle.sfs_tree.specs.NameRow.{either}
+use Rattle.std.specs.Option.{option_or}
 use Rattle.sfs_tree.specs.Buckets.{Bucket, bucket_at, in_directory, rows_from, joined, IsPlaced}
 
 pub key_cmp_total : IsTotalOrder key_cmp
@@ -60,9 +60,9 @@ pub count-cons : {X : Type 0} (p : X → Bool) (x : X) (xs : List X) → count_b
 count-cons p x xs = sum_by-cons (λ x. cond (p x) 1 0) x xs
 
 module _ {K X : Type 0} (R : K → K → Ordering) where
-  pub find-append : (q : K) (es fs : List (K × X)) → find R q (es ++ fs) ≡ either (find R q es) (find R q fs)
+  pub find-append : (q : K) (es fs : List (K × X)) → find R q (es ++ fs) ≡ option_or (find R q es) (find R q fs)
   find-append q [] fs = refl
-  find-append q (e ∷ es) fs = elim (eq_by_cmp R q e.0) as (λ b. cond b (Some e.1) (find R q (es ++ fs)) ≡ either (cond b (Some e.1) (find R q es)) (find R q fs)) [ true ↦ refl | false ↦ find-append q es fs ]
+  find-append q (e ∷ es) fs = elim (eq_by_cmp R q e.0) as (λ b. cond b (Some e.1) (find R q (es ++ fs)) ≡ option_or (cond b (Some e.1) (find R q es)) (find R q fs)) [ true ↦ refl | false ↦ find-append q es fs ]
 
   -- one more entry is counted where its key is new
   pub count-put : (p : K × X → Bool) (k : K) (v : X) (es : List (K × X)) → find R k es ≡ None → count_by p (put R k v es) ≡ count_by p es + cond (p (k, v)) 1 0
@@ -107,7 +107,7 @@ here m place d n e small =
     let d_is : d ≡ place / 8 = omega arith in
     ap (λ b. cond b (find name_cmp n (entries m)) None) (eq-eqb d (place / 8) d_is) ∙ sym (get-entries m n)
 
-either_None : {X : Type 0} (o : Option X) → either o None ≡ o
+either_None : {X : Type 0} (o : Option X) → option_or o None ≡ o
 either_None (Some x) = refl
 either_None None = refl
 
@@ -127,7 +127,7 @@ unfolding Placed_from
 find_before place [] d n h lt = refl
 find_before place (m ∷ ms) d n h lt =
     find-append key_cmp (d, n) (map (in_directory (place / 8)) (entries m)) (rows_from (suc place) ms)
-    ∙ ap (λ o. either o (find key_cmp (d, n) (rows_from (suc place) ms))) (find-in_directory (place / 8) d n (entries m) ∙ elsewhere m place d n (λ some. let e = h zero n some in omega arith) (omega arith))
+    ∙ ap (λ o. option_or o (find key_cmp (d, n) (rows_from (suc place) ms))) (find-in_directory (place / 8) d n (entries m) ∙ elsewhere m place d n (λ some. let e = h zero n some in omega arith) (omega arith))
     ∙ find_before (suc place) ms d n (placed_tail place m ms h) (omega arith)
 
 -- a row is found in the bucket of its name
@@ -136,12 +136,12 @@ unfolding Placed_from
 find_from place [] d n k h e = sym (get-empty name_cmp n)
 find_from place (m ∷ ms) d n zero h e =
     find-append key_cmp (d, n) (map (in_directory (place / 8)) (entries m)) (rows_from (suc place) ms)
-    ∙ ap (λ o. either o (find key_cmp (d, n) (rows_from (suc place) ms))) (find-in_directory (place / 8) d n (entries m) ∙ here m place d n (omega arith) (bucket_small n))
-    ∙ ap (either (get m n)) (find_before (suc place) ms d n (placed_tail place m ms h) (omega arith))
+    ∙ ap (λ o. option_or o (find key_cmp (d, n) (rows_from (suc place) ms))) (find-in_directory (place / 8) d n (entries m) ∙ here m place d n (omega arith) (bucket_small n))
+    ∙ ap (option_or (get m n)) (find_before (suc place) ms d n (placed_tail place m ms h) (omega arith))
     ∙ either_None (get m n)
 find_from place (m ∷ ms) d n (suc k) h e =
     find-append key_cmp (d, n) (map (in_directory (place / 8)) (entries m)) (rows_from (suc place) ms)
-    ∙ ap (λ o. either o (find key_cmp (d, n) (rows_from (suc place) ms))) (find-in_directory (place / 8) d n (entries m) ∙ elsewhere m place d n (λ some. let b = h zero n some in omega arith) (omega arith))
+    ∙ ap (λ o. option_or o (find key_cmp (d, n) (rows_from (suc place) ms))) (find-in_directory (place / 8) d n (entries m) ∙ elsewhere m place d n (λ some. let b = h zero n some in omega arith) (omega arith))
     ∙ find_from (suc place) ms d n k (placed_tail place m ms h) (omega arith)
 
 pub other_key : (k q : Key) → k ≢ q → eq_by_cmp key_cmp k q ≡ false

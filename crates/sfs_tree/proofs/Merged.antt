@@ -8,7 +8,8 @@ use Rattle.std.specs.Cmp.Lexicographic.{nat_list_cmp_total}
 use Rattle.std.specs.FinMap.{find, is_sorted}
 use Rattle.std.specs.FinMap.Entries.{below_all}
 use Rattle.sfs_tree.specs.Order.{name_cmp}
-use Rattle.sfs_tree.specs.NameRow.{either, both_lists, put_among}
+use Rattle.sfs_tree.specs.NameRow.{both_lists, put_among}
+use Rattle.std.specs.Option.{option_or}
 use Rattle.sfs_tree.proofs.Search.{both_first, both_second, both_of, is_less, below_if_less}
 
 -- no list has nothing to add
@@ -40,12 +41,12 @@ apart_less rows other others apart = λ name some. none_tail other others name (
 
 -- what follows a row, once it is joined with the other rows, finds what either has
 abbrev FindsBoth : List ℕ → List (List ℕ × ℕ) → (List (List ℕ × ℕ) → List (List ℕ × ℕ)) → Type 0
-FindsBoth name rows follow = (others : List (List ℕ × ℕ)) → Apart rows others → find name_cmp name (follow others) ≡ either (find name_cmp name rows) (find name_cmp name others)
+FindsBoth name rows follow = (others : List (List ℕ × ℕ)) → Apart rows others → find name_cmp name (follow others) ≡ option_or (find name_cmp name rows) (find name_cmp name others)
 
-find_first : (name : List ℕ) (row : List ℕ × ℕ) (rows : List (List ℕ × ℕ)) (follow : List (List ℕ × ℕ) → List (List ℕ × ℕ)) → FindsBoth name rows follow → (others : List (List ℕ × ℕ)) → Apart (row ∷ rows) others → cond (eq_by_cmp name_cmp name row.0) (Some row.1) (find name_cmp name (follow others)) ≡ either (cond (eq_by_cmp name_cmp name row.0) (Some row.1) (find name_cmp name rows)) (find name_cmp name others)
+find_first : (name : List ℕ) (row : List ℕ × ℕ) (rows : List (List ℕ × ℕ)) (follow : List (List ℕ × ℕ) → List (List ℕ × ℕ)) → FindsBoth name rows follow → (others : List (List ℕ × ℕ)) → Apart (row ∷ rows) others → cond (eq_by_cmp name_cmp name row.0) (Some row.1) (find name_cmp name (follow others)) ≡ option_or (cond (eq_by_cmp name_cmp name row.0) (Some row.1) (find name_cmp name rows)) (find name_cmp name others)
 find_first name row rows follow h others apart =
     ap (cond (eq_by_cmp name_cmp name row.0) (Some row.1)) (h others (apart_tail row rows others apart))
-    ∙ elim (eq_by_cmp name_cmp name row.0) as (λ b. cond b (Some row.1) (either (find name_cmp name rows) (find name_cmp name others)) ≡ either (cond b (Some row.1) (find name_cmp name rows)) (find name_cmp name others)) [ true ↦ refl | false ↦ refl ]
+    ∙ elim (eq_by_cmp name_cmp name row.0) as (λ b. cond b (Some row.1) (option_or (find name_cmp name rows) (find name_cmp name others)) ≡ option_or (cond b (Some row.1) (find name_cmp name rows)) (find name_cmp name others)) [ true ↦ refl | false ↦ refl ]
 
 differ : {b : Bool} → b ≡ true → b ≡ false → ⊥
 differ p q = cc
@@ -61,18 +62,18 @@ find-put_among : (name : List ℕ) (row : List ℕ × ℕ) (rows : List (List �
 find-put_among name row rows follow h [] apart = find_first name row rows follow h [] apart
 find-put_among name row rows follow h (other ∷ others) apart =
     let rest = find-put_among name row rows follow h others (apart_less (row ∷ rows) other others apart) in
-    elim (is_lt (name_cmp row.0 other.0)) as (λ b. find name_cmp name (cond b (row ∷ follow (other ∷ others)) (other ∷ put_among row follow others)) ≡ either (find name_cmp name (row ∷ rows)) (find name_cmp name (other ∷ others))) [
+    elim (is_lt (name_cmp row.0 other.0)) as (λ b. find name_cmp name (cond b (row ∷ follow (other ∷ others)) (other ∷ put_among row follow others)) ≡ option_or (find name_cmp name (row ∷ rows)) (find name_cmp name (other ∷ others))) [
       | true ↦ find_first name row rows follow h (other ∷ others) apart
       | false ↦
           ap (cond (eq_by_cmp name_cmp name other.0) (Some other.1)) rest
-          ∙ elim (eq_by_cmp name_cmp name other.0) as (λ b. eq_by_cmp name_cmp name other.0 ≡ b → cond b (Some other.1) (either (find name_cmp name (row ∷ rows)) (find name_cmp name others)) ≡ either (find name_cmp name (row ∷ rows)) (cond b (Some other.1) (find name_cmp name others))) [
-            | true ↦ λ t. sym (ap (λ o. either o (Some other.1)) (not_among name (row ∷ rows) other others apart t))
+          ∙ elim (eq_by_cmp name_cmp name other.0) as (λ b. eq_by_cmp name_cmp name other.0 ≡ b → cond b (Some other.1) (option_or (find name_cmp name (row ∷ rows)) (find name_cmp name others)) ≡ option_or (find name_cmp name (row ∷ rows)) (cond b (Some other.1) (find name_cmp name others))) [
+            | true ↦ λ t. sym (ap (λ o. option_or o (Some other.1)) (not_among name (row ∷ rows) other others apart t))
             | false ↦ λ t. refl
           ] refl
     ]
 
 -- the row with the name is found in the first list or in the second
-pub find-both_lists : (name : List ℕ) (rows others : List (List ℕ × ℕ)) → Apart rows others → find name_cmp name (both_lists rows others) ≡ either (find name_cmp name rows) (find name_cmp name others)
+pub find-both_lists : (name : List ℕ) (rows others : List (List ℕ × ℕ)) → Apart rows others → find name_cmp name (both_lists rows others) ≡ option_or (find name_cmp name rows) (find name_cmp name others)
 find-both_lists name [] others apart = refl
 find-both_lists name (row ∷ rows) others apart = find-put_among name row rows (both_lists rows) (λ others apart. find-both_lists name rows others apart) others apart
 

@@ -10,7 +10,7 @@ use Rattle.std.specs.FinMap.{FinMap, find, entries, get, len, is_sorted, get-fro
 use Rattle.std.specs.FinMap.Entries.{below_all}
 use Rattle.sfs_base.specs.Name.{bucket}
 use Rattle.sfs_tree.specs.Order.{name_cmp, Key, key_cmp}
-use Rattle.sfs_tree.specs.NameRow.{either}
+use Rattle.std.specs.Option.{option_or}
 use Rattle.sfs_tree.specs.Tree.{name_row, names_where, names_of, bucket_rows}
 use Rattle.sfs_tree.specs.Buckets.{Bucket, bucket_at, joined, stands_in, IsPlaced}
 use Rattle.sfs_tree.proofs.Joined.{same_key, name_cmp-IsAntisymmetric, is_equal, none_there, get-joined, bucket_small, count-cons}
@@ -130,17 +130,17 @@ get-own_bucket d n rows =
     ∙ ap (λ b. cond b (get rows (d, n)) None) (eq-eqb (bucket n) (bucket n) refl)
 
 -- what the buckets up to one have, and what it has, is what the buckets up to the next have
-pub next_bucket : (d number : ℕ) (n : List ℕ) (rows : FinMap key_cmp ℕ) → either (get (bucket_rows d number rows) n) (cond (nat_lt (bucket n) number) (get rows (d, n)) None) ≡ cond (nat_lt (bucket n) (number + 1)) (get rows (d, n)) None
+pub next_bucket : (d number : ℕ) (n : List ℕ) (rows : FinMap key_cmp ℕ) → option_or (get (bucket_rows d number rows) n) (cond (nat_lt (bucket n) number) (get rows (d, n)) None) ≡ cond (nat_lt (bucket n) (number + 1)) (get rows (d, n)) None
 next_bucket d number n rows =
-    ap (λ o. either o (cond (nat_lt (bucket n) number) (get rows (d, n)) None)) (get-names_where d (λ name. nat_eq (bucket name) number) rows n)
+    ap (λ o. option_or o (cond (nat_lt (bucket n) number) (get rows (d, n)) None)) (get-names_where d (λ name. nat_eq (bucket name) number) rows n)
     ∙ by_place (bucket n) number (get rows (d, n))
   where
-    by_place : (b number : ℕ) (o : Option ℕ) → either (cond (nat_eq b number) o None) (cond (nat_lt b number) o None) ≡ cond (nat_lt b (number + 1)) o None
+    by_place : (b number : ℕ) (o : Option ℕ) → option_or (cond (nat_eq b number) o None) (cond (nat_lt b number) o None) ≡ cond (nat_lt b (number + 1)) o None
     by_place b number o =
-        elim (nat_eq b number) as (λ t. nat_eq b number ≡ t → either (cond t o None) (cond (nat_lt b number) o None) ≡ cond (nat_lt b (number + 1)) o None) [
+        elim (nat_eq b number) as (λ t. nat_eq b number ≡ t → option_or (cond t o None) (cond (nat_lt b number) o None) ≡ cond (nat_lt b (number + 1)) o None) [
           | true ↦ λ t.
               let same = eqb-true _ _ t in
-              ap (λ u. either o (cond u o None)) (not_below b number (omega arith)) ∙ either_itself o ∙ sym (ap (λ u. cond u o None) (is_below b (number + 1) (omega arith)))
+              ap (λ u. option_or o (cond u o None)) (not_below b number (omega arith)) ∙ either_itself o ∙ sym (ap (λ u. cond u o None) (is_below b (number + 1) (omega arith)))
           | false ↦ λ t. ap (λ u. cond u o None) (as_far b number (eqb-false _ _ t))
         ] refl
       where
@@ -150,7 +150,7 @@ next_bucket d number n rows =
         not_below : (a c : ℕ) → c ≤ a → nat_lt a c ≡ false
         not_below a c le = elim (nat_lt a c) as (λ t. nat_lt a c ≡ t → t ≡ false) [ true ↦ λ e. absurd (let lt = ltb-true _ _ e in omega arith) | false ↦ λ _. refl ] refl
 
-        either_itself : (o : Option ℕ) → either o None ≡ o
+        either_itself : (o : Option ℕ) → option_or o None ≡ o
         either_itself (Some x) = refl
         either_itself None = refl
 

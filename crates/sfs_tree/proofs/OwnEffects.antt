@@ -10,7 +10,8 @@ use Rattle.sfs_tree.specs.declared.reply.Reply.TheVariants as reply
 use Rattle.sfs_tree.specs.Names.{with_kinds}
 use Rattle.sfs_tree.specs.Tree.{TreeState, row_of, is_directory, row_count, kind_of, links_of, bytes_of, names_of}
 use Rattle.sfs_tree.specs.Effect.{Effect, Stays, Adds, Removes, Moves, Edits, Puts, Resizes}
-use Rattle.sfs_tree.specs.Verdict.{LARGEST_FILE, Verdict, refused, answered, done, or_else, first_of_two, directory_fault, file_fault, node_fault, size_of, make_fault, link_fault, unlink_row, rmdir_row, move_fault, names_child, move_row, verdict, make_node, look_row, write_bytes, trunc_file}
+use Rattle.sfs_tree.specs.Verdict.{LARGEST_FILE, Verdict, refused, answered, done, or_else, directory_fault, file_fault, node_fault, size_of, make_fault, link_fault, unlink_row, rmdir_row, move_fault, names_child, move_row, verdict, make_node, look_row, write_bytes, trunc_file}
+use Rattle.std.specs.Option.{option_or}
 use Rattle.sfs_tree.specs.Footprints.{own_effect, DoesNothing, DoesThis, DoesItsOwn}
 
 abbrev DoesOr : Option Effect → Option Kind → Verdict → Type 0
@@ -73,7 +74,7 @@ module _ (tree : TreeState) (core : ℕ) where
   does_its_own (call.Unlink directory name) = or_else_does _ None (directory_fault tree directory.0) (unlink_row tree directory.0 name (row_of tree directory.0 name)) (unlink_does directory.0 name (row_of tree directory.0 name))
   does_its_own (call.Rmdir directory name) = or_else_does _ None (directory_fault tree directory.0) (rmdir_row tree directory.0 name (row_of tree directory.0 name)) (rmdir_does directory.0 name (row_of tree directory.0 name))
   does_its_own (call.Rename directory name to_directory to_name) =
-      or_else_does _ None (first_of_two (directory_fault tree directory.0) (directory_fault tree to_directory.0)) (move_row tree directory.0 name to_directory.0 to_name (row_of tree directory.0 name)) (move_does directory.0 name to_directory.0 to_name (row_of tree directory.0 name))
+      or_else_does _ None (option_or (directory_fault tree directory.0) (directory_fault tree to_directory.0)) (move_row tree directory.0 name to_directory.0 to_name (row_of tree directory.0 name)) (move_does directory.0 name to_directory.0 to_name (row_of tree directory.0 name))
   does_its_own (call.Write file at bytes) = or_else_does _ None (file_fault tree file.0) (write_bytes file.0 at bytes) (write_does file.0 at bytes)
   does_its_own (call.Read file at count) = asked (file_fault tree file.0) (reply.Bytes (take count (drop at (bytes_of tree file.0))))
   does_its_own (call.Trunc file size) =

@@ -1,7 +1,7 @@
 -- Trees that agree on what a call reads have one verdict.
 use Rattle.std.proofs.Common.{◌≡◌, ℕ, ◌+◌, ◌*◌, Bool, true, false, cond, not, ◌||◌, ◌&&◌, T, List, [], ◌∷◌, map, length, take, drop, Option, Some, None, is_some, refl, sym, ap, ap₂, subst, ◌∙◌, arith, count_by, filter_map, nat_eq, nat_le}
 use borrow.Author.Tests.{eqb-true, eqb-false}
-use Rattle.std.specs.Option.{option_map_or}
+use Rattle.std.specs.Option.{option_map_or, option_or}
 use Rattle.std.specs.List.{cons_option}
 use Rattle.std.specs.Ordering.{is_eq}
 use Rattle.std.specs.Cmp.{tied_itself}
@@ -17,7 +17,7 @@ use Rattle.sfs_tree.specs.Order.{Key, name_cmp}
 use Rattle.sfs_tree.specs.Names.{with_kinds}
 use Rattle.sfs_tree.specs.Tree.{TreeState, Node, row_of, is_alive, is_directory, is_directory_kind, kind_of, bytes_of, count_of, row_count, links_of, lies_below, names_of, made_by, next_number, holds_directory, name_row}
 use Rattle.sfs_tree.specs.Effect.{Adds, Removes, Moves}
-use Rattle.sfs_tree.specs.Verdict.{BUCKET_ROWS, MOST_LINKS, Verdict, refused, answered, done, or_else, first_of_two, directory_fault, file_fault, node_fault, size_of, is_full, make_fault, link_fault, unlink_row, rmdir_row, place_fault, names_child, move_row, look_row, write_bytes, trunc_file}
+use Rattle.sfs_tree.specs.Verdict.{BUCKET_ROWS, MOST_LINKS, Verdict, refused, answered, done, or_else, directory_fault, file_fault, node_fault, size_of, is_full, make_fault, link_fault, unlink_row, rmdir_row, place_fault, names_child, move_row, look_row, write_bytes, trunc_file}
 use Rattle.sfs_tree.specs.Readings.{SameKind, SameNode, SameBucket, SameRows, SameCount, SameKindsIn, SamePlace, SameNumbers, SameMove, SameStat}
 use Rattle.sfs_tree.specs.Laws.{IsSoundTree, ReadingsDecide, BucketsMakeRows}
 use Rattle.sfs_tree.proofs.Joined.{name_cmp-IsAntisymmetric, bucket_small, count-cons}
@@ -91,7 +91,7 @@ module _ (tree other : TreeState) where
 
   make_same : (core directory : ℕ) (name : List ℕ) → SamePlace tree other directory name → SameNumbers tree other core → make_fault tree core directory name ≡ make_fault other core directory name
   make_same core d n same numbers =
-      ap₂ first_of_two (same_directory_fault d same.node)
+      ap₂ option_or (same_directory_fault d same.node)
       (ap₂ (λ o f. cond (is_some o) (Some Exists) (cond f (Some DirFull) (cond (nat_le tree.share (made_by tree core)) (Some NoNodes) None))) (same_row d n same.rows) (same_full d n same.rows)
       ∙ ap₂ (λ s m. cond (is_some (row_of other d n)) (Some Exists) (cond (is_full other d n) (Some DirFull) (cond (nat_le s m) (Some NoNodes) None))) numbers.share numbers.made)
 
@@ -109,11 +109,11 @@ module _ (tree other : TreeState) where
       ] refl)
     where
       linked : TreeState → Option Code
-      linked t = first_of_two (directory_fault t d) (cond (is_some (row_of t d n)) (Some Exists) (cond (nat_le MOST_LINKS (count_of t.rows f)) (Some TooManyLinks) (cond (is_full t d n) (Some DirFull) None)))
+      linked t = option_or (directory_fault t d) (cond (is_some (row_of t d n)) (Some Exists) (cond (nat_le MOST_LINKS (count_of t.rows f)) (Some TooManyLinks) (cond (is_full t d n) (Some DirFull) None)))
 
       same_linked : count_of tree.rows f ≡ count_of other.rows f → linked tree ≡ linked other
       same_linked count =
-          ap₂ first_of_two (same_directory_fault d same.node)
+          ap₂ option_or (same_directory_fault d same.node)
           (ap₂ (λ o c. cond (is_some o) (Some Exists) (cond (nat_le MOST_LINKS c) (Some TooManyLinks) (cond (is_full tree d n) (Some DirFull) None))) (same_row d n same.rows) count
           ∙ ap (λ b. cond (is_some (row_of other d n)) (Some Exists) (cond (nat_le MOST_LINKS (count_of other.rows f)) (Some TooManyLinks) (cond b (Some DirFull) None))) (same_full d n same.rows))
 
@@ -212,7 +212,7 @@ readings_decide tree other core (call.Link f d n) s t same = ap (λ fault. or_el
 readings_decide tree other core (call.Unlink d n) s t same = at_row tree other d.0 n (unlink_row tree d.0 n) (unlink_row other d.0 n) same.0 (unlink_same tree other d.0 n same.1)
 readings_decide tree other core (call.Rmdir d n) s t same = at_row tree other d.0 n (rmdir_row tree d.0 n) (rmdir_row other d.0 n) same.0 (rmdir_same tree other d.0 n same.1 same.2)
 readings_decide tree other core (call.Rename d n q m) s t same =
-    ap₂ or_else (ap₂ first_of_two (same_directory_fault tree other d.0 same.from.node) (same_directory_fault tree other q.0 same.to.node))
+    ap₂ or_else (ap₂ option_or (same_directory_fault tree other d.0 same.from.node) (same_directory_fault tree other q.0 same.to.node))
     (move_same tree other s t d.0 n q.0 m same (row_of tree d.0 n) refl ∙ ap (move_row other d.0 n q.0 m) (same_row tree other d.0 n same.from.rows))
 readings_decide tree other core (call.Write f at bytes) s t same = ap (λ fault. or_else fault (write_bytes f.0 at bytes)) (same_file_fault tree other f.0 same)
 readings_decide tree other core (call.Read f at count) s t same =

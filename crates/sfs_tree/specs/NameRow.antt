@@ -25,11 +25,6 @@ pub record IsPlaceOf (rows : List (List ℕ × ℕ)) (name : List ℕ) (place : 
   pub before : AllWithin (λ row. name_cmp row.0 name ≡ Less) rows 0 place
   pub behind : AllWithin (λ row. name_cmp row.0 name ≢ Less) rows place (length rows)
 
--- the first answer of two
-abbrev pub either : {X : Type 0} → Option X → Option X → Option X
-either (Some x) later = Some x
-either None later = later
-
 -- a row that comes first or behind some rows of a second list, with all that is to follow it
 abbrev pub put_among : List ℕ × ℕ → (List (List ℕ × ℕ) → List (List ℕ × ℕ)) → List (List ℕ × ℕ) → List (List ℕ × ℕ)
 put_among row follow [] = row ∷ follow []

@@ -1,6 +1,6 @@
 -- What each call answers and does: the table of the calls, the first condition that holds.
 use Rattle.std.specs.Prelude.{ℕ, ◌+◌, ◌==◌, Bool, false, not, ◌||◌, ◌&&◌, List, length, take, drop, Option, Some, None, is_some, nat_le, nat_lt, if◌then◌else◌}
-use Rattle.std.specs.Option.{option_map_or}
+use Rattle.std.specs.Option.{option_map_or, option_or}
 use Rattle.std.specs.FinMap.{len}
 use Rattle.sfs_base.specs.declared.numbers.Kind.{Kind}
 use Rattle.sfs_base.specs.Name.{bucket}
@@ -49,11 +49,6 @@ abbrev pub or_else : Option Code → Verdict → Verdict
 or_else (Some code) verdict = refused code
 or_else None verdict = verdict
 
--- the first of two errors
-abbrev pub first_of_two : Option Code → Option Code → Option Code
-first_of_two (Some code) later = Some code
-first_of_two None later = later
-
 -- why a directory can't be used: it is not alive, or no directory
 abbrev pub directory_fault : TreeState → ℕ → Option Code
 directory_fault tree directory =
@@ -80,7 +75,7 @@ look_row tree (Some child) = answered (reply.Node (record { 0 = child }) (kind_o
 -- Make: the directory's faults; the row exists; its bucket is full; the core has made its share
 abbrev pub make_fault : TreeState → ℕ → ℕ → List ℕ → Option Code
 make_fault tree core directory name =
-    first_of_two (directory_fault tree directory) (
+    option_or (directory_fault tree directory) (
     if is_some (row_of tree directory name) then Some Exists else
     if is_full tree directory name then Some DirFull else
     if nat_le tree.share (made_by tree core) then Some NoNodes else
@@ -100,7 +95,7 @@ abbrev pub link_fault : TreeState → ℕ → ℕ → List ℕ → Option Code
 link_fault tree file directory name =
     if not (is_alive tree file) then Some NoEntry else
     if is_directory tree file then Some NotPermitted else
-    first_of_two (directory_fault tree directory) (
+    option_or (directory_fault tree directory) (
     if is_some (row_of tree directory name) then Some Exists else
     if nat_le MOST_LINKS (count_of tree.rows file) then Some TooManyLinks else
     if is_full tree directory name then Some DirFull else
@@ -187,7 +182,7 @@ verdict tree core (call.Unlink directory name) =
 verdict tree core (call.Rmdir directory name) =
     or_else (directory_fault tree directory.0) (rmdir_row tree directory.0 name (row_of tree directory.0 name))
 verdict tree core (call.Rename directory name to_directory to_name) =
-    or_else (first_of_two (directory_fault tree directory.0) (directory_fault tree to_directory.0))
+    or_else (option_or (directory_fault tree directory.0) (directory_fault tree to_directory.0))
     (move_row tree directory.0 name to_directory.0 to_name (row_of tree directory.0 name))
 verdict tree core (call.Write file at bytes) = or_else (file_fault tree file.0) (write_bytes file.0 at bytes)
 verdict tree core (call.Read file at count) = or_else (file_fault tree file.0) (read_bytes tree file.0 at count)

@@ -124,7 +124,7 @@ impl NameMap {
 }
 
 impl NameMap {
-    ghost use Rattle.sfs_tree.specs.NameRow.{either};
+    ghost use Rattle.std.specs.Option.{option_or};
 
     // Adds rows whose names no row has.
     pub(crate) fn add_rows(&mut self, alloc: Global, rows: &[NameRow]) -> Result<(), NoMemory>
@@ -132,7 +132,7 @@ impl NameMap {
         requires apart { (name : _) → IsSome (finmap.find name_cmp name (map entry_of rows.now))
             → finmap.get self.old name ≡ None }
         ensures { OnOk result ((name : _) → finmap.get self.new name
-            ≡ either (finmap.find name_cmp name (map entry_of rows.now)) (finmap.get self.old name)) }
+            ≡ option_or (finmap.find name_cmp name (map entry_of rows.now)) (finmap.get self.old name)) }
     {
         self.rows = merged(alloc, rows, &self.rows)?;
         Ok(())

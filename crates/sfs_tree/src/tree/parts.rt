@@ -8,7 +8,8 @@ use sfs_base::{Kind, Name, NoMemory, NodeId};
 
 impl Tree {
     ghost use Rattle.sfs_tree.specs.Tree.{row_of, is_alive, is_directory, holder_of, bucket_rows, names_of, bytes_of};
-    ghost use Rattle.sfs_tree.specs.NameRow.{either, number_of};
+    ghost use Rattle.sfs_tree.specs.NameRow.{number_of};
+    ghost use Rattle.std.specs.Option.{option_or};
     ghost use Rattle.sfs_tree.specs.Sound.{IsSound};
     ghost use Rattle.sfs_tree.specs.Least.{IsLeast, NoneFrom, first_behind};
 
@@ -110,7 +111,7 @@ impl Tree {
         requires apart { (name : _) → IsSome (finmap.get (bucket_rows dir.0 number self.now.rows) name)
             → finmap.get names.old name ≡ None }
         ensures { OnOk result ((name : _) → finmap.get names.new name
-            ≡ either (finmap.get (bucket_rows dir.0 number self.now.rows) name) (finmap.get names.old name)) }
+            ≡ option_or (finmap.get (bucket_rows dir.0 number self.now.rows) name) (finmap.get names.old name)) }
     {
         match self.store.bucket(dir.0, number) {
             Some(rows) => names.add_rows(self.alloc, rows.rows()),

@@ -13,7 +13,8 @@ impl Tree {
     ghost use Rattle.sfs_tree.specs.Tree.{row_of, is_directory, lies_below};
     ghost use Rattle.sfs_tree.specs.NameRow.{number_of};
     ghost use Rattle.sfs_tree.specs.Sound.{IsSound};
-    ghost use Rattle.sfs_tree.specs.Verdict.{directory_fault, first_of_two, move_row, move_fault, place_fault};
+    ghost use Rattle.sfs_tree.specs.Verdict.{directory_fault, move_row, move_fault, place_fault};
+    ghost use Rattle.std.specs.Option.{option_or};
     ghost use Rattle.sfs_tree.specs.Step.{IsStep, IsLine};
 
     pub(super) fn rename(
@@ -38,7 +39,7 @@ impl Tree {
 
     // Why one of two directories can't be used.
     fn either_fault(&self, dir: NodeId, to_dir: NodeId) -> Option<Code>
-        ensures { result ≡ first_of_two (directory_fault self.now dir.0) (directory_fault self.now to_dir.0) }
+        ensures { result ≡ option_or (directory_fault self.now dir.0) (directory_fault self.now to_dir.0) }
     {
         match self.directory_fault(dir) {
             Some(code) => Some(code),

@@ -1,7 +1,8 @@
 use Rattle.std.proofs.Common.{◌≡◌, ◌∙◌, List, ℕ, sym, ap, map, IsTrue, subst}
 use Rattle.std.specs.FinMap.{find, get, is_sorted}
 use Rattle.sfs_tree.specs.Order.{name_cmp}
-use Rattle.sfs_tree.specs.NameRow.{entry_of, either, both_lists}
+use Rattle.sfs_tree.specs.NameRow.{entry_of, both_lists}
+use Rattle.std.specs.Option.{option_or}
 use Rattle.sfs_tree.proofs.RowsByName.{is_true, was_true, get-map_of}
 use Rattle.sfs_tree.proofs.Merged.{find-both_lists, sorted-both_lists, Apart}
 use Rattle.sfs_tree.proofs.name_map.NameMap.add_rows.Goals as goal
@@ -29,4 +30,4 @@ returns c = λ name.
     get-map_of c.in_ok-self-inside.field-0.items name (sorted at)
     ∙ ap (find name_cmp name) (rows at)
     ∙ find-both_lists name (map entry_of c.args.rows.now) (map entry_of c.self.inside.rows.items) (apart at)
-    ∙ ap (either (find name_cmp name (map entry_of c.args.rows.now))) (found at name)
+    ∙ ap (option_or (find name_cmp name (map entry_of c.args.rows.now))) (found at name)

@@ -2,7 +2,8 @@ use Rattle.std.proofs.Common.{◌≡◌, ℕ, List, map, IsSome, IsTrue, OnOk, O
 use Rattle.std.specs.FinMap.{get, find, entries_sorted, is_sorted, get-entries, get-empty}
 use Rattle.sfs_tree.specs.Order.{name_cmp}
 use Rattle.sfs_tree.specs.Tree.{bucket_rows, TreeState}
-use Rattle.sfs_tree.specs.NameRow.{either, entry_of}
+use Rattle.sfs_tree.specs.NameRow.{entry_of}
+use Rattle.std.specs.Option.{option_or}
 use Rattle.sfs_tree.proofs.RowsByName.{was_true}
 use Rattle.sfs_tree.proofs.tree.Tree.add_bucket.Goals as goal
 use Rattle.sfs_tree.proofs.tree.Tree.add_bucket.Goals.{After-rows}
@@ -23,11 +24,11 @@ add_rows-requires-clause-apart c = λ name some. c.requires.apart name (subst Is
 pub returns-in-Some : goal.returns-in-Some
 returns-in-Some c =
     let found = found (goal.at.returns-in-Some c).After-rows in
-    elim c.add_rows.result as (λ r. OnOk r ((name : List ℕ) → get c.add_rows.new.self name ≡ either (find name_cmp name (map entry_of c.rows.result.now)) (get c.args.names.now name)) → OnOk r ((name : List ℕ) → get c.add_rows.new.self name ≡ either (get (bucket_rows c.args.dir.0 c.args.number c.args.self.now.rows) name) (get c.args.names.now name))) [
-      | Ok u ↦ λ h name. h name ∙ ap (λ o. either o (get c.args.names.now name)) (found name)
+    elim c.add_rows.result as (λ r. OnOk r ((name : List ℕ) → get c.add_rows.new.self name ≡ option_or (find name_cmp name (map entry_of c.rows.result.now)) (get c.args.names.now name)) → OnOk r ((name : List ℕ) → get c.add_rows.new.self name ≡ option_or (get (bucket_rows c.args.dir.0 c.args.number c.args.self.now.rows) name) (get c.args.names.now name))) [
+      | Ok u ↦ λ h name. h name ∙ ap (λ o. option_or o (get c.args.names.now name)) (found name)
       | Err e ↦ λ _. tt
     ] c.add_rows.ensures
 
 pub returns-in-None : goal.returns-in-None
 returns-in-None c = λ name.
-    ap (λ o. either o (get c.args.names.now name)) (sym (get-empty name_cmp name) ∙ ap (λ m. get m name) (sym c.in-None.ensures.none ∙ ap (λ (t : TreeState). bucket_rows c.args.dir.0 c.args.number t.rows) c.self.view_is))
+    ap (λ o. option_or o (get c.args.names.now name)) (sym (get-empty name_cmp name) ∙ ap (λ m. get m name) (sym c.in-None.ensures.none ∙ ap (λ (t : TreeState). bucket_rows c.args.dir.0 c.args.number t.rows) c.self.view_is))

@@ -3,7 +3,7 @@ use Rattle.std.specs.FinMap.{get, get-empty}
 use Rattle.sfs_base.specs.Name.{bucket}
 use Rattle.sfs_tree.specs.Order.{name_cmp}
 use Rattle.sfs_tree.specs.Tree.{bucket_rows}
-use Rattle.sfs_tree.specs.NameRow.{either}
+use Rattle.std.specs.Option.{option_or}
 use Rattle.sfs_tree.proofs.Names.{next_bucket, bucket_apart, all_buckets, none_below}
 use Rattle.sfs_tree.proofs.tree.Tree.names.Goals as goal
 
@@ -16,7 +16,7 @@ add_bucket-requires-clause-apart c = λ name some. c.loop-number.invariant name 
 pub loop-number-preserved : goal.loop-number-preserved
 loop-number-preserved c = λ name.
     c.in_ok-add_bucket.ensures name
-    ∙ ap (either (get (bucket_rows c.args.dir.0 c.loop-number.number c.args.self.now.rows) name)) (c.loop-number.invariant name)
+    ∙ ap (option_or (get (bucket_rows c.args.dir.0 c.loop-number.number c.args.self.now.rows) name)) (c.loop-number.invariant name)
     ∙ next_bucket c.args.dir.0 c.loop-number.number name c.args.self.now.rows
 
 pub returns : goal.returns
