@@ -1,18 +1,14 @@
 -- A run that begins, with the tree of the rows that opening gave.
-use Rattle.std.proofs.Common.{◌≡◌, ◌≢◌, nat_lt, bytes_eq, slice_get, is_some, IfSome, inl, ℕ, ◌≤◌, true, false, List, [], length, map, Option, Some, None, refl, sym, ap, subst, ◌∙◌, arith}
+use Rattle.std.proofs.Common.{◌≡◌, is_some, IfSome, inl, ℕ, ◌≤◌, true, List, [], length, map, Option, None, refl, sym, ap, subst, ◌∙◌, arith}
 use Rattle.std.proofs.lemmas.List.{length-map}
 use Rattle.std.proofs.lemmas.List.Elements.{All-nil}
 use Rattle.sfs_tree.specs.declared.history.Entry.{Entry}
 use Rattle.std.specs.Prelude.{filter_map}
-use Rattle.std.specs.FinMap.{find, entries, len-entries, get-from_entries}
+use Rattle.std.specs.FinMap.{entries, len-entries}
 use Rattle.sfs_tree.proofs.Joined.{key_cmp_total, length-from_entries}
 use Rattle.sfs_tree.proofs.Names.{entries-names_where}
-use borrow.Author.Tests.{ltb-true, ltb-false}
 use Rattle.sfs_base.specs.Ends.{Rose}
-use Rattle.sfs_base.specs.declared.numbers.Kind.TheVariants.{File}
-use Rattle.sfs_tree.specs.Tree.{kind_of}
-use Rattle.sfs_tree.specs.Order.{key_cmp}
-use Rattle.scalefs_run.proofs.Rooted.{bytes_same, some_same, length-rows_of_root}
+use Rattle.scalefs_run.proofs.Rooted.{length-rows_of_root}
 use Rattle.scalefs_run.specs.Shown.{shown}
 use Rattle.scalefs_run.specs.Stands.{root_shown}
 use Rattle.sfs_tree.specs.Tree.{TreeState, name_row}
@@ -27,7 +23,7 @@ use Rattle.scalefs_run.specs.Stands.{Stands}
 use Rattle.scalefs_run.specs.declared.flush.Store.{Store}
 use Rattle.scalefs_run.proofs.FirstSound.{first_sound}
 use Rattle.scalefs_run.proofs.Opened.{length-filter_map}
-use Rattle.scalefs_run.proofs.Shows.{shown-first, shown-root, first_kinds}
+use Rattle.scalefs_run.proofs.Shows.{shown-first, shown-root}
 
 -- the root has at most as many rows as were opened
 few_rows : (share : ℕ) (opened : List Row) → AreRoots opened → root_rows (first_tree share opened) ≤ 15

@@ -1,9 +1,8 @@
 -- A run goes on by an entry that was pushed.
-use Rattle.std.proofs.Common.{Vec, Global, ◌≡◌, ◌<◌, ℕ, Bool, true, false, List, [], ◌∷◌, ◌++◌, Option, None, is_some, unwrap_or, length, refl, sym, ap, subst, ◌∙◌}
+use Rattle.std.proofs.Common.{Vec, Global, ◌≡◌, ◌<◌, ℕ, true, false, List, [], ◌∷◌, ◌++◌, Option, length, refl, sym, ap, subst, ◌∙◌}
 use Rattle.sfs_dev.specs.Disk.{View}
 use Rattle.sfs_dev.specs.Run.{CountsOn, GoesOn}
 use Rattle.sfs_base.specs.declared.numbers.CoreId.{CoreId}
-use Rattle.sfs_base.specs.declared.numbers.NodeId.{NodeId}
 use Rattle.sfs_tree.specs.declared.call.Call.{Call}
 use Rattle.sfs_tree.specs.declared.call.Call.TheVariants.{Look, Make, Link, Unlink, Rmdir, Rename, Write, Read, Trunc, Stat, List as Lists, Fsync}
 use Rattle.sfs_tree.specs.declared.history.Entry.{Entry}

@@ -1,13 +1,12 @@
 -- Images of a run that a crash left, as the history goes on.
-use Rattle.std.proofs.Common.{◌≡◌, ◌⊎◌, inl, inr, ⊎_elim, ℕ, ◌+◌, ◌<◌, ◌≤◌, true, List, [], ◌∷◌, ◌++◌, length, Option, Some, None, IfSome, refl, sym, ap, subst, ◌∙◌, arith}
+use Rattle.std.proofs.Common.{◌≡◌, ◌⊎◌, inl, inr, ⊎_elim, ℕ, ◌<◌, ◌≤◌, true, List, [], ◌∷◌, ◌++◌, length, Option, Some, None, IfSome, sym, ◌∙◌, arith}
 use Rattle.std.specs.Prelude.{slice_index_or}
-use Rattle.std.specs.List.{All}
 use Rattle.std.proofs.lemmas.List.Elements.{All-append}
 use Rattle.sfs_tree.specs.declared.history.Entry.{Entry}
 use Rattle.sfs_tree.specs.Tree.{TreeState}
 use Rattle.sfs_tree.specs.History.{IsLegal, tree_after}
 use Rattle.area_pair.specs.Rows.{rows_of}
-use Rattle.scalefs_run.specs.Crash.{StandsAtCut, IsCut, IsCovered, HasStamp}
+use Rattle.scalefs_run.specs.Crash.{StandsAtCut, IsCut, IsCovered}
 use Rattle.scalefs_run.specs.Replies.{is_failed_flush}
 use Rattle.scalefs_run.specs.Shown.{shown, shown_at, is_flush, last_flush}
 use Rattle.scalefs_run.specs.Stands.{FlushedLast, root_shown}

@@ -1,6 +1,6 @@
 -- The tree that is built from the rows on a disk is sound.
-use Rattle.std.proofs.Common.{◌≡◌, ◌≢◌, ◌⊎◌, inl, ℕ, zero, suc, ◌+◌, ◌<◌, ◌≤◌, Bool, true, false, cond, ◌&&◌, List, [], ◌∷◌, ◌++◌, length, map, Option, Some, None, IsSome, is_some, slice_get, slice_index, refl, sym, ap, subst, ◌∙◌, arith, nat_eq, nat_lt, bytes_eq}
-use borrow.Author.Tests.{eqb-true, ltb-true, ltb-false, ne_eqb, eq-eqb}
+use Rattle.std.proofs.Common.{◌≡◌, ◌≢◌, inl, ℕ, zero, suc, ◌+◌, ◌<◌, ◌≤◌, true, false, cond, List, [], ◌∷◌, ◌++◌, map, Option, Some, None, IsSome, is_some, slice_get, slice_index, refl, sym, ap, subst, ◌∙◌, arith, nat_eq, nat_lt, bytes_eq}
+use borrow.Author.Tests.{eqb-true, ltb-true, ltb-false}
 use Rattle.std.specs.Option.{option_map_or}
 use Rattle.std.specs.Ordering.{nat_cmp, eq_by_cmp}
 use Rattle.std.specs.Cmp.{nat_cmp_total, unsigned_ties}
@@ -10,13 +10,12 @@ use Rattle.sfs_base.specs.declared.numbers.Kind.TheVariants.{File, Directory}
 use Rattle.sfs_tree.specs.Order.{name_cmp, key_cmp}
 use Rattle.sfs_tree.specs.Tree.{Node, TreeState, row_of, is_directory, is_directory_kind, kind_of}
 use Rattle.sfs_tree.specs.Laws.{IsSoundTree}
-use Rattle.sfs_tree.specs.Sound.{IsSound, IsNumbered, Above, at_root, below}
+use Rattle.sfs_tree.specs.Sound.{IsSound, IsNumbered, at_root, below}
 use Rattle.sfs_tree.proofs.Joined.{key_cmp_total, same_key}
 use Rattle.area_pair.specs.declared.area.Row.{Row}
-use Rattle.area_pair.specs.Rows.{KeepsApart}
 use Rattle.area_pair.specs.Sound.{AreRoots, HaveInodes}
 use Rattle.scalefs_run.specs.First.{first_tree, row_entry, node_entry, root_entry}
-use Rattle.scalefs_run.proofs.Opened.{first_directory, row_found, file_before, named_inode}
+use Rattle.scalefs_run.proofs.Opened.{first_directory, row_found, file_before}
 use Rattle.scalefs_run.proofs.Rooted.{bytes_same, same_bytes, some_same, none_some}
 use Rattle.scalefs_run.proofs.Shows.{kind_first, first_kinds}
 

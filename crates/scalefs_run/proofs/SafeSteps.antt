@@ -1,5 +1,5 @@
 -- A run that is safe goes on by one call.
-use Rattle.std.proofs.Common.{◌≡◌, ◌⊎◌, ◌↔◌, inl, inr, ⊎_elim, ℕ, ◌+◌, ◌-◌, ◌^◌, ◌<◌, ◌≤◌, min, Bool, true, false, cond, ◌&&◌, List, [], ◌∷◌, ◌++◌, length, Option, Some, None, is_some, IsSome, IsTrue, IfSome, unwrap_or, refl, sym, ap, subst, ◌∙◌, arith}
+use Rattle.std.proofs.Common.{◌≡◌, ◌⊎◌, ◌↔◌, inl, inr, ⊎_elim, ℕ, ◌<◌, ◌≤◌, true, false, cond, ◌&&◌, List, [], ◌∷◌, ◌++◌, length, Option, Some, None, IsSome, IsTrue, IfSome, refl, sym, ap, subst, ◌∙◌, arith}
 use Rattle.std.proofs.lemmas.Bool.{cases_lt}
 use Rattle.sfs_base.specs.Ends.{Rose}
 use Rattle.sfs_tree.specs.declared.call.Call.{Call}
@@ -8,17 +8,15 @@ use Rattle.sfs_tree.specs.declared.reply.Reply.{Reply}
 use Rattle.sfs_tree.specs.declared.reply.Reply.TheVariants as reply
 use Rattle.sfs_tree.specs.Tree.{TreeState}
 use Rattle.sfs_tree.specs.Verdict.{verdict}
-use Rattle.sfs_tree.specs.History.{IsLegal, tree_after, is_ok_reply}
-use Rattle.sfs_dev.specs.Disk.{View, images}
+use Rattle.sfs_tree.specs.History.{IsLegal, is_ok_reply}
+use Rattle.sfs_dev.specs.Disk.{View}
 use Rattle.sfs_dev.specs.Run.{CountsOn, GoesOn}
 use Rattle.area_pair.specs.declared.area.Row.{Row}
 use Rattle.area_pair.specs.Rows.{numbered, rows_of}
-use Rattle.area_pair.specs.Settled.{IsSettled, HasRowsBy}
 use Rattle.scalefs_run.specs.Crash.{StandsAtCut}
-use Rattle.scalefs_run.specs.Words.{CORES}
-use Rattle.scalefs_run.specs.Flushed.{HasFlushed, IsThere, Commits, Fails, rows_of_root, after_four}
+use Rattle.scalefs_run.specs.Flushed.{HasFlushed, Commits, Fails, rows_of_root, after_four}
 use Rattle.scalefs_run.specs.Replies.{is_fsync, is_failed_flush}
-use Rattle.scalefs_run.specs.Safe.{IsSafe, IsSettledFlush}
+use Rattle.scalefs_run.specs.Safe.{IsSafe}
 use Rattle.scalefs_run.specs.Shown.{shown, shown_at, is_flush, last_flush}
 use Rattle.scalefs_run.specs.Stands.{Stands, root_shown}
 use Rattle.scalefs_run.specs.declared.flush.Store.{Store}

@@ -1,5 +1,5 @@
 -- A run ends.
-use Rattle.std.proofs.Common.{◌≡◌, ℕ, ◌+◌, ◌<◌, ◌≤◌, true, false, List, [], length, map, Option, Some, None, Result, Ok, Err, is_some, IfSome, cond, not, nat_lt, refl, sym, ap, subst, ◌∙◌, arith}
+use Rattle.std.proofs.Common.{◌≡◌, ℕ, ◌+◌, ◌<◌, ◌≤◌, true, false, List, [], length, Option, Some, None, Result, Ok, Err, is_some, IfSome, cond, nat_lt, refl, sym, ap, subst, ◌∙◌, arith}
 use Rattle.std.proofs.lemmas.List.{length-append, append-nil}
 use Rattle.sfs_base.specs.Ends.{Rose, Takes}
 use Rattle.sfs_base.specs.Transfer.{ReadsAll}

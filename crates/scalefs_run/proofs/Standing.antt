@@ -1,14 +1,13 @@
 -- A run goes on by one call.
-use Rattle.std.proofs.Common.{Vec, Global, ◌≡◌, ◌↔◌, ℕ, ◌+◌, ◌-◌, ◌^◌, ◌<◌, ◌≤◌, min, Bool, true, false, cond, ◌||◌, ◌&&◌, List, [], ◌∷◌, ◌++◌, length, Option, Some, None, inl, inr, is_some, IsSome, IsTrue, IfSome, unwrap_or, refl, sym, ap, subst, ◌∙◌, arith}
+use Rattle.std.proofs.Common.{Vec, Global, ◌≡◌, ◌↔◌, ℕ, ◌+◌, ◌<◌, ◌≤◌, Bool, true, false, cond, ◌||◌, ◌&&◌, List, [], ◌∷◌, ◌++◌, length, Option, Some, None, inl, inr, is_some, IsSome, IsTrue, IfSome, unwrap_or, refl, sym, ap, subst, ◌∙◌, arith}
 use Rattle.std.proofs.lemmas.List.{length-append}
 use Rattle.sfs_base.specs.Ends.{Rose}
-use Rattle.sfs_base.specs.declared.numbers.Kind.{Kind}
 use Rattle.sfs_tree.specs.declared.call.Call.{Call}
 use Rattle.sfs_tree.specs.declared.call.Call.TheVariants.{Look, Make, Link, Unlink, Rmdir, Rename, Write, Read, Trunc, Stat, List as Lists, Fsync}
 use Rattle.sfs_tree.specs.declared.history.Entry.{Entry}
 use Rattle.sfs_tree.specs.declared.reply.Reply.{Reply}
 use Rattle.sfs_tree.specs.declared.reply.Reply.TheVariants as reply
-use Rattle.sfs_tree.specs.Tree.{TreeState, made_by}
+use Rattle.sfs_tree.specs.Tree.{TreeState}
 use Rattle.sfs_tree.proofs.Cores.{cores_after}
 use Rattle.sfs_tree.proofs.SoundTrees.{calls_keep_sound}
 use Rattle.scalefs_run.specs.Words.{CORES}
@@ -22,7 +21,7 @@ use Rattle.area_pair.specs.declared.area.Row.{Row}
 use Rattle.area_pair.specs.declared.area.Current.{Current}
 use Rattle.area_pair.specs.Rows.{numbered}
 use Rattle.area_pair.specs.Settled.{ReadsAs}
-use Rattle.scalefs_run.specs.Flushed.{HasFlushed, Fails, rows_of_root, after_four}
+use Rattle.scalefs_run.specs.Flushed.{HasFlushed, Fails, rows_of_root}
 use Rattle.scalefs_run.specs.Replies.{IsAnswered, has_failed, is_failure, is_failed_flush, is_fsync, root_rows}
 use Rattle.scalefs_run.specs.Shown.{shown, shown_at, is_flush, last_flush}
 use Rattle.scalefs_run.specs.Stands.{Stands, root_shown}

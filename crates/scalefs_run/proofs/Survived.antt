@@ -1,5 +1,5 @@
 -- What a crash leaves of a whole run.
-use Rattle.std.proofs.Common.{◌≡◌, ◌⊎◌, inl, ℕ, ◌<◌, ◌≤◌, true, false, List, [], ◌∷◌, length, Option, Some, None, IsSome, refl, sym, ap, subst, ◌∙◌, arith}
+use Rattle.std.proofs.Common.{◌≡◌, inl, ℕ, ◌≤◌, true, false, List, [], Option, Some, None, IsSome, refl, sym, ap, subst, ◌∙◌, arith}
 use Rattle.std.proofs.lemmas.List.Elements.{All-nil}
 use Rattle.sfs_base.specs.Ends.{Rose}
 use Rattle.sfs_tree.specs.declared.history.Entry.{Entry}
@@ -13,13 +13,11 @@ use Rattle.area_pair.specs.Sound.{AreRoots}
 use Rattle.scalefs_run.specs.Crash.{StandsAtCut, IsCovered, Survives}
 use Rattle.scalefs_run.specs.First.{first_tree}
 use Rattle.scalefs_run.specs.Safe.{IsSafe, Begins, SafeStill}
-use Rattle.scalefs_run.specs.Shown.{shown, shown_at}
-use Rattle.scalefs_run.specs.Stands.{Stands}
+use Rattle.scalefs_run.specs.Shown.{shown}
 use Rattle.scalefs_run.specs.declared.engine.Engine.{Engine}
 use Rattle.scalefs_run.specs.declared.flush.Store.{Store}
 use Rattle.area_pair.proofs.Sound.{image_sound}
 use Rattle.scalefs_run.proofs.Crashes.{at_cut_earlier}
-use Rattle.scalefs_run.proofs.Rooted.{some_same}
 use Rattle.scalefs_run.proofs.Shows.{shown-first}
 
 -- what a disk tells that tells something

@@ -1,5 +1,5 @@
 -- Workers for which there is no core.
-use Rattle.std.specs.Prelude.{◌≡◌, ℕ, ◌<◌, List, [], ◌∷◌, Option, Some, None, option_map, nat_le}
+use Rattle.std.specs.Prelude.{ℕ, ◌<◌, List, [], ◌∷◌, Option, None, option_map, nat_le}
 use Rattle.std.specs.Option.{option_or}
 use Rattle.std.specs.List.{find, AllByRecursion}
 use Rattle.script.specs.declared.commands.Line.{Line}

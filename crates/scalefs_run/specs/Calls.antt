@@ -1,5 +1,5 @@
 -- One call more.
-use Rattle.std.specs.Prelude.{◌≡◌, ◌↔◌, ℕ, List, [], ◌∷◌, ◌++◌, Option, None, is_some, unwrap_or, IsSome, IsTrue}
+use Rattle.std.specs.Prelude.{◌≡◌, ◌↔◌, List, [], ◌∷◌, ◌++◌, None, is_some, unwrap_or, IsSome, IsTrue}
 use Rattle.sfs_base.specs.declared.numbers.CoreId.{CoreId}
 use Rattle.sfs_tree.specs.declared.call.Call.{Call}
 use Rattle.sfs_tree.specs.declared.history.Entry.{Entry}

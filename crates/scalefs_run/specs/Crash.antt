@@ -1,5 +1,5 @@
 -- What a crash leaves of the root: its names and kinds at a cut of the history.
-use Rattle.std.specs.Prelude.{◌≡◌, ◌⊎◌, ℕ, ◌≤◌, Bool, true, false, List, [], ◌∷◌, length, Option, Some, None, IfSome, if◌then◌else◌}
+use Rattle.std.specs.Prelude.{◌≡◌, ◌⊎◌, ℕ, ◌≤◌, Bool, true, List, [], ◌∷◌, length, IfSome}
 use Rattle.std.specs.List.{All, Contains, filter_map}
 use Rattle.sfs_base.specs.Ends.{Rose}
 use Rattle.sfs_tree.specs.declared.history.Entry.{Entry}

@@ -1,5 +1,5 @@
 -- The root's rows as names and kinds, in an image and at a stamp.
-use Rattle.std.specs.Prelude.{ℕ, ◌&&◌, Bool, true, false, List, map, take, fold, if◌then◌else◌}
+use Rattle.std.specs.Prelude.{ℕ, ◌&&◌, Bool, List, map, take, fold, if◌then◌else◌}
 use Rattle.std.specs.FinMap.{FinMap, from_entries}
 use Rattle.sfs_base.specs.declared.numbers.Kind.{Kind}
 use Rattle.sfs_tree.specs.declared.history.Entry.{Entry}

@@ -1,5 +1,5 @@
 -- What a run has done so far.
-use Rattle.std.specs.Prelude.{◌≡◌, ◌⊎◌, ℕ, ◌<◌, ◌≤◌, false, List, [], length, None, is_some, IfSome}
+use Rattle.std.specs.Prelude.{◌≡◌, ◌⊎◌, ℕ, ◌≤◌, false, List, length, None, is_some, IfSome}
 use Rattle.std.specs.List.{All}
 use Rattle.std.specs.FinMap.{from_entries}
 use Rattle.sfs_base.specs.Ends.{Rose}
@@ -10,12 +10,10 @@ use Rattle.sfs_tree.specs.Laws.{IsSoundTree}
 use Rattle.sfs_tree.specs.Names.{with_kinds}
 use Rattle.sfs_dev.specs.Disk.{View}
 use Rattle.area_pair.specs.declared.area.Row.{Row}
-use Rattle.area_pair.specs.Put.{IsTold}
-use Rattle.area_pair.specs.Rows.{rows_of}
 use Rattle.area_pair.specs.Settled.{ReadsAs}
 use Rattle.scalefs_run.specs.Crash.{AreDated, HasStamp}
 use Rattle.scalefs_run.specs.Words.{CORES}
-use Rattle.scalefs_run.specs.Replies.{AreAnswered, has_failed, root_rows}
+use Rattle.scalefs_run.specs.Replies.{AreAnswered, has_failed}
 use Rattle.scalefs_run.specs.Shown.{Kinds, shown, shown_at, is_flush, last_flush}
 use Rattle.scalefs_run.specs.declared.engine.Engine.{Engine}
 use Rattle.scalefs_run.specs.declared.flush.Store.{Store}

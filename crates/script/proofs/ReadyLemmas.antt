@@ -12,13 +12,13 @@ use Rattle.script.specs.declared.verbs.Meaning.{Meaning}
 use Rattle.script.specs.declared.verbs.Meaning.TheVariants.{Skipped, Ends, Does}
 use Rattle.script.specs.declared.verbs.Verb.{Verb}
 use Rattle.script.specs.declared.verbs.Verb.TheVariants.{Create, Mkdir, Link, Unlink, Rmdir, Rename, Write, Read, Trunc, Stat, List as Lists, Fsync}
-use Rattle.script.specs.Commands.{command_of, command_with, verb_of, worker_of, line_of, line_with, meaning_of, meaning_of_some, count_of, offset_of, root_flush, one, three, all_three}
+use Rattle.script.specs.Commands.{command_of, command_with, verb_of, worker_of, line_of, line_with, meaning_of, count_of, offset_of, root_flush, one, all_three}
 use Rattle.script.specs.Words.{number_up_to, is_number, value_of}
 use Rattle.script.specs.Paths.{path_of}
 use Rattle.script.specs.Lines.{lines, words}
 use Rattle.script.specs.Phases.{phases_of, phases_from, with_line, with_meaning, first_phase_longer}
 use Rattle.script.specs.Walks.{Progress, First, Second, Last, Done, first_walk, second_walk, on_first, on_second, begun, after, Standing, go_on, started, taken, commands_of}
-use Rattle.script.specs.Ready.{MayRun, MayCall, EndsWell, IsReady, StandsReady, LinesMayRun}
+use Rattle.script.specs.Ready.{MayRun, EndsWell, IsReady, StandsReady, LinesMayRun}
 
 on_second_ready : (command : Command) (first node : ℕ) (names : List (List ℕ)) → EndsWell command → IsReady (on_second command first node names)
 on_second_ready command first node [] well = well first node

@@ -1,8 +1,6 @@
 -- A run begins with the rows that opening gave.
-use Rattle.std.proofs.Common.{◌≡◌, ◌≤◌, ℕ, List, [], None, refl, sym, subst, ◌∙◌}
+use Rattle.std.proofs.Common.{List, [], None, refl, sym, subst, ◌∙◌}
 use Rattle.sfs_tree.specs.declared.history.Entry.{Entry}
-use Rattle.sfs_dev.specs.Disk.{OnlyTold, images}
-use Rattle.area_pair.specs.Rows.{rows_of}
 use Rattle.scalefs_run.specs.First.{first_tree}
 use Rattle.scalefs_run.specs.Safe.{IsSafe}
 use Rattle.scalefs_run.specs.Stands.{Stands}

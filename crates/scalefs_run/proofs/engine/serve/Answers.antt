@@ -1,5 +1,5 @@
 -- The phases of a script, one after another.
-use Rattle.std.proofs.Common.{◌≡◌, ℕ, ◌+◌, ◌<◌, List, Result, Ok, Err, refl, sym, ap, subst, ◌∙◌, arith}
+use Rattle.std.proofs.Common.{Result, Ok, Err, arith}
 use Rattle.std.specs.Prelude.{OnErr}
 use Rattle.sfs_dev.proofs.Runs.{GoesOn-trans}
 use Rattle.scalefs_run.proofs.Making.{follows_next, follows_part}

@@ -1,22 +1,14 @@
 -- A call is made: an fsync of the root, or another.
-use Rattle.std.proofs.Common.{◌≡◌, Vec, Global, vec_len, is_some, unwrap_or, arith, ℕ, ◌<◌, true, false, Bool, List, [], ◌∷◌, ◌++◌, Option, None, length, refl, sym, ap, subst, ◌∙◌}
-use Rattle.sfs_dev.specs.Disk.{View}
+use Rattle.std.proofs.Common.{◌≡◌, Vec, Global, vec_len, arith, ℕ, true, false, List, [], ◌∷◌, ◌++◌, length, refl, sym, ap, subst, ◌∙◌}
 use Rattle.sfs_base.specs.declared.numbers.CoreId.{CoreId}
 use Rattle.sfs_tree.specs.declared.call.Call.{Call}
-use Rattle.sfs_tree.specs.declared.call.Call.TheVariants.{Fsync}
 use Rattle.sfs_tree.specs.declared.history.Entry.{Entry}
-use Rattle.sfs_tree.specs.declared.reply.Reply.{Reply}
 use Rattle.sfs_tree.specs.Tree.{TreeState}
-use Rattle.sfs_tree.specs.Verdict.{verdict, tree_after_call}
 use Rattle.area_pair.specs.Settled.{ReadsAs}
-use Rattle.sfs_dev.specs.Run.{CountsOn}
-use Rattle.scalefs_run.specs.Calls.{PassedOn, FlushedRoot}
-use Rattle.scalefs_run.specs.Flushed.{HasFlushed}
-use Rattle.scalefs_run.specs.Replies.{IsAnswered, root_rows, is_fsync}
+use Rattle.scalefs_run.specs.Replies.{is_fsync}
 use Rattle.scalefs_run.specs.Stands.{Stands}
 use Rattle.scalefs_run.specs.declared.engine.Engine.{Engine}
 use Rattle.scalefs_run.specs.declared.flush.Flushed.{Flushed}
-use Rattle.scalefs_run.specs.declared.flush.Store.{Store}
 use Rattle.scalefs_run.specs.Safe.{IsSafe}
 use Rattle.sfs_tree.specs.Sound.{IsSound}
 use Rattle.sfs_tree.proofs.SoundTrees.{calls_keep_sound}

@@ -1,5 +1,5 @@
 -- The workers of a phase, one after another.
-use Rattle.std.proofs.Common.{◌≡◌, ℕ, ◌+◌, ◌<◌, List, Result, Ok, Err, refl, sym, ap, subst, ◌∙◌, arith}
+use Rattle.std.proofs.Common.{◌≡◌, Result, Ok, Err, subst, arith}
 use Rattle.std.specs.Prelude.{OnErr}
 use Rattle.sfs_dev.proofs.Runs.{GoesOn-trans}
 use Rattle.scalefs_run.specs.Made.{Grown, UpTo}

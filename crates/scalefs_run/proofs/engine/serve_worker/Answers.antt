@@ -1,5 +1,5 @@
 -- A worker's calls, one by one.
-use Rattle.std.proofs.Common.{Vec, Global, vec_len, get_or, ◌≡◌, ℕ, ◌+◌, ◌<◌, List, Some, length, refl, sym, ap, subst, ◌∙◌, arith}
+use Rattle.std.proofs.Common.{Vec, Global, vec_len, get_or, ◌≡◌, ℕ, ◌<◌, List, Some, length, sym, ap, subst, ◌∙◌, arith}
 use Rattle.sfs_dev.proofs.Runs.{GoesOn-refl, GoesOn-trans}
 use Rattle.sfs_base.specs.declared.numbers.CoreId.{CoreId}
 use Rattle.sfs_tree.specs.declared.call.Call.{Call}

@@ -1,5 +1,5 @@
 -- A commit that was acknowledged brought the rows to the disk.
-use Rattle.std.proofs.Common.{◌≡◌, ◌⊎◌, ◌+◌, ◌-◌, ◌^◌, ◌<◌, ◌≤◌, min, List, length, Some, refl, sym, ap, subst, ◌∙◌, ℕ}
+use Rattle.std.proofs.Common.{◌≡◌, ◌⊎◌, ◌≤◌, List, Some, refl, sym, ap, subst, ◌∙◌}
 use Rattle.sfs_dev.specs.Run.{EachMoment}
 use Rattle.area_pair.specs.Rows.{numbered, rows_of}
 use Rattle.area_pair.specs.Settled.{ReadsAs, IsSettled, HasRowsBy}

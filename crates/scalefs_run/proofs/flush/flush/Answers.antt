@@ -1,4 +1,4 @@
-use Rattle.std.proofs.Common.{◌≡◌, length, sym, ap, subst, ◌∙◌, arith}
+use Rattle.std.proofs.Common.{◌≡◌, length, sym, ap, subst, arith}
 use Rattle.area_pair.specs.Rows.{KeepsApart}
 use Rattle.scalefs_run.specs.Flushed.{rows_of_root}
 use Rattle.scalefs_run.proofs.Rooted.{sound_apart, length-rows_of_root}

@@ -1,5 +1,5 @@
 -- Each way in which a script ends that was read.
-use Rattle.std.proofs.Common.{◌≡◌, List, Option, Some, None, refl, sym, ap, subst, ◌∙◌}
+use Rattle.std.proofs.Common.{◌≡◌, List, Some, None, refl, sym, ap, subst, ◌∙◌}
 use Rattle.sfs_base.specs.Ends.{Rose}
 use Rattle.sfs_tree.specs.declared.history.Entry.{Entry}
 use Rattle.area_pair.specs.Fault.{IsFault}
@@ -11,7 +11,7 @@ use Rattle.script.specs.Follows.{Follows, FollowsSoFar}
 use Rattle.std.specs.List.{All}
 use Rattle.scalefs_run.specs.Beyond.{beyond, IsWithin}
 use Rattle.scalefs_run.proofs.Within.{all_within}
-use Rattle.scalefs_run.specs.Outcome.{HasText, workers_status, IsRead, IsCommand}
+use Rattle.scalefs_run.specs.Outcome.{HasText, workers_status}
 use Rattle.scalefs_run.specs.Crash.{AreDated, Survives}
 use Rattle.scalefs_run.specs.Served.{Served}
 use Rattle.scalefs_run.proofs.Serving.{served_none, served_run, write_status, write_history, workers_read, workers_command, none_so_far}

@@ -1,12 +1,11 @@
 -- Each way in which a run ends.
-use Rattle.std.proofs.Common.{◌≡◌, ◌/◌, ℕ, List, Ok, map, string_bytes, sym, ap, subst, ◌∙◌}
+use Rattle.std.proofs.Common.{◌≡◌, ◌/◌, List, map, string_bytes, sym, ap, subst, ◌∙◌}
 use Rattle.sfs_base.specs.Ends.{Rose}
 use Rattle.sfs_tree.specs.declared.history.Entry.{Entry}
-use Rattle.script.specs.declared.commands.Line.{Line}
 use Rattle.scalefs_run.specs.declared.outcome.Status.TheVariants.{BadWords}
 use Rattle.scalefs_run.specs.Crash.{Survives}
 use Rattle.scalefs_run.specs.Served.{ServedScript}
-use Rattle.scalefs_run.specs.Words.{nodes_of, share_of, share_in}
+use Rattle.scalefs_run.specs.Words.{share_of, share_in}
 use Rattle.scalefs_run.proofs.Serving.{served_words, served_unread, served_read}
 use Rattle.scalefs_run.proofs.Survived.{survives_untouched}
 use Rattle.scalefs_run.proofs.top.serve_words.Goals as goal
