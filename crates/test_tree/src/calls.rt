@@ -96,7 +96,7 @@ fn written(alloc: Global, file: u32, at: u64, bytes: &str) -> Result<Call, Fail>
 }
 
 // The call that is asked.
-fn call_of(alloc: Global, asked: &Asked) -> Result<Call, Fail>
+pub(crate) fn call_of(alloc: Global, asked: &Asked) -> Result<Call, Fail>
     ensures { IfOk result (λ call. IsReadable call) }
 {
     match *asked {

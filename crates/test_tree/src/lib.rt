@@ -14,6 +14,8 @@ mod nets;
 #[cfg(test)]
 mod scripts;
 #[cfg(test)]
+mod stories;
+#[cfg(test)]
 mod texts;
 #[cfg(test)]
 mod trees;
