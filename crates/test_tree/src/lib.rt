@@ -8,13 +8,21 @@ mod copies;
 #[cfg(test)]
 mod cuts;
 #[cfg(test)]
+mod failures;
+#[cfg(test)]
 mod histories;
+#[cfg(test)]
+mod machine;
 #[cfg(test)]
 mod nets;
 #[cfg(test)]
 mod scripts;
 #[cfg(test)]
+mod shapes;
+#[cfg(test)]
 mod stories;
+#[cfg(test)]
+mod sweep;
 #[cfg(test)]
 mod texts;
 #[cfg(test)]
