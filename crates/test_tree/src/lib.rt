@@ -20,8 +20,6 @@ mod scripts;
 #[cfg(test)]
 mod shapes;
 #[cfg(test)]
-mod stories;
-#[cfg(test)]
 mod sweep;
 #[cfg(test)]
 mod texts;

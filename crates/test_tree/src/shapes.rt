@@ -74,7 +74,7 @@ pub(crate) fn begun(alloc: Global, first: u32, calls: &[Asked]) -> Result<Plot, 
         is_directory: true,
     })?;
     let tree = first_tree(alloc, first, calls, &mut nodes)?;
-    let story = Story::new(alloc, tree)?;
+    let story = Story::new(alloc, tree);
     Ok(Plot {
         alloc,
         story,
