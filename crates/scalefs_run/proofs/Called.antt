@@ -1,7 +1,7 @@
 -- A run goes on by an entry that was pushed.
 use Rattle.std.proofs.Common.{Vec, Global, ◌≡◌, ◌<◌, ℕ, true, false, List, [], ◌∷◌, ◌++◌, Option, length, refl, sym, ap, subst, ◌∙◌}
 use Rattle.sfs_dev.specs.Disk.{View}
-use Rattle.sfs_dev.specs.Run.{CountsOn, GoesOn}
+use Rattle.sfs_dev.specs.Run.{CountsOn, Advances}
 use Rattle.sfs_base.specs.declared.numbers.CoreId.{CoreId}
 use Rattle.sfs_tree.specs.declared.call.Call.{Call}
 use Rattle.sfs_tree.specs.declared.call.Call.TheVariants.{Look, Make, Link, Unlink, Rmdir, Rename, Write, Read, Trunc, Stat, List as Lists, Fsync}
@@ -15,8 +15,8 @@ use Rattle.area_pair.specs.declared.area.Row.{Row}
 use Rattle.area_pair.specs.Settled.{ReadsAs}
 use Rattle.scalefs_run.specs.Calls.{PassedOn, FlushedRoot}
 use Rattle.scalefs_run.specs.Replies.{is_fsync}
-use Rattle.scalefs_run.specs.Safe.{IsSafe}
-use Rattle.scalefs_run.specs.Stands.{Stands}
+use Rattle.scalefs_run.specs.Safe.{CrashInvariant}
+use Rattle.scalefs_run.specs.RunInvariant.{RunInvariant}
 use Rattle.scalefs_run.specs.Words.{CORES}
 use Rattle.scalefs_run.specs.declared.engine.Engine.{Engine}
 use Rattle.scalefs_run.specs.declared.flush.Flushed.{Flushed}
@@ -44,7 +44,7 @@ root_fsync (Stat node) is may = absurd (let never : false ≡ true = is in cc)
 root_fsync (Lists directory) is may = absurd (let never : false ≡ true = is in cc)
 
 -- an engine and a disk between the calls: the entries of `old`, and its tree after a call
-module _ (start from : ℕ) (first : TreeState) (old mid new : Engine) (before after : View) (so_far : Stands start from first old.entries.items old.tree old.store before)
+module _ (start from : ℕ) (first : TreeState) (old mid new : Engine) (before after : View) (so_far : RunInvariant start from first old.entries.items old.tree old.store before)
     (core : CoreId) (call : Call) (reply : Reply) (flushed : Flushed) (within : core.0 < CORES)
     (tree_is : mid.tree ≡ tree_after_call old.tree core.0 call) (entries_are : mid.entries.items ≡ old.entries.items) (store_is : mid.store ≡ old.store) where
   abbrev all : List Entry
@@ -63,24 +63,24 @@ module _ (start from : ℕ) (first : TreeState) (old mid new : Engine) (before a
     tree_now : tree_after_call old.tree core.0 call ≡ new.tree
     tree_now = sym (ap (λ (e : Engine). e.tree) passed.engine ∙ tree_is)
 
-    called_there : Stands start from first (old.entries.items ++ called_entry (length old.entries.items) old.tree core.0 call ∷ []) (tree_after_call old.tree core.0 call) old.store before
+    called_there : RunInvariant start from first (old.entries.items ++ called_entry (length old.entries.items) old.tree core.0 call ∷ []) (tree_after_call old.tree core.0 call) old.store before
     called_there = stands_called start from first old.entries.items old.tree old.store before so_far core.0 call none within
 
-    pub called_stands : (Same → (h : List Entry) (t : TreeState) (s : Store) → Stands start from first h t s before → Stands start from first h t s after) → Stands start from first all new.tree new.store after
+    pub called_stands : (Same → (h : List Entry) (t : TreeState) (s : Store) → RunInvariant start from first h t s before → RunInvariant start from first h t s after) → RunInvariant start from first all new.tree new.store after
     called_stands keeps =
         keeps passed.still all new.tree new.store
-        (subst (λ (h : List Entry). Stands start from first h new.tree new.store before) all_is
-        (subst (λ (t : TreeState). Stands start from first (old.entries.items ++ called_entry (length old.entries.items) old.tree core.0 call ∷ []) t new.store before) tree_now
-        (subst (λ (s : Store). Stands start from first (old.entries.items ++ called_entry (length old.entries.items) old.tree core.0 call ∷ []) (tree_after_call old.tree core.0 call) s before) store_now called_there)))
+        (subst (λ (h : List Entry). RunInvariant start from first h new.tree new.store before) all_is
+        (subst (λ (t : TreeState). RunInvariant start from first (old.entries.items ++ called_entry (length old.entries.items) old.tree core.0 call ∷ []) t new.store before) tree_now
+        (subst (λ (s : Store). RunInvariant start from first (old.entries.items ++ called_entry (length old.entries.items) old.tree core.0 call ∷ []) (tree_after_call old.tree core.0 call) s before) store_now called_there)))
 
-    pub called_safe : (Same → (h : List Entry) (s : Store) → IsSafe start from first h s before → IsSafe start from first h s after) → IsSafe start from first old.entries.items old.store before → IsSafe start from first all new.store after
+    pub called_safe : (Same → (h : List Entry) (s : Store) → CrashInvariant start from first h s before → CrashInvariant start from first h s after) → CrashInvariant start from first old.entries.items old.store before → CrashInvariant start from first all new.store after
     called_safe keeps safe =
         keeps passed.still all new.store
-        (subst (λ (h : List Entry). IsSafe start from first h new.store before) all_is
-        (subst (λ (s : Store). IsSafe start from first (old.entries.items ++ called_entry (length old.entries.items) old.tree core.0 call ∷ []) s before) store_now
+        (subst (λ (h : List Entry). CrashInvariant start from first h new.store before) all_is
+        (subst (λ (s : Store). CrashInvariant start from first (old.entries.items ++ called_entry (length old.entries.items) old.tree core.0 call ∷ []) s before) store_now
         (safe_called start from first old.entries.items old.tree old.store before so_far safe core.0 call none called_there.legal)))
 
-  module _ (is : is_fsync call ≡ true) (may : MayCall call) (Same : Type 0) (done : FlushedRoot Same mid new before after flushed) (goes : GoesOn before after) (faults : Same → after.faults ≡ before.faults) (reads : Same → (current : Option Current) (rows : List Row) → ReadsAs before current rows → ReadsAs after current rows) where
+  module _ (is : is_fsync call ≡ true) (may : MayCall call) (Same : Type 0) (done : FlushedRoot Same mid new before after flushed) (goes : Advances before after) (faults : Same → after.faults ≡ before.faults) (reads : Same → (current : Option Current) (rows : List Row) → ReadsAs before current rows → ReadsAs after current rows) where
     call_is : call ≡ Fsync (record { 0 = 0 })
     call_is = root_fsync call is may
 
@@ -91,21 +91,21 @@ module _ (start from : ℕ) (first : TreeState) (old mid new : Engine) (before a
     stays : mid.tree ≡ old.tree
     stays = tree_is ∙ ap (tree_after_call old.tree core.0) call_is
 
-    old_stands : Stands start from first old.entries.items mid.tree mid.store before
-    old_stands = subst (λ (t : TreeState). Stands start from first old.entries.items t mid.store before) (sym stays) (subst (λ (s : Store). Stands start from first old.entries.items old.tree s before) (sym store_is) so_far)
+    old_stands : RunInvariant start from first old.entries.items mid.tree mid.store before
+    old_stands = subst (λ (t : TreeState). RunInvariant start from first old.entries.items t mid.store before) (sym stays) (subst (λ (s : Store). RunInvariant start from first old.entries.items old.tree s before) (sym store_is) so_far)
 
-    flushed_there : Stands start from first (old.entries.items ++ flushed_entry (length old.entries.items) core.0 flushed.reply flushed.ack ∷ []) mid.tree new.store after
+    flushed_there : RunInvariant start from first (old.entries.items ++ flushed_entry (length old.entries.items) core.0 flushed.reply flushed.ack ∷ []) mid.tree new.store after
     flushed_there = stands_flushed start from first old.entries.items mid.tree mid.store before old_stands Same core.0 flushed.reply flushed.ack new.store after within done.answered done.acknowledged done.flushed goes faults reads
 
-    pub flushed_stands : Stands start from first all new.tree new.store after
+    pub flushed_stands : RunInvariant start from first all new.tree new.store after
     flushed_stands =
-        subst (λ (t : TreeState). Stands start from first all t new.store after) (sym done.tree)
-        (subst (λ (h : List Entry). Stands start from first h mid.tree new.store after) fsync_all flushed_there)
+        subst (λ (t : TreeState). RunInvariant start from first all t new.store after) (sym done.tree)
+        (subst (λ (h : List Entry). RunInvariant start from first h mid.tree new.store after) fsync_all flushed_there)
 
-    pub flushed_safe : CountsOn after → (Same → (h : List Entry) (s : Store) → IsSafe start from first h s before → IsSafe start from first h s after) → IsSafe start from first old.entries.items old.store before → IsSafe start from first all new.store after
+    pub flushed_safe : CountsOn after → (Same → (h : List Entry) (s : Store) → CrashInvariant start from first h s before → CrashInvariant start from first h s after) → CrashInvariant start from first old.entries.items old.store before → CrashInvariant start from first all new.store after
     flushed_safe counts keeps safe =
-        subst (λ (h : List Entry). IsSafe start from first h new.store after) fsync_all
-        (safe_flushed start from first old.entries.items mid.tree mid.store before old_stands (subst (λ (s : Store). IsSafe start from first old.entries.items s before) (sym store_is) safe) Same core.0 flushed.reply flushed.ack new.store after
+        subst (λ (h : List Entry). CrashInvariant start from first h new.store after) fsync_all
+        (safe_flushed start from first old.entries.items mid.tree mid.store before old_stands (subst (λ (s : Store). CrashInvariant start from first old.entries.items s before) (sym store_is) safe) Same core.0 flushed.reply flushed.ack new.store after
         flushed_there.legal done.acknowledged done.flushed goes counts keeps)
 
 -- the calls are as they were before the push

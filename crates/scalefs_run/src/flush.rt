@@ -1,7 +1,7 @@
 // An fsync of the root brings its rows to the disk, unless they are there already.
 ghost use Rattle.std.specs.Prelude.{◌≡◌, ◌≤◌, ◌↔◌, None, Some, length, is_some, unwrap_or, IsSome, IsTrue, IfOk};
-ghost use Rattle.sfs_dev.specs.Run.{GoesOn};
-ghost use Rattle.sfs_tree.specs.NameRow.{entry_of};
+ghost use Rattle.sfs_dev.specs.Run.{Advances};
+ghost use Rattle.sfs_tree.specs.NameRow.{name_and_child};
 ghost use Rattle.sfs_tree.specs.History.{is_ok_reply};
 ghost use Rattle.sfs_tree.specs.Sound.{IsSound};
 ghost use Rattle.sfs_tree.specs.Tree.{kind_of};
@@ -43,7 +43,7 @@ pub fn flush<D: Disk>(alloc: Global, store: &mut Store, disk: &mut D, tree: &Tre
     ensures reply { IsAnswered (is_some store.old.failed) (unwrap_or store.old.failed 0) (root_rows tree.now) result.reply }
     ensures acknowledged { IsSome result.ack ↔ IsTrue (is_ok_reply result.reply) }
     ensures flushed { HasFlushed (disk.new ≡ disk.old) tree.now result.ack store.old store.new (D.view disk.old) (D.view disk.new) result.reply }
-    ensures goes { GoesOn (D.view disk.old) (D.view disk.new) }
+    ensures advances { Advances (D.view disk.old) (D.view disk.new) }
 {
     if let Some(faults) = store.failed {
         return answer(Reply::Stopped { faults });
@@ -71,7 +71,7 @@ fn bring<D: Disk>(store: &mut Store, disk: &mut D, rows: Vec<Row>) -> Flushed
     requires working { store.old.failed ≡ None }
     ensures acknowledged { IsSome result.ack ↔ IsTrue (is_ok_reply result.reply) }
     ensures brought { HasBrought (disk.new ≡ disk.old) rows.items result.ack store.old store.new (D.view disk.old) (D.view disk.new) result.reply }
-    ensures goes { GoesOn (D.view disk.old) (D.view disk.new) }
+    ensures advances { Advances (D.view disk.old) (D.view disk.new) }
 {
     if same_when_numbered(&rows, &store.on_disk) {
         return acknowledge(disk.now());
@@ -87,7 +87,7 @@ fn commit<D: Disk>(store: &mut Store, disk: &mut D, rows: Vec<Row>) -> Flushed
     requires working { store.old.failed ≡ None }
     ensures acknowledged { IsSome result.ack ↔ IsTrue (is_ok_reply result.reply) }
     ensures committed { HasCommitted rows.items result.ack store.old store.new (D.view disk.old) (D.view disk.new) result.reply }
-    ensures goes { GoesOn (D.view disk.old) (D.view disk.new) }
+    ensures advances { Advances (D.view disk.old) (D.view disk.new) }
 {
     match store.areas.commit(disk, &rows) {
         Ok(moment) => {
@@ -132,7 +132,7 @@ pub fn rows_of_root(alloc: Global, tree: &Tree) -> Result<Vec<Row>, NoMemory>
 
 // A row of the root with its kind.
 fn row_for_disk(tree: &Tree, row: &NameRow) -> Result<Row, NoMemory>
-    ensures { IfOk result (λ given. given ≡ row_with_kind tree.now (entry_of row.now)) }
+    ensures { IfOk result (λ given. given ≡ row_with_kind tree.now (name_and_child row.now)) }
 {
     Ok(Row {
         name: row.name.copy()?,
