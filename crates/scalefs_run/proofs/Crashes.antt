@@ -9,7 +9,7 @@ use Rattle.area_pair.specs.Rows.{rows_of}
 use Rattle.scalefs_run.specs.Crash.{IsAtCut, IsCut, CoversEntry}
 use Rattle.scalefs_run.specs.Replies.{is_failed_flush}
 use Rattle.scalefs_run.specs.Shown.{shown, shown_at, is_flush, last_flush}
-use Rattle.scalefs_run.specs.Stands.{FlushedLast, root_shown}
+use Rattle.scalefs_run.specs.RunInvariant.{FlushedLast, root_shown}
 use Rattle.scalefs_run.proofs.Dated.{all_one, Contains-last, HasStamp-push, stamps_fit}
 use Rattle.scalefs_run.proofs.Pushed.{shown_at-push, shown_at-end}
 

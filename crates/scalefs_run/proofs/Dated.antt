@@ -7,7 +7,7 @@ use Rattle.sfs_tree.specs.Tree.{TreeState}
 use Rattle.sfs_tree.specs.History.{IsLegal, IsLegalFrom, tree_after_entry}
 use Rattle.scalefs_run.specs.Crash.{AcksRise, Rise, acks_of, HasStamp}
 use Rattle.scalefs_run.specs.Shown.{is_flush, last_flush}
-use Rattle.scalefs_run.specs.Stands.{FlushedLast}
+use Rattle.scalefs_run.specs.RunInvariant.{FlushedLast}
 use Rattle.scalefs_run.proofs.Pushed.{last_flush-push}
 
 -- what holds of an entry holds of each of a list with that one

@@ -1,7 +1,8 @@
 -- A run ends.
 use Rattle.std.proofs.Common.{◌≡◌, ℕ, ◌+◌, ◌<◌, ◌≤◌, true, false, List, [], length, Option, Some, None, Result, Ok, Err, is_some, IfSome, cond, nat_lt, refl, sym, ap, subst, ◌∙◌, arith}
 use Rattle.std.proofs.lemmas.List.{length-append, append-nil}
-use Rattle.sfs_base.specs.Ends.{HasRisen, Takes}
+use Rattle.sfs_base.specs.Ends.{HasRisen}
+use Rattle.std.specs.Io.KnownBytes.{Consumes}
 use Rattle.sfs_base.specs.Transfer.{ReadsAll}
 use Rattle.sfs_base.specs.declared.transfer.ReadAllFault.{ReadAllFault}
 use Rattle.sfs_base.specs.declared.transfer.ReadAllFault.TheVariants as source
@@ -26,7 +27,7 @@ use Rattle.scalefs_run.specs.Words.{nodes_of, share_of, share_in}
 use Rattle.scalefs_run.specs.First.{first_tree}
 use Rattle.scalefs_run.specs.Served.{Served, ServedScript, has_run}
 use Rattle.scalefs_run.specs.Shown.{shown}
-use Rattle.scalefs_run.specs.Stands.{KeepsInvariant}
+use Rattle.scalefs_run.specs.RunInvariant.{KeepsInvariant}
 use Rattle.scalefs_run.specs.Safe.{Begins}
 use Rattle.scalefs_run.proofs.Rooted.{some_same, none_some}
 
@@ -143,10 +144,11 @@ write_reached Sink (TooManyWorkers asked have) h = absurd h
 write_reached Sink (TooLong measure) h = absurd h
 
 -- why the source could not be read, of the script that it gave
-pub read_fault : (Source : Type 0) (left rest : Option (List ℕ)) (taken : List ℕ) (fault : ReadAllFault) → Takes left taken rest → ReadsAll taken 16777216 rest (Err fault) → (fault ≡ source.ReadFault → Source) → (script : List ℕ) × IsOf left script × HasReadFault script Source (status_of_source fault)
+pub read_fault : (Source : Type 0) (left rest : Option (List ℕ)) (taken : List ℕ) (fault : ReadAllFault) → Consumes left rest taken → ReadsAll left taken 16777216 (Err fault) → (fault ≡ source.ReadFault → Source) → (script : List ℕ) × IsOf left script × HasReadFault script Source (status_of_source fault)
 read_fault Source (Some whole) rest taken source.ReadFault takes reads cause = (whole, refl, cause refl)
-read_fault Source (Some whole) rest taken source.TooLong takes reads cause =
-    let long : length whole ≡ length taken + length takes.0 = ap length takes.1 ∙ length-append taken takes.0 in
+read_fault Source (Some whole) None taken source.TooLong takes reads cause = absurd takes
+read_fault Source (Some whole) (Some behind) taken source.TooLong takes reads cause =
+    let long : length whole ≡ length taken + length behind = ap length takes ∙ length-append taken behind in
     let past = reads.0 in
     (whole, refl, omega arith)
 read_fault Source (Some whole) rest taken source.NoMemory takes reads cause = (whole, refl, tt)

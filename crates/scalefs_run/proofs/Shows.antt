@@ -22,7 +22,7 @@ use Rattle.area_pair.proofs.Sound.{apart_head, apart_tail}
 use Rattle.scalefs_run.specs.First.{first_tree, row_entry, node_entry, root_entry}
 use Rattle.scalefs_run.specs.Flushed.{row_with_kind, rows_of_root}
 use Rattle.scalefs_run.specs.Shown.{shown, name_and_kind}
-use Rattle.scalefs_run.specs.Stands.{root_shown}
+use Rattle.scalefs_run.specs.RunInvariant.{root_shown}
 use Rattle.scalefs_run.proofs.Opened.{row_ties, one_kind}
 use Rattle.scalefs_run.proofs.Rooted.{some_same, none_some}
 

@@ -11,10 +11,12 @@ ghost use Rattle.script.specs.Follows.{Follows, FollowsSoFar, IsWholePhase, IsPa
 ghost use Rattle.scalefs_run.specs.Beyond.{HaveCores};
 ghost use Rattle.script.specs.Ready.{MayCall, LinesMayRun};
 ghost use Rattle.sfs_tree.specs.Sound.{IsSound};
-ghost use Rattle.scalefs_run.specs.Calls.{Called, PassedOn, FlushedRoot};
-ghost use Rattle.scalefs_run.specs.Replies.{is_fsync};
+ghost use Rattle.sfs_tree.specs.Step.{IsReadable};
+ghost use Rattle.scalefs_run.specs.Calls.{Called, Stepped, FlushedRoot};
+ghost use Rattle.scalefs_run.specs.Replies.{AREA_ROWS, is_fsync};
+ghost use Rattle.scalefs_run.specs.Words.{CORES as CORE_COUNT, MOST_SHARE};
 ghost use Rattle.scalefs_run.specs.Made.{Grown, ByWorker, ByWorkerWhole};
-ghost use Rattle.scalefs_run.specs.Stands.{HasInvariant, KeepsInvariant};
+ghost use Rattle.scalefs_run.specs.RunInvariant.{HasInvariant, KeepsInvariant};
 ghost use Rattle.scalefs_run.specs.Safe.{Begins, KeepsCrashInvariant};
 
 use crate::first::{CORES, tree_of_rows};
@@ -23,7 +25,7 @@ use area_pair::{Areas, OpenFault};
 use script::{Phase, Worker};
 use sfs_base::{CoreId, NoMemory, Stamp};
 use sfs_dev::Disk;
-use sfs_tree::{Call, Entry, Reply, Tree};
+use sfs_tree::{Call, Entry, Tree};
 use std::alloc::Global;
 
 /// What a run has in hand.
@@ -39,7 +41,7 @@ pub struct Engine {
 /// yet.
 pub fn mount<D: Disk>(alloc: Global, share: u32, disk: &mut D) -> Result<Engine, OpenFault>
     requires large { 4 ≤ (D.view disk.old).size }
-    requires share { share ≤ 32768 }
+    requires share { share ≤ MOST_SHARE }
     ensures begins { IfOk result (λ engine. Begins share engine (D.view disk.old) (D.view disk.new)) }
 
     // Where nothing is pending at entry, a crash at any moment of the call leaves the same rows.
@@ -69,7 +71,7 @@ pub fn serve<D: Disk>(engine: &mut Engine, disk: &mut D, phases: &[Phase]) -> Re
     requires large { 4 ≤ (D.view disk.old).size }
     requires invariant { HasInvariant engine.old (D.view disk.old) }
     requires none { engine.old.entries.items ≡ [] }
-    requires within { All (HaveCores 2) phases.now }
+    requires within { All (HaveCores CORE_COUNT) phases.now }
     requires ready { All LinesMayRun phases.now }
     ensures invariant { KeepsInvariant engine.old engine.new (D.view disk.old) (D.view disk.new) }
     ensures crash_invariant { KeepsCrashInvariant engine.old engine.new (D.view disk.old) (D.view disk.new) }
@@ -87,7 +89,7 @@ pub fn serve<D: Disk>(engine: &mut Engine, disk: &mut D, phases: &[Phase]) -> Re
 fn serve_phase<D: Disk>(engine: &mut Engine, disk: &mut D, phase: &Phase) -> Result<(), NoMemory>
     requires large { 4 ≤ (D.view disk.old).size }
     requires invariant { HasInvariant engine.old (D.view disk.old) }
-    requires within { HaveCores 2 phase.now }
+    requires within { HaveCores CORE_COUNT phase.now }
     requires ready { LinesMayRun phase.now }
     ensures invariant { KeepsInvariant engine.old engine.new (D.view disk.old) (D.view disk.new) }
     ensures crash_invariant { KeepsCrashInvariant engine.old engine.new (D.view disk.old) (D.view disk.new) }
@@ -110,7 +112,7 @@ fn serve_worker<D: Disk>(
 ) -> Result<(), NoMemory>
     requires large { 4 ≤ (D.view disk.old).size }
     requires invariant { HasInvariant engine.old (D.view disk.old) }
-    requires core { core < 2 }
+    requires core { core < CORE_COUNT }
     requires ready { LinesMayRun phase.now }
     ensures invariant { KeepsInvariant engine.old engine.new (D.view disk.old) (D.view disk.new) }
     ensures crash_invariant { KeepsCrashInvariant engine.old engine.new (D.view disk.old) (D.view disk.new) }
@@ -127,18 +129,34 @@ fn serve_worker<D: Disk>(
     Ok(())
 }
 
-// The answer to a call: that of the disk to an fsync, and else that of the tree.
-fn answer<D: Disk>(engine: &mut Engine, disk: &mut D, call: &Call, reply: Reply) -> Flushed
+// The answer to a call: that of the disk to an fsync, and that of the tree to any other.
+fn answer<D: Disk>(
+    engine: &mut Engine,
+    disk: &mut D,
+    core: CoreId,
+    call: &Call,
+) -> Result<Flushed, NoMemory>
     requires large { 4 ≤ (D.view disk.old).size }
-    requires few { length engine.old.store.on_disk.items ≤ 15 }
+    requires few { length engine.old.store.on_disk.items ≤ AREA_ROWS }
     requires sound { IsSound engine.old.tree }
-    ensures other { is_fsync call.now ≡ false → PassedOn (disk.new ≡ disk.old) reply engine.old engine.new result }
-    ensures fsync { is_fsync call.now ≡ true → FlushedRoot (disk.new ≡ disk.old) engine.old engine.new (D.view disk.old) (D.view disk.new) result }
+    requires core { core.0 < length engine.old.tree.made }
+    requires readable { IsReadable call.now }
+    ensures other { is_fsync call.now ≡ false → IfOk result (λ flushed. Stepped (disk.new ≡ disk.old) core.0 call.now engine.old engine.new flushed) }
+    ensures fsync { is_fsync call.now ≡ true → IfOk result (λ flushed. FlushedRoot (disk.new ≡ disk.old) engine.old engine.new (D.view disk.old) (D.view disk.new) flushed) }
+    ensures err { OnErr result ((disk.new ≡ disk.old) × (engine.new ≡ engine.old)) }
     ensures advances { Advances (D.view disk.old) (D.view disk.new) }
 {
     match call {
-        Call::Fsync { node: _ } => flush(engine.alloc, &mut engine.store, disk, &engine.tree),
-        _ => Flushed { reply, ack: None },
+        Call::Fsync { node: _ } => Ok(flush(
+            engine.alloc,
+            &mut engine.store,
+            disk,
+            &engine.tree,
+        )),
+        _ => Ok(Flushed {
+            reply: engine.tree.step(core, call)?,
+            ack: None,
+        }),
     }
 }
 
@@ -151,7 +169,7 @@ fn serve_call<D: Disk>(
 ) -> Result<(), NoMemory>
     requires large { 4 ≤ (D.view disk.old).size }
     requires invariant { HasInvariant engine.old (D.view disk.old) }
-    requires core { core.0 < 2 }
+    requires core { core.0 < CORE_COUNT }
     requires ready { MayCall call }
     ensures invariant { KeepsInvariant engine.old engine.new (D.view disk.old) (D.view disk.new) }
     ensures crash_invariant { KeepsCrashInvariant engine.old engine.new (D.view disk.old) (D.view disk.new) }
@@ -160,15 +178,14 @@ fn serve_call<D: Disk>(
     ensures advances { Advances (D.view disk.old) (D.view disk.new) }
 {
     engine.entries.reserve(1)?;
-    let reply = engine.tree.step(core, &call)?;
-    let Flushed { reply, ack } = answer(engine, disk, &call, reply);
+    let flushed = answer(engine, disk, core, &call)?;
     let stamp = Stamp(engine.entries.len() as u64);
     engine.entries.push_reserved(Entry {
         stamp,
         core,
         call,
-        reply,
-        ack,
+        reply: flushed.reply,
+        ack: flushed.ack,
     });
     Ok(())
 }

@@ -6,7 +6,7 @@ ghost use Rattle.sfs_tree.specs.History.{is_ok_reply};
 ghost use Rattle.sfs_tree.specs.Sound.{IsSound};
 ghost use Rattle.sfs_tree.specs.Tree.{kind_of};
 ghost use Rattle.area_pair.specs.Rows.{KeepsApart};
-ghost use Rattle.scalefs_run.specs.Replies.{IsAnswered, root_rows};
+ghost use Rattle.scalefs_run.specs.Replies.{AREA_ROWS as ROWS, IsAnswered, root_rows};
 ghost use Rattle.scalefs_run.specs.Flushed.{HasFlushed, HasBrought, HasCommitted, row_with_kind, rows_of_root};
 ghost use Rattle.sfs_tree.specs.declared.reply.Reply.TheVariants.{Ok as Fine};
 
@@ -21,6 +21,7 @@ use std::alloc::Global;
 const AREA_ROWS: u32 = 15;
 
 /// What an fsync was answered, and when it was on the disk.
+#[derive(Drop)]
 pub struct Flushed {
     pub reply: Reply,
     pub ack: Option<u64>,
@@ -38,7 +39,7 @@ pub struct Store {
 /// Brings the root's rows to the disk. Once a commit has failed nothing more is written.
 pub fn flush<D: Disk>(alloc: Global, store: &mut Store, disk: &mut D, tree: &Tree) -> Flushed
     requires large { 4 ≤ (D.view disk.old).size }
-    requires few { length store.old.on_disk.items ≤ 15 }
+    requires few { length store.old.on_disk.items ≤ ROWS }
     requires sound { IsSound tree.now }
     ensures reply { IsAnswered (is_some store.old.failed) (unwrap_or store.old.failed 0) (root_rows tree.now) result.reply }
     ensures acknowledged { IsSome result.ack ↔ IsTrue (is_ok_reply result.reply) }
@@ -65,8 +66,8 @@ pub fn flush<D: Disk>(alloc: Global, store: &mut Store, disk: &mut D, tree: &Tre
 // Brings the rows of the root to the disk, unless they are there already.
 fn bring<D: Disk>(store: &mut Store, disk: &mut D, rows: Vec<Row>) -> Flushed
     requires large { 4 ≤ (D.view disk.old).size }
-    requires few { length rows.items ≤ 15 }
-    requires few_on_disk { length store.old.on_disk.items ≤ 15 }
+    requires few { length rows.items ≤ ROWS }
+    requires few_on_disk { length store.old.on_disk.items ≤ ROWS }
     requires apart { KeepsApart rows.items }
     requires working { store.old.failed ≡ None }
     ensures acknowledged { IsSome result.ack ↔ IsTrue (is_ok_reply result.reply) }
@@ -82,7 +83,7 @@ fn bring<D: Disk>(store: &mut Store, disk: &mut D, rows: Vec<Row>) -> Flushed
 // Commits the rows of the root.
 fn commit<D: Disk>(store: &mut Store, disk: &mut D, rows: Vec<Row>) -> Flushed
     requires large { 4 ≤ (D.view disk.old).size }
-    requires few { length rows.items ≤ 15 }
+    requires few { length rows.items ≤ ROWS }
     requires apart { KeepsApart rows.items }
     requires working { store.old.failed ≡ None }
     ensures acknowledged { IsSome result.ack ↔ IsTrue (is_ok_reply result.reply) }

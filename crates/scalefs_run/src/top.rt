@@ -7,7 +7,7 @@ ghost use Rattle.script.specs.Faults.{IsShort};
 ghost use Rattle.script.specs.Ready.{LinesMayRun};
 ghost use Rattle.scalefs_run.specs.declared.outcome.Status.TheVariants.{Done as Fine};
 ghost use Rattle.scalefs_run.specs.Outcome.{IsOf, HasText, IsWriteStatus, HasReadFault, status_of_source, status_of_script, workers_status, reaches_disk};
-ghost use Rattle.scalefs_run.specs.Words.{nodes_of, share_of};
+ghost use Rattle.scalefs_run.specs.Words.{CORES as CORE_COUNT, MOST_SHARE, nodes_of, share_of};
 ghost use Rattle.scalefs_run.specs.Beyond.{beyond, HaveCores};
 ghost use Rattle.scalefs_run.specs.Served.{Served, ServedScript};
 ghost use Rattle.scalefs_run.specs.Crash.{AcksRise, Survives};
@@ -134,9 +134,9 @@ fn serve_script<K: Sink, D: Disk>(
     disk: &mut D,
 ) -> (Status, History)
     requires large { 4 ≤ (D.view disk.old).size }
-    requires share { share ≤ 32768 }
+    requires share { share ≤ MOST_SHARE }
     requires ready { All LinesMayRun script.now }
-    ensures served { Served (workers_status (beyond 2 script.now)) share script.now ⊥ (HasRisen (K.faults sink.old) (K.faults sink.new)) (K.written sink.old) (K.written sink.new)
+    ensures served { Served (workers_status (beyond CORE_COUNT script.now)) share script.now ⊥ (HasRisen (K.faults sink.old) (K.faults sink.new)) (K.written sink.old) (K.written sink.new)
         (D.view disk.old) (D.view disk.new) result.0 result.1 }
     ensures survives { Survives share (D.view disk.old) (D.view disk.new) result.1 }
     ensures acks { AcksRise (D.view disk.old).now result.1 (D.view disk.new).now }

@@ -19,7 +19,7 @@ returns-clause-begins g c =
     let tree = c.in_ok-tree.tree in
     let store : Store = record { areas = c.in_ok-areas.areas; on_disk = c.in_ok-on_disk.on_disk; failed = None } in
     let opened = c.in_ok-areas.ensures in
-    let stands : RunInvariant before.faults before.now (first_tree share rows) [] tree store after = stands_first share rows tree store after before.faults before.now opened.sound c.in_ok-tree.ensures c.in_ok-on_disk.ensures refl opened.read opened.no_fault c.open.ensures.advances.later in
+    let stands : RunInvariant before.faults before.now (first_tree share rows) [] tree store after = stands_first share rows tree store after before.faults before.now opened.sound c.in_ok-tree.ensures c.in_ok-on_disk.ensures refl opened.read opened.cause.kept c.open.ensures.advances.later in
     record {
       opened = rows;
       content = opened.rows;

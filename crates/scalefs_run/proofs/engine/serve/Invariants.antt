@@ -2,7 +2,7 @@ use Rattle.std.proofs.Common.{◌≤◌, take}
 use Rattle.sfs_dev.specs.Run.{Advances}
 use Rattle.script.specs.Follows.{Follows}
 use Rattle.scalefs_run.specs.Safe.{KeepsCrashInvariant}
-use Rattle.scalefs_run.specs.Stands.{HasInvariant, KeepsInvariant}
+use Rattle.scalefs_run.specs.RunInvariant.{HasInvariant, KeepsInvariant}
 use Rattle.scalefs_run.proofs.engine.serve.Given as goal
 
 abbrev pub invariant-loop-phase : goal.invariant-loop-phase

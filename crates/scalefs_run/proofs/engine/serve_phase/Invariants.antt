@@ -2,7 +2,7 @@ use Rattle.std.proofs.Common.{◌≤◌}
 use Rattle.sfs_dev.specs.Run.{Advances}
 use Rattle.scalefs_run.specs.Made.{Grown, UpTo}
 use Rattle.scalefs_run.specs.Safe.{KeepsCrashInvariant}
-use Rattle.scalefs_run.specs.Stands.{HasInvariant, KeepsInvariant}
+use Rattle.scalefs_run.specs.RunInvariant.{HasInvariant, KeepsInvariant}
 use Rattle.scalefs_run.proofs.engine.serve_phase.Given as goal
 
 abbrev pub invariant-loop-core : goal.invariant-loop-core

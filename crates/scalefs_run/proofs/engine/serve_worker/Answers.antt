@@ -7,7 +7,7 @@ use Rattle.sfs_tree.specs.declared.history.Entry.{Entry}
 use Rattle.script.specs.Limits.{calls_left}
 use Rattle.script.specs.Walks.{Position, call_of, started, commands_of}
 use Rattle.scalefs_run.specs.Calls.{Called}
-use Rattle.script.specs.Ready.{StandsReady}
+use Rattle.script.specs.Ready.{PositionReady}
 use Rattle.script.proofs.ReadyLemmas.{started_ready, taken_ready}
 use Rattle.script.proofs.EndLemmas.{calls_left-falls}
 use Rattle.scalefs_run.specs.Made.{Grown, AtWork}
@@ -24,7 +24,7 @@ loop-call-init g c =
       still = λ start from first stands. stands;
       crash_invariant = λ start from first stands counts safe. safe;
       made = subst (λ (w : Position). Grown history history (AtWork c.args.core c.args.phase.now w)) (sym worker_is) (at_first c.args.core c.args.phase.now history);
-      ready = subst (λ (w : Position). StandsReady w) (sym worker_is) (started_ready c.args.core c.args.phase.now c.requires.ready);
+      ready = subst (λ (w : Position). PositionReady w) (sym worker_is) (started_ready c.args.core c.args.phase.now c.requires.ready);
       advances = GoesOn-refl _;
     }
 
@@ -68,6 +68,6 @@ loop-call-preserved g c =
       still = λ start from first h. served.invariant start from first (invariant.still start from first h);
       crash_invariant = λ start from first h counts safe. served.crash_invariant start from first (invariant.still start from first h) counts (invariant.crash_invariant start from first h (let later = served.advances.later in omega arith) safe);
       made = subst (λ (w : Position). Grown c.args.engine.now.entries.items new (AtWork c.args.core c.args.phase.now w)) (sym c.take.ensures) stands_at;
-      ready = subst (λ (w : Position). StandsReady w) (sym c.take.ensures) (taken_ready c.loop-call.worker found.reply invariant.ready);
+      ready = subst (λ (w : Position). PositionReady w) (sym c.take.ensures) (taken_ready c.loop-call.worker found.reply invariant.ready);
       advances = GoesOn-trans _ _ _ invariant.advances served.advances;
     }

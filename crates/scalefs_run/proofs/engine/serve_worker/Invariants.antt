@@ -1,10 +1,10 @@
 use Rattle.std.proofs.Common.{◌≤◌}
 use Rattle.sfs_dev.specs.Run.{Advances}
 use Rattle.script.specs.Limits.{calls_left}
-use Rattle.script.specs.Ready.{StandsReady}
+use Rattle.script.specs.Ready.{PositionReady}
 use Rattle.scalefs_run.specs.Made.{Grown, AtWork}
 use Rattle.scalefs_run.specs.Safe.{KeepsCrashInvariant}
-use Rattle.scalefs_run.specs.Stands.{HasInvariant, KeepsInvariant}
+use Rattle.scalefs_run.specs.RunInvariant.{HasInvariant, KeepsInvariant}
 use Rattle.scalefs_run.proofs.engine.serve_worker.Given as goal
 
 abbrev pub invariant-loop-call : goal.invariant-loop-call
@@ -14,7 +14,7 @@ invariant-loop-call g l = let view = g.D.Disk.view in record {
   still : KeepsInvariant l.fn.engine l.engine (view l.fn.disk) (view l.disk);
   crash_invariant : KeepsCrashInvariant l.fn.engine l.engine (view l.fn.disk) (view l.disk);
   made : Grown l.fn.engine.entries.items l.engine.entries.items (AtWork l.core l.phase l.worker);
-  ready : StandsReady l.worker;
+  ready : PositionReady l.worker;
   advances : Advances (view l.fn.disk) (view l.disk);
 }
 
