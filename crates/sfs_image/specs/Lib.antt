@@ -2,7 +2,10 @@ pub mod Bytes
 pub mod Format
 pub mod Inode
 pub mod Journal
+pub mod Part
+pub mod Rules
 pub mod Seen
+pub mod Settled
 pub mod Slot
 pub mod SlotBlock
 pub mod Super
