@@ -1,6 +1,10 @@
+pub mod Basics
 pub mod BytesLaws
+pub mod FrameLaws
 pub mod InodeLaws
 pub mod JournalLaws
+pub mod NewestLaws
+pub mod PartLaws
 pub mod PiecesLaws
 pub mod SlotBlockLaws
 pub mod SlotLaws

@@ -1,5 +1,6 @@
 pub mod Bytes
 pub mod Format
+pub mod ImageOf
 pub mod Inode
 pub mod Journal
 pub mod Part
