@@ -1,8 +1,12 @@
 pub mod Basics
 pub mod BytesLaws
+pub mod EntriesLaws
 pub mod FrameLaws
+pub mod GivenLaws
+pub mod ImageOfLaws
 pub mod InodeLaws
 pub mod JournalLaws
+pub mod LayoutLaws
 pub mod NewestLaws
 pub mod PartLaws
 pub mod PiecesLaws

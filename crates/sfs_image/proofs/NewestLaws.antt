@@ -126,3 +126,33 @@ newest_greatest {A = A} at a (suc n) k s is =
       here = is.here;
       others = λ j other low high apart there. is.others j other (omega arith) (omega arith) apart there;
     }
+
+-- what is newest has no lesser stamp than any of these
+newer_max : {A : Type 0} (one other : Option (Stamped A)) (s : Stamped A) → newer one other ≡ Some s → ((u : Stamped A) → one ≡ Some u → u.stamp ≤ s.stamp) × ((u : Stamped A) → other ≡ Some u → u.stamp ≤ s.stamp)
+newer_max {A = A} None other s is = ((λ u none. absurd cc), (λ u there. let e : Some u ≡ Some s = sym there ∙ is in let same : u ≡ s = cc in let h = ap (λ (v : Stamped A). v.stamp) same in omega arith))
+newer_max {A = A} (Some one) None s is = ((λ u there. let e : Some u ≡ Some s = sym there ∙ is in let same : u ≡ s = cc in let h = ap (λ (v : Stamped A). v.stamp) same in omega arith), (λ u none. absurd cc))
+newer_max {A = A} (Some one) (Some other) s is =
+    elim (cases_Bool (ltb one.stamp other.stamp)) [
+      | inl later ↦ (let same : other ≡ s = (let e : Some other ≡ Some s = sym (cond-true (ltb one.stamp other.stamp) (Some other) (Some one) later) ∙ is in cc) in
+          let top = ap (λ (v : Stamped A). v.stamp) same in
+          let order = ltb-true one.stamp other.stamp later in
+          ((λ u there. let e : one ≡ u = cc in let h = ap (λ (v : Stamped A). v.stamp) e in omega arith), (λ u there. let e : other ≡ u = cc in let h = ap (λ (v : Stamped A). v.stamp) e in omega arith)))
+      | inr earlier ↦ (let same : one ≡ s = (let e : Some one ≡ Some s = sym (cond-false (ltb one.stamp other.stamp) (Some other) (Some one) earlier) ∙ is in cc) in
+          let top = ap (λ (v : Stamped A). v.stamp) same in
+          let order = ltb-false one.stamp other.stamp earlier in
+          ((λ u there. let e : one ≡ u = cc in let h = ap (λ (v : Stamped A). v.stamp) e in omega arith), (λ u there. let e : other ≡ u = cc in let h = ap (λ (v : Stamped A). v.stamp) e in omega arith)))
+    ]
+
+pub newest_max : {A : Type 0} (at : ℕ → Option (Stamped A)) (a n : ℕ) (s : Stamped A) → newest (map at (range_with_len a n)) ≡ Some s → (k : ℕ) (u : Stamped A) → a ≤ k → k < a + n → at k ≡ Some u → u.stamp ≤ s.stamp
+newest_max at a zero s is k u low high here = absurd (omega arith)
+newest_max {A = A} at a (suc n) s is k u low high here =
+    let both = newer_max (at a) (newest (map at (range_with_len (a + 1) n))) s is in
+    elim (cases_eq k a) [
+      | inl first ↦ both.0 u (ap at (sym first) ∙ here)
+      | inr later ↦ go both.1 (newest (map at (range_with_len (a + 1) n))) refl (λ w is_w. newest_max at (a + 1) n w is_w k u (omega arith) (omega arith) here) (λ none. newest_none at (a + 1) n none k (omega arith) (omega arith))
+    ]
+  where
+    go : ((w : Stamped A) → newest (map at (range_with_len (a + 1) n)) ≡ Some w → w.stamp ≤ s.stamp) → (o : Option (Stamped A)) → newest (map at (range_with_len (a + 1) n)) ≡ o →
+        ((w : Stamped A) → newest (map at (range_with_len (a + 1) n)) ≡ Some w → u.stamp ≤ w.stamp) → (newest (map at (range_with_len (a + 1) n)) ≡ None → at k ≡ None) → u.stamp ≤ s.stamp
+    go rest None e below none = absurd (let gone : at k ≡ None = none e in cc)
+    go rest (Some w) e below none = let a = rest w e in let b = below w e in omega arith

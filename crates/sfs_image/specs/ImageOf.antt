@@ -60,9 +60,13 @@ abbrev pub HaveOwnStamps : Layout → (ℕ → Option Transaction) → Type 0
 HaveOwnStamps layout opened =
     (j k : ℕ) (one other : Transaction) → j < slot_count layout → k < slot_count layout → opened j ≡ Some one → opened k ≡ Some other → one.stamp ≡ other.stamp → j ≡ k
 
+-- each pointer of a part names a block of the data area
+abbrev pub PointsToData : Layout → Part → Type 0
+PointsToData layout part = (place : ℕ) → pointer_at part place ≢ 0 → (data_start layout ≤ pointer_at part place) × (pointer_at part place < layout.blocks)
+
 -- An image stands for these parts with those slots open: its superblock is that of the layout and each slot is closed or has
 -- its transaction; the table has the record of each inode that no open slot has; and what the pointers of each part reach,
--- with the open transactions, is there.
+-- with the open transactions, is there, in the data area.
 pub record IsImageOf (layout : Layout) (opened : ℕ → Option Transaction) (parts : ℕ → Part) (image : List ℕ) : Type 0 where
   pub sound : super_fault_of image ≡ None
   pub divided : layout_of image ≡ layout
@@ -70,6 +74,7 @@ pub record IsImageOf (layout : Layout) (opened : ℕ → Option Transaction) (pa
   pub stamps : HaveOwnStamps layout opened
   pub table : (i : ℕ) → i < layout.inodes → given layout opened i ≡ None → table_record layout image i ≡ (parts i).raw
   pub gathered : (i : ℕ) → i < layout.inodes → IsGathered (image_block image) (with_opened layout opened parts i)
+  pub pointers : (i : ℕ) → i < layout.inodes → PointsToData layout (with_opened layout opened parts i)
 
 -- two lists of bytes are the same but for the n bytes from byte `at` on
 pub record AgreesOutside (at n : ℕ) (old new : List ℕ) : Type 0 where
@@ -81,13 +86,23 @@ pub record AgreesOutside (at n : ℕ) (old new : List ℕ) : Type 0 where
 abbrev pub LiesApart : ℕ → ℕ → ℕ → ℕ → Type 0
 LiesApart from m at n = (from + m ≤ at) ⊎ (at + n ≤ from)
 
--- each pointer of a part names a block of the data area
-abbrev pub PointsToData : Layout → Part → Type 0
-PointsToData layout part = (place : ℕ) → pointer_at part place ≢ 0 → (data_start layout ≤ pointer_at part place) × (pointer_at part place < layout.blocks)
-
 -- the slots of a disk with another transaction, or none, in one of them
 abbrev pub with_slot : (ℕ → Option Transaction) → ℕ → Option Transaction → ℕ → Option Transaction
 with_slot opened k one j = if j == k then one else opened j
+
+-- A transaction may come to the open ones: its commit stamp is none of theirs, and greater than that of each which gives an inode
+-- that it gives too; and its parts are gathered from these blocks and point to data.
+pub record MayOpen (layout : Layout) (opened : ℕ → Option Transaction) (one : Transaction) (store : ℕ → List ℕ) : Type 0 where
+  pub own : (j : ℕ) (other : Transaction) → j < slot_count layout → opened j ≡ Some other → other.stamp ≢ one.stamp
+  pub newer : (i j : ℕ) (other ours : Stamped Part) → j < slot_count layout → part_given i (opened j) ≡ Some other → part_given i (Some one) ≡ Some ours → other.stamp < ours.stamp
+  pub gathered : All (λ (inner : InodePart). IsGathered store inner.part) one.parts
+  pub pointers : All (λ (inner : InodePart). PointsToData layout inner.part) one.parts
+
+-- A slot may be closed whose transaction has a lesser commit stamp than each other which gives an inode that it gives too, and
+-- which gives no inode alone whose record is not in the table.
+pub record MayShut (layout : Layout) (opened : ℕ → Option Transaction) (k : ℕ) (image : List ℕ) : Type 0 where
+  pub older : (i j : ℕ) (other ours : Stamped Part) → j < slot_count layout → j ≢ k → part_given i (opened j) ≡ Some other → part_given i (opened k) ≡ Some ours → ours.stamp < other.stamp
+  pub table : (i : ℕ) (ours : Stamped Part) → i < layout.inodes → part_given i (opened k) ≡ Some ours → given layout (with_slot opened k None) i ≡ None → table_record layout image i ≡ ours.value.raw
 
 -- a block and the bytes that are written to it
 pub record FreshBlock : Type 0 where

@@ -3,6 +3,7 @@ pub mod Format
 pub mod ImageOf
 pub mod Inode
 pub mod Journal
+pub mod Laws
 pub mod Part
 pub mod Rules
 pub mod Seen
