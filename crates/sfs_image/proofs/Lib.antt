@@ -2,10 +2,12 @@ pub mod Basics
 pub mod BytesLaws
 pub mod EntriesLaws
 pub mod FrameLaws
+pub mod GateLaws
 pub mod GivenLaws
 pub mod ImageOfLaws
 pub mod InodeLaws
 pub mod JournalLaws
+pub mod KeptLaws
 pub mod LayoutLaws
 pub mod NewestLaws
 pub mod PartLaws
@@ -14,3 +16,4 @@ pub mod SlotBlockLaws
 pub mod SlotLaws
 pub mod SuperLaws
 pub mod WritesLaws
+pub mod WrittenLaws

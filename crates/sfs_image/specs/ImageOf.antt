@@ -4,7 +4,7 @@ use Rattle.std.specs.List.{range_with_len, flat_map, find}
 use Rattle.sfs_image.specs.Bytes.{part}
 use Rattle.sfs_image.specs.Journal.{Entry, head_of, numbers_of, numbers_fault}
 use Rattle.sfs_image.specs.Part.{Part, IsGathered, pointer_at}
-use Rattle.sfs_image.specs.Settled.{Body, Stamped, newest, body_in, image_block, journal_slot, layout_of, slot_count, super_fault_of, table_record}
+use Rattle.sfs_image.specs.Settled.{Body, Stamped, newest, body_in, image_block, journal_slot, layout_of, slot_byte, slot_count, super_fault_of, table_record}
 use Rattle.sfs_image.specs.Super.{Layout, IsLayout, data_start}
 
 -- an inode and its part
@@ -103,6 +103,22 @@ pub record MayOpen (layout : Layout) (opened : ℕ → Option Transaction) (one 
 pub record MayShut (layout : Layout) (opened : ℕ → Option Transaction) (k : ℕ) (image : List ℕ) : Type 0 where
   pub older : (i j : ℕ) (other ours : Stamped Part) → j < slot_count layout → j ≢ k → part_given i (opened j) ≡ Some other → part_given i (opened k) ≡ Some ours → ours.stamp < other.stamp
   pub table : (i : ℕ) (ours : Stamped Part) → i < layout.inodes → part_given i (opened k) ≡ Some ours → given layout (with_slot opened k None) i ≡ None → table_record layout image i ≡ ours.value.raw
+
+-- A write of one byte at the gate of slot k, which is closed and has the whole body of a transaction, opens it.
+pub record OpensGate (layout : Layout) (opened : ℕ → Option Transaction) (k : ℕ) (one : Transaction) (old new : List ℕ) : Type 0 where
+  pub within : k < slot_count layout
+  pub written : AgreesOutside (slot_byte layout k) 1 old new
+  pub shut : opened k ≡ None
+  pub whole : HasBody layout.inodes one (journal_slot layout old k)
+  pub may : MayOpen layout opened one (image_block old)
+  pub gate : (head_of (part 0 4096 (journal_slot layout new k))).gate ≡ true
+
+-- A write of one byte at the gate of slot k shuts it.
+pub record ShutsGate (layout : Layout) (opened : ℕ → Option Transaction) (k : ℕ) (old new : List ℕ) : Type 0 where
+  pub within : k < slot_count layout
+  pub written : AgreesOutside (slot_byte layout k) 1 old new
+  pub may : MayShut layout opened k old
+  pub gate : (head_of (part 0 4096 (journal_slot layout new k))).gate ≡ false
 
 -- a block and the bytes that are written to it
 pub record FreshBlock : Type 0 where
