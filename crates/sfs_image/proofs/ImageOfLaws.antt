@@ -1,6 +1,6 @@
 -- An image that stands for parts: its settled parts are those with what the open slots give, and nothing is wrong in its
 -- superblock and journals.
-use Rattle.std.proofs.Common.{◌≡◌, ◌≢◌, ℕ, zero, suc, ◌+◌, ◌<◌, ◌≤◌, Bool, true, false, cond, eqb, ltb, List, [], ◌∷◌, ◌++◌, map, Option, None, Some, option_map, refl, sym, ap, ◌∙◌, subst, arith, inl, inr, ◌⊎◌}
+use Rattle.std.proofs.Common.{◌≡◌, ◌≢◌, ℕ, zero, suc, ◌+◌, ◌^◌, ◌<◌, ◌≤◌, Bool, true, false, cond, eqb, ltb, List, [], ◌∷◌, ◌++◌, map, Option, None, Some, option_map, refl, sym, ap, ◌∙◌, subst, arith, inl, inr, ◌⊎◌}
 use Rattle.std.specs.Prelude.{unwrap_or, true, false}
 use Rattle.std.specs.Option.{option_or}
 use Rattle.std.specs.List.{range_with_len, flat_map, find, list_any}
@@ -8,11 +8,12 @@ use Rattle.std.proofs.lemmas.Bool.{cases_Bool, cond-true, cond-false, le-ltb, ne
 use Rattle.std.proofs.lemmas.List.{map-append}
 use Rattle.std.proofs.lemmas.List.Folds.{list_any-append}
 use Rattle.sfs_image.specs.Bytes.{part, first_of, fault_at}
-use Rattle.sfs_image.specs.ImageOf.{InodePart, Transaction, transaction_body, part_given, given, with_opened, IsShut, HasBody, IsOpenWith, IsSlotOf, HaveOwnStamps, IsImageOf}
-use Rattle.sfs_image.specs.Journal.{Entry, head_of, head_fault, numbers_fault, numbers_of, journal_fault}
-use Rattle.sfs_image.specs.Part.{Part, part_of}
+use Rattle.sfs_image.specs.ImageOf.{InodePart, Transaction, transaction_body, part_given, given, with_opened, IsShut, HasBody, IsOpenWith, IsSlotOf, HaveOwnStamps, IsImageOf, PointsToData}
+use Rattle.sfs_image.specs.Journal.{Entry, head_of, head_fault, numbers_fault, numbers_of, journal_fault, AreEntries, HasEntries}
+use Rattle.sfs_image.specs.Part.{Part, part_of, IsGathered}
 use Rattle.sfs_image.specs.Settled.{Body, Stamped, newest, body_in, open_body, open_below, open_bodies, record_in, held, table_record, settled, parts_of, journal_slot, slot_count, image_block, slot_fault_of, journal_fault_of}
 use Rattle.sfs_image.specs.Super.{Layout}
+use Rattle.sfs_image.proofs.EntriesLaws.{read_again}
 use Rattle.sfs_image.proofs.NewestLaws.{over, IsOnce, newest_of_pieces, newest_over}
 use Rattle.sfs_image.proofs.NewestLaws.IsOnce.{nothing, once}
 use Rattle.sfs_image.proofs.PiecesLaws.{first_of-from}
@@ -127,3 +128,31 @@ module _ (layout : Layout) (opened : ℕ → Option Transaction) (parts : ℕ �
   -- nothing is wrong in the journals
   pub journals_are_sound : journal_fault_of layout image ≡ None
   journals_are_sound = first_of-from (slot_count layout) (slot_fault_of layout image) slot_is_sound
+
+-- Where the entries of a transaction stand in a slot, under its commit stamp, its whole body is there.
+pub whole_body : (inodes : ℕ) (one : Transaction) (slot : List ℕ) → inodes ≤ 2 ^ 32 → (head_of (part 0 4096 slot)).stamp ≡ one.stamp → AreEntries inodes (transaction_body one).entries → HasEntries inodes (transaction_body one).entries slot →
+    HasBody inodes one slot
+whole_body inodes one slot small stamp are has =
+    let again = read_again inodes (transaction_body one).entries slot small are has in
+    let entries = again.again in
+    record { count = again.count; numbers = again.sound; body = λ i. record { stamp = stamp i; entries = entries i } }
+
+-- The parts of inodes that an open slot has may be any, where the slots are not looked at.
+pub parts_instead : (layout : Layout) (opened : ℕ → Option Transaction) (parts others : ℕ → Part) (image : List ℕ) → ((i : ℕ) → i < layout.inodes → given layout opened i ≡ None → others i ≡ parts i) →
+    IsImageOf layout opened parts image → IsImageOf layout opened others image
+parts_instead layout opened parts others image same is = record {
+  sound = is.sound;
+  divided = is.divided;
+  slots = is.slots;
+  stamps = is.stamps;
+  table = λ i h none. is.table i h none ∙ ap (λ (part : Part). part.raw) (sym (same i h none));
+  gathered = λ i h. subst (IsGathered (image_block image)) (sym (with_same i h)) (is.gathered i h);
+  pointers = λ i h. subst (PointsToData layout) (sym (with_same i h)) (is.pointers i h);
+}
+  where
+    unwrap_same : (o : Option Part) (one other : Part) → (o ≡ None → one ≡ other) → unwrap_or o one ≡ unwrap_or o other
+    unwrap_same None one other are = are refl
+    unwrap_same (Some x) one other are = refl
+
+    with_same : (i : ℕ) → i < layout.inodes → with_opened layout opened others i ≡ with_opened layout opened parts i
+    with_same i h = unwrap_same (given layout opened i) (others i) (parts i) (same i h)

@@ -12,6 +12,7 @@ pub mod LayoutLaws
 pub mod NewestLaws
 pub mod PartLaws
 pub mod PiecesLaws
+pub mod RuleLaws
 pub mod SlotBlockLaws
 pub mod SlotLaws
 pub mod SuperLaws
