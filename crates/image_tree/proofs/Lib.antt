@@ -1,0 +1,4 @@
+pub mod Basics
+pub mod Paired
+pub mod Renaming
+pub mod Shapes

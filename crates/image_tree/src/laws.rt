@@ -1,0 +1,7 @@
+// What is proved of the definitions: each function's contract is a law.
+ghost use Rattle.image_tree.specs.Laws.{RenamedTreesHaveOneShape};
+
+/// A tree under other numbers is sound where the first is, and has its shape.
+pub fn renamed_trees_have_one_shape()
+    ensures { RenamedTreesHaveOneShape }
+{}
