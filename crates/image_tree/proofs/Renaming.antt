@@ -120,7 +120,7 @@ module _ (num : Numbering) (tree other : TreeState) (r : IsRenamed num tree othe
           named_alive other i (record { directory = h.0; name = name.name; row = row_forth name.directory h.0 d i name.name h.1 name.row from })
     ]
 
-    above_renamed : (x j : ℕ) (above : List ℕ) → num x ≡ Some j → Above tree x above → (l : List ℕ) × Above other j l
+    pub above_renamed : (x j : ℕ) (above : List ℕ) → num x ≡ Some j → Above tree x above → (l : List ℕ) × Above other j l
     above_renamed x j above is way = go x above way j is
       where
         go : (x : ℕ) (above : List ℕ) → Above tree x above → (j : ℕ) → num x ≡ Some j → (l : List ℕ) × Above other j l

@@ -4,15 +4,13 @@ use Rattle.std.specs.List.{find}
 use Rattle.std.specs.Option.{option_map_or}
 use Rattle.sfs_base.specs.declared.numbers.NodeId.{NodeId}
 use Rattle.sfs_tree.specs.NameRow.{number_of}
-use Rattle.sfs_tree.specs.Tree.{TreeState, row_of, kind_of, bytes_of, links_of, is_directory, names_of, bucket_rows}
+use Rattle.sfs_tree.specs.Tree.{TreeState, row_of, kind_of, bytes_of, links_of, names_of}
 use Rattle.absorb.specs.declared.nets.NetRow.{NetRow}
 use Rattle.absorb.specs.Net.{IsNet}
 use Rattle.sfs_image.specs.Slot.{Row, kind_byte}
 use Rattle.sfs_image.specs.Seen.{Seen, SeenInodes}
 use Rattle.image_tree.specs.Slots.{in_blocks}
-use Rattle.image_tree.specs.Renamed.{Numbering, HasNumber, IsMet}
-use Rattle.std.specs.FinMap.{len}
-use Rattle.image_tree.specs.Keeps.{BUCKET_ROWS}
+use Rattle.image_tree.specs.Renamed.{Numbering, HasNumber}
 use Rattle.image_tree.specs.Stands.{row_on, size_of, IsUnused}
 
 -- the row of a net that has this name, where there is one
@@ -109,12 +107,8 @@ pub record IsCommit (commit : Commit) (old new : TreeState) (image next : SeenIn
   pub rest : (i : ℕ) → i < next.count → ((node : ℕ) × (commit.after node ≡ Some i)) ⊎ IsUnused (next.seen i)
   pub blocks : TakesBlocks commit image next
 
--- A tree may follow another under a numbering: nodes keep their kinds, the root keeps its number, each child has one, a directory with
--- a number is the root or is named, no directory has bytes, and no bucket is overfull.
+-- A tree may follow another under a numbering: nodes keep their kinds, the root keeps its number, and each child has one.
 pub record MayFollow (num : Numbering) (old new : TreeState) : Type 0 where
   pub kinds : (node : ℕ) → kind_of new node ≡ kind_of old node
   pub root : num 0 ≡ Some 0
   pub named : (directory : ℕ) (name : List ℕ) (child : ℕ) → row_of new directory name ≡ Some child → HasNumber num child
-  pub placed : (node i : ℕ) → num node ≡ Some i → is_directory new node ≡ true → IsMet new node
-  pub plain : (node : ℕ) → is_directory new node ≡ true → bytes_of new node ≡ []
-  pub full : (directory number : ℕ) → number < 8 → len (bucket_rows directory number new.rows) ≤ BUCKET_ROWS

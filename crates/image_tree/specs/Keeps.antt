@@ -9,11 +9,7 @@ use Rattle.sfs_image.specs.Slot.{Row, kind_byte}
 use Rattle.sfs_image.specs.Seen.{SeenInodes}
 use Rattle.image_tree.specs.Slots.{name_count}
 use Rattle.image_tree.specs.ImageTree.{Making, image_rows, image_tree}
-use Rattle.image_tree.specs.Stands.{HoldsApart}
-
--- how many rows a bucket may have
-abbrev pub BUCKET_ROWS : ℕ
-BUCKET_ROWS = 4096
+use Rattle.image_tree.specs.Stands.{HoldsApart, BUCKET_ROWS}
 
 -- an inode of an image is a directory
 abbrev pub IsDirectoryInode : SeenInodes → ℕ → Type 0

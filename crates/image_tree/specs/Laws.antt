@@ -3,8 +3,22 @@ use Rattle.std.specs.Prelude.{◌≡◌}
 use Rattle.sfs_tree.specs.Tree.{TreeState}
 use Rattle.sfs_tree.specs.Sound.{IsSound}
 use Rattle.sfs_tree.specs.Shape.{shape_of}
+use Rattle.sfs_image.specs.Seen.{SeenInodes}
+use Rattle.image_tree.specs.ImageTree.{Making, image_tree}
 use Rattle.image_tree.specs.Renamed.{Numbering, IsRenamed}
+use Rattle.image_tree.specs.Stands.{StandsForTree, IsStorable}
+use Rattle.image_tree.specs.Keeps.{KeepsRules}
 
 -- A tree under other numbers is sound where the first is, and has its shape.
 abbrev pub RenamedTreesHaveOneShape : Type 0
 RenamedTreesHaveOneShape = (num : Numbering) (tree other : TreeState) → IsSound tree → IsRenamed num tree other → IsSound other × (shape_of other ≡ shape_of tree)
+
+-- What an image shows that stands for a tree: it keeps the rules, and its own tree is sound and has the tree's shape.
+pub record ShowsTree (tree : TreeState) (image : SeenInodes) (making : Making) : Type 0 where
+  pub rules : KeepsRules image making
+  pub sound : IsSound (image_tree image making)
+  pub shape : shape_of (image_tree image making) ≡ shape_of tree
+
+-- An image that stands for a sound tree shows it.
+abbrev pub StandingImagesShow : Type 0
+StandingImagesShow = (num : Numbering) (tree : TreeState) (image : SeenInodes) (making : Making) → IsSound tree → IsStorable num tree → StandsForTree num tree image → ShowsTree tree image making

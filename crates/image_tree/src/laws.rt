@@ -1,7 +1,12 @@
 // What is proved of the definitions: each function's contract is a law.
-ghost use Rattle.image_tree.specs.Laws.{RenamedTreesHaveOneShape};
+ghost use Rattle.image_tree.specs.Laws.{RenamedTreesHaveOneShape, StandingImagesShow};
 
 /// A tree under other numbers is sound where the first is, and has its shape.
 pub fn renamed_trees_have_one_shape()
     ensures { RenamedTreesHaveOneShape }
+{}
+
+/// An image that stands for a sound tree keeps the rules, and shows a sound tree of its shape.
+pub fn standing_images_show()
+    ensures { StandingImagesShow }
 {}
