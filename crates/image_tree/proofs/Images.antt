@@ -1,5 +1,5 @@
 -- What stands in the tree of an image, from what its inodes show.
-use Rattle.std.proofs.Common.{◌≡◌, ◌≢◌, ℕ, zero, suc, ◌+◌, ◌<◌, ◌≤◌, Bool, true, false, cond, not, ◌&&◌, ◌||◌, List, [], ◌∷◌, Option, Some, None, option_map, IsSome, ◌⊎◌, inl, inr, refl, sym, ap, subst, ◌∙◌, arith, nat_eq, nat_lt}
+use Rattle.std.proofs.Common.{◌≡◌, ◌≢◌, ℕ, zero, suc, ◌+◌, ◌<◌, ◌≤◌, Bool, true, false, cond, not, ◌&&◌, ◌||◌, List, [], ◌∷◌, Option, Some, None, option_map, ◌⊎◌, inl, inr, refl, sym, ap, ◌∙◌, arith, nat_eq, nat_lt}
 use borrow.Author.Tests.{eqb-true, eq-eqb, eqb-false, ltb-true, ltb-false}
 use Rattle.std.specs.Prelude.{bytes_eq, filter_map}
 use Rattle.std.specs.List.{range_with_len, flat_map}
@@ -10,14 +10,14 @@ use Rattle.std.specs.FinMap.{FinMap, find, get, get-from_entries}
 use Rattle.std.proofs.lemmas.Map.Text.{is_eq-slice_cmp}
 use Rattle.sfs_base.specs.declared.numbers.Kind.{Kind}
 use Rattle.sfs_base.specs.declared.numbers.Kind.TheVariants.{File, Directory}
-use Rattle.sfs_tree.specs.Order.{name_cmp, Key, key_cmp}
-use Rattle.sfs_tree.specs.Tree.{TreeState, Node, is_directory_kind, row_of, count_of, is_directory}
+use Rattle.sfs_tree.specs.Order.{name_cmp, key_cmp}
+use Rattle.sfs_tree.specs.Tree.{Node, is_directory_kind, count_of, is_directory}
 use Rattle.sfs_tree.proofs.Joined.{key_cmp_total, same_key, find-append}
 use Rattle.sfs_image.specs.Slot.{Row, kind_byte, kind_of}
-use Rattle.sfs_image.specs.Seen.{Seen, SeenInodes}
-use Rattle.image_tree.specs.Slots.{has_name, looked_up}
+use Rattle.sfs_image.specs.Seen.{SeenInodes}
+use Rattle.image_tree.specs.Slots.{looked_up}
 use Rattle.image_tree.specs.ImageTree.{Making, shows_directory, shows_file, row_in, rows_in, image_rows, is_node, node_shown, node_in, image_nodes, image_tree}
-use Rattle.image_tree.proofs.Basics.{some_is, none_some, true_false}
+use Rattle.image_tree.proofs.Basics.{some_is, none_some}
 
 or_none : {X : Type 0} (o : Option X) → option_or o None ≡ o
 or_none (Some x) = refl

@@ -1,8 +1,8 @@
 -- A tree under other numbers: its rows, its counts, and that it is sound.
-use Rattle.std.proofs.Common.{◌≡◌, ◌≢◌, ℕ, ◌+◌, Bool, true, false, cond, ◌&&◌, List, [], ◌∷◌, length, Option, Some, None, IsSome, inl, inr, refl, sym, ap, subst, ◌∙◌, arith, count_by, nat_eq}
+use Rattle.std.proofs.Common.{◌≡◌, ℕ, ◌+◌, Bool, true, false, cond, ◌&&◌, List, [], ◌∷◌, length, Option, Some, None, IsSome, inl, inr, refl, sym, ap, subst, ◌∙◌, arith, count_by, nat_eq}
 use Rattle.std.specs.Option.{unwrap_or, option_and_then, option_map_or}
 use Rattle.std.specs.FinMap.{get, entries, len, len-entries}
-use Rattle.sfs_tree.specs.Order.{Key, key_cmp}
+use Rattle.sfs_tree.specs.Order.{Key}
 use Rattle.sfs_tree.specs.Tree.{TreeState, Node, is_directory_kind, row_of, is_directory, is_alive, kind_of, bytes_of, count_of, links_of, names_it, holds_directory}
 use Rattle.sfs_tree.specs.Sound.{Above, at_root, below, IsSound}
 use Rattle.sfs_tree.proofs.Joined.{count-cons}
@@ -10,7 +10,7 @@ use Rattle.sfs_tree.proofs.RowFacts.{alive_named, root_alive, named_alive}
 use Rattle.image_tree.specs.Renamed.{Numbering, HasNumber, IsMet, root, named, IsRenamed}
 use Rattle.image_tree.specs.Stands.{inode_under}
 use Rattle.image_tree.proofs.Basics.{some_is, none_some, same_test}
-use Rattle.image_tree.proofs.Paired.{ArePaired, count_paired}
+use Rattle.image_tree.proofs.Paired.{count_paired}
 
 pub under_is : (num : Numbering) (node i : ℕ) → num node ≡ Some i → inode_under num node ≡ i
 under_is num node i e = ap (λ o. unwrap_or o 0) e
@@ -102,8 +102,8 @@ module _ (num : Numbering) (tree other : TreeState) (r : IsRenamed num tree othe
     where
       directories : count_by (holds_directory tree x) (entries tree.rows) ≡ count_by (holds_directory other j) (entries other.rows)
       directories = count_renamed (holds_directory tree x) (holds_directory other j) (λ d i y k n row from to.
-        ap (λ b. b && is_directory other k) (number_same x d j i is from)
-        ∙ ap (λ b. nat_eq d x && b) (directory_renamed y k to (named d n y row)))
+          ap (λ b. b && is_directory other k) (number_same x d j i is from)
+          ∙ ap (λ b. nat_eq d x && b) (directory_renamed y k to (named d n y row)))
 
   module _ (s : IsSound tree) where
     holder_met : (d : ℕ) (n : List ℕ) (x : ℕ) → row_of tree d n ≡ Some x → IsMet tree d

@@ -1,23 +1,22 @@
 -- The shape of a tree under other numbers is its shape.
-use Rattle.std.proofs.Common.{◌≡◌, ◌≢◌, ℕ, zero, suc, ◌+◌, Bool, true, false, cond, T, not, ◌&&◌, ◌||◌, List, [], ◌∷◌, ◌++◌, length, map, Option, Some, None, option_map, inl, inr, refl, sym, ap, subst, ◌∙◌, arith, nat_eq, nat_lt}
+use Rattle.std.proofs.Common.{◌≡◌, ℕ, zero, suc, ◌+◌, Bool, true, false, cond, T, not, ◌&&◌, ◌||◌, List, [], ◌∷◌, ◌++◌, length, map, Option, Some, None, option_map, refl, sym, ap, subst, ◌∙◌, nat_eq, nat_lt}
 use Rattle.std.specs.Prelude.{fold, filter}
 use Rattle.std.specs.List.{AllByRecursion, list_any, flat_map, position, position_or_len}
-use Rattle.std.specs.Option.{unwrap_or, option_and_then}
+use Rattle.std.specs.Option.{option_and_then}
 use Rattle.std.specs.Ordering.{eq_by_cmp, is_lt}
 use Rattle.std.specs.Cmp.Lexicographic.{nat_list_cmp_total}
 use Rattle.std.specs.FinMap.{FinMap, find, entries, get, len, from_sorted, is_sorted, get-from_sorted, entries-from_sorted, get-entries, entries_sorted, same_map}
 use Rattle.std.specs.FinMap.Entries.{below_all}
 use Rattle.std.proofs.lemmas.List.{length-map}
-use Rattle.sfs_tree.specs.Order.{name_cmp, Key, key_cmp}
+use Rattle.sfs_tree.specs.Order.{name_cmp}
 use Rattle.sfs_tree.specs.Tree.{TreeState, row_of, is_directory, names_where, names_of}
-use Rattle.sfs_tree.specs.Sound.{IsSound}
-use Rattle.sfs_tree.specs.Shape.{Met, met_from, met, with_file, files_met, Line, line_of, shape_of}
+use Rattle.sfs_tree.specs.Shape.{Met, met_from, met, with_file, files_met, line_of, shape_of}
 use Rattle.sfs_tree.proofs.Joined.{name_cmp-IsAntisymmetric}
 use Rattle.sfs_tree.proofs.Names.{get-names_where}
-use Rattle.image_tree.specs.Renamed.{Numbering, HasNumber, IsMet, root, named, IsRenamed}
+use Rattle.image_tree.specs.Renamed.{Numbering, IsMet, root, named, IsRenamed}
 use Rattle.image_tree.specs.Stands.{inode_under}
 use Rattle.image_tree.specs.Laws.{RenamedTreesHaveOneShape}
-use Rattle.image_tree.proofs.Basics.{some_is, none_some, same_test, each_entry}
+use Rattle.image_tree.proofs.Basics.{each_entry}
 use Rattle.image_tree.proofs.Renaming.{under_is, met_number, number_same, len_renamed, directory_renamed, kind_renamed, links_renamed, bytes_renamed, sound_renamed}
 
 -- entries with their values changed
@@ -125,8 +124,8 @@ module _ (num : Numbering) (tree other : TreeState) (r : IsRenamed num tree othe
   met_renamed zero path x m = refl
   met_renamed (suc steps) path x m =
       ap (λ l. record { path = path; node = inode_under num x } ∷ l) (
-        ap (λ b. flat_map walk_other (cond b (entries (names_of (inode_under num x) other.rows)) [])) (directory_renamed num tree other r x (inode_under num x) (number_of_met x m) m)
-        ∙ by_kind (λ row is. met_renamed steps (path ++ row.0 ∷ []) row.1 is) (is_directory tree x))
+      ap (λ b. flat_map walk_other (cond b (entries (names_of (inode_under num x) other.rows)) [])) (directory_renamed num tree other r x (inode_under num x) (number_of_met x m) m)
+      ∙ by_kind (λ row is. met_renamed steps (path ++ row.0 ∷ []) row.1 is) (is_directory tree x))
     where
       walk : List ℕ × ℕ → List Met
       walk row = met_from steps tree (path ++ row.0 ∷ []) row.1

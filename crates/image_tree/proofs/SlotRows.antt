@@ -1,16 +1,15 @@
 -- Slots in which each name stands once: what is looked up is what stands there.
-use Rattle.std.proofs.Common.{◌≡◌, ◌≢◌, ℕ, suc, ◌+◌, ◌<◌, ◌≤◌, Bool, true, false, cond, List, [], ◌∷◌, Option, Some, None, refl, sym, ap, subst, ◌∙◌, arith}
+use Rattle.std.proofs.Common.{◌≡◌, ◌≢◌, ℕ, ◌+◌, ◌<◌, ◌≤◌, true, false, cond, List, [], ◌∷◌, Option, Some, None, refl, sym, ap, ◌∙◌, arith}
 use Rattle.std.specs.Prelude.{bytes_eq}
 use Rattle.std.specs.List.{AllByRecursion}
 use Rattle.std.proofs.lemmas.Map.Text.{is_eq-slice_cmp}
 use Rattle.std.specs.Ordering.{is_eq}
 use Rattle.std.specs.Cmp.{tied_itself}
 use Rattle.std.specs.Cmp.Lexicographic.{nat_list_cmp_total}
-use Rattle.sfs_tree.specs.Order.{name_cmp}
 use Rattle.sfs_tree.proofs.Joined.{name_cmp-IsAntisymmetric, is_equal, count-cons}
 use Rattle.sfs_image.specs.Slot.{Row}
 use Rattle.image_tree.specs.Slots.{has_name, looked_up, name_count}
-use Rattle.image_tree.proofs.Basics.{some_is, none_some, true_false}
+use Rattle.image_tree.proofs.Basics.{some_is, none_some}
 
 -- bytes are told apart as names are
 pub bytes_same : (n : List ℕ) → bytes_eq n n ≡ true

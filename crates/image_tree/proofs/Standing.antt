@@ -1,6 +1,6 @@
 -- An image that stands for a sound tree shows that tree, and keeps the rules.
-use Rattle.std.proofs.Common.{◌≡◌, ◌≢◌, ℕ, zero, suc, ◌+◌, ◌<◌, ◌≤◌, Bool, true, false, cond, length, List, [], ◌∷◌, Option, Some, None, option_map, IsSome, ◌⊎◌, inl, inr, refl, sym, ap, subst, ◌∙◌, arith, count_by, nat_eq}
-use borrow.Author.Tests.{eqb-true, eq-eqb, eqb-false}
+use Rattle.std.proofs.Common.{◌≡◌, ◌≢◌, ℕ, zero, suc, ◌+◌, ◌<◌, ◌≤◌, Bool, true, false, cond, length, List, [], ◌∷◌, Option, Some, None, option_map, IsSome, inl, inr, refl, sym, ap, subst, ◌∙◌, arith, count_by, nat_eq}
+use borrow.Author.Tests.{eqb-true, eq-eqb}
 use Rattle.std.specs.List.{AllByRecursion}
 use Rattle.std.specs.Option.{option_and_then, option_map_or}
 use Rattle.std.specs.FinMap.{FinMap, get, entries, remove, len, len-entries}
@@ -10,23 +10,23 @@ use Rattle.sfs_base.specs.declared.numbers.Kind.{Kind}
 use Rattle.sfs_base.specs.declared.numbers.Kind.TheVariants.{File, Directory}
 use Rattle.sfs_tree.specs.Order.{Key, key_cmp}
 use Rattle.sfs_tree.specs.Tree.{TreeState, Node, is_directory_kind, row_of, is_directory, kind_of, bytes_of, count_of, links_of, names_it, bucket_rows, holds_directory}
-use Rattle.sfs_tree.specs.Sound.{Above, at_root, below, IsSound}
+use Rattle.sfs_tree.specs.Sound.{Above, at_root, IsSound}
 use Rattle.sfs_tree.specs.Shape.{shape_of}
 use Rattle.sfs_tree.proofs.Counting.{count-remove, count_none, count_some, found, stayed}
 use Rattle.sfs_tree.proofs.RowFacts.{alive_named}
 use Rattle.sfs_image.specs.Slot.{Row, kind_byte}
-use Rattle.sfs_image.specs.Seen.{Seen, SeenInodes}
-use Rattle.image_tree.specs.Slots.{looked_up, name_count}
-use Rattle.image_tree.specs.ImageTree.{Making, shows_directory, image_rows, is_node, node_shown, image_nodes, image_tree}
+use Rattle.sfs_image.specs.Seen.{SeenInodes}
+use Rattle.image_tree.specs.Slots.{looked_up}
+use Rattle.image_tree.specs.ImageTree.{Making, shows_directory, image_rows, is_node, node_shown, image_tree}
 use Rattle.image_tree.specs.Renamed.{Numbering, HasNumber, IsMet, root, named, IsRenamed}
-use Rattle.image_tree.specs.Stands.{inode_under, row_on, ShowsNode, IsUnused, StandsForTree, IsStorable}
+use Rattle.image_tree.specs.Stands.{inode_under, row_on, StandsForTree, IsStorable}
 use Rattle.image_tree.specs.Laws.{StandingImagesShow}
 use Rattle.image_tree.specs.Keeps.{IsDirectoryInode, MayName, MayStand, KeepsRules}
 use Rattle.image_tree.proofs.Basics.{some_is, none_some, true_false}
-use Rattle.image_tree.proofs.Renaming.{under_is, row_forth, naming_renamed, links_renamed, sound_renamed, above_renamed}
+use Rattle.image_tree.proofs.Renaming.{under_is, naming_renamed, links_renamed, sound_renamed, above_renamed}
 use Rattle.image_tree.proofs.Shapes.{part_renamed, shape_renamed, with_value}
-use Rattle.image_tree.proofs.SlotRows.{OnRow, each_found, looked_named}
-use Rattle.image_tree.proofs.Images.{row_shown, no_row_shown, slot_back, node_is, node_back, directory_is_node, file_is_node, directory_shown, kind_again}
+use Rattle.image_tree.proofs.SlotRows.{OnRow, each_found}
+use Rattle.image_tree.proofs.Images.{row_shown, no_row_shown, slot_back, node_is, directory_is_node, file_is_node, directory_shown, kind_again}
 
 -- a row of which there is only one is counted once at most
 pub counted_once : (p : Key × ℕ → Bool) (rows : FinMap key_cmp ℕ) → ((k l : Key) (x y : ℕ) → get rows k ≡ Some x → p (k, x) ≡ true → get rows l ≡ Some y → p (l, y) ≡ true → k ≡ l) → count_by p (entries rows) ≤ 1
@@ -67,7 +67,7 @@ kind_directory tree x = by_node (get tree.nodes x)
     by_node (Some n) = refl
     by_node None = refl
 
-not_used : (k : Kind) → kind_byte k ≡ 0 → ⊥
+pub not_used : (k : Kind) → kind_byte k ≡ 0 → ⊥
 not_used File e = cc
 not_used Directory e = cc
 
@@ -75,15 +75,16 @@ byte_directory : (k : Kind) → nat_eq (kind_byte k) (kind_byte Directory) ≡ i
 byte_directory File = refl
 byte_directory Directory = refl
 
+-- a directory with a row has a number
+pub holder_number : (num : Numbering) (tree : TreeState) (image : SeenInodes) → IsSound tree → StandsForTree num tree image → (d : ℕ) (n : List ℕ) (x : ℕ) → row_of tree d n ≡ Some x → HasNumber num d
+holder_number num tree image s st d n x row = elim (alive_named tree d (s.holds d n x row).1) [
+  | inl is ↦ subst (HasNumber num) (sym is) (0, st.root)
+  | inr name ↦ st.named name.directory name.name d name.row
+]
+
 module _ (num : Numbering) (tree : TreeState) (image : SeenInodes) (making : Making) (s : IsSound tree) (st : StandsForTree num tree image) where
   abbrev shown : TreeState
   shown = image_tree image making
-
-  holder_number : (d : ℕ) (n : List ℕ) (x : ℕ) → row_of tree d n ≡ Some x → HasNumber num d
-  holder_number d n x row = elim (alive_named tree d (s.holds d n x row).1) [
-    | inl is ↦ subst (HasNumber num) (sym is) (0, st.root)
-    | inr name ↦ st.named name.directory name.name d name.row
-  ]
 
   is_shown : (x i : ℕ) → num x ≡ Some i → shows_directory (image.seen i) ≡ is_directory tree x
   is_shown x i is = ap (λ k. nat_eq k (kind_byte Directory)) (st.each x i is).kind ∙ byte_directory (kind_of tree x) ∙ sym (kind_directory tree x)
@@ -136,7 +137,7 @@ module _ (num : Numbering) (tree : TreeState) (image : SeenInodes) (making : Mak
   shown_renamed = record {
     root = st.root;
     once = st.once;
-    holder = holder_number;
+    holder = holder_number num tree image s st;
     child = st.named;
     rows = rows_shown;
     only = λ i n j row.
@@ -151,7 +152,7 @@ module _ (num : Numbering) (tree : TreeState) (image : SeenInodes) (making : Mak
       as_file : (x i : ℕ) → num x ≡ Some i → (d : ℕ) (n : List ℕ) → row_of tree d n ≡ Some x → (k : Kind) → kind_of tree x ≡ k → is_node image i ≡ true
       as_file x i is d n row Directory e = directory_is_node image i ((st.each x i is).kind ∙ ap kind_byte e)
       as_file x i is d n row File e =
-          let h = holder_number d n x row in
+          let h = holder_number num tree image s st d n x row in
           file_is_node image i ((st.each x i is).kind ∙ ap kind_byte e) (some_counted (count_some (names_it i) (image_rows image) (h.0, n) i (rows_shown d h.0 h.1 n ∙ ap (option_and_then num) row ∙ is) (eq-eqb i i refl)))
 
       by_met : (x i : ℕ) → num x ≡ Some i → IsMet tree x → get shown.nodes i ≡ get tree.nodes x
@@ -183,10 +184,10 @@ module _ (num : Numbering) (tree : TreeState) (image : SeenInodes) (making : Mak
 
   named_at_most_once : (x : ℕ) → is_directory tree x ≡ true → count_of tree.rows x ≤ 1
   named_at_most_once x kind = counted_once (names_it x) tree.rows (λ k l y z a pa b pb.
-    let first : row_of tree k.0 k.1 ≡ Some x = a ∙ ap Some (eqb-true _ _ pa) in
-    let second : row_of tree l.0 l.1 ≡ Some x = b ∙ ap Some (eqb-true _ _ pb) in
-    let places = s.once k.0 l.0 k.1 l.1 x first second kind in
-    λ j. (places.0 j, places.1 j))
+      let first : row_of tree k.0 k.1 ≡ Some x = a ∙ ap Some (eqb-true _ _ pa) in
+      let second : row_of tree l.0 l.1 ≡ Some x = b ∙ ap Some (eqb-true _ _ pb) in
+      let places = s.once k.0 l.0 k.1 l.1 x first second kind in
+      λ j. (places.0 j, places.1 j))
 
   module _ (may : IsStorable num tree) where
     links_shown : (x i : ℕ) → num x ≡ Some i → links_of shown i ≡ links_of tree x

@@ -1,8 +1,7 @@
 -- A commit: what it makes of the inodes of an image, so that they stand for another tree.
-use Rattle.std.specs.Prelude.{◌≡◌, ◌≢◌, ◌⊎◌, ◌↔◌, ℕ, ◌<◌, ◌≤◌, Bool, true, false, is_none, List, [], ◌∷◌, map, Option, Some, None, option_map, filter_map, bytes_eq, if◌then◌else◌}
+use Rattle.std.specs.Prelude.{◌≡◌, ◌≢◌, ◌⊎◌, ◌↔◌, ℕ, ◌<◌, Bool, true, false, is_none, List, [], ◌∷◌, map, Option, Some, None, option_map, filter_map, bytes_eq, if◌then◌else◌}
 use Rattle.std.specs.List.{find}
 use Rattle.std.specs.Option.{option_map_or}
-use Rattle.sfs_base.specs.declared.numbers.NodeId.{NodeId}
 use Rattle.sfs_tree.specs.NameRow.{number_of}
 use Rattle.sfs_tree.specs.Tree.{TreeState, row_of, kind_of, bytes_of, links_of, names_of}
 use Rattle.absorb.specs.declared.nets.NetRow.{NetRow}
@@ -89,9 +88,9 @@ pub record GivesNumbers (commit : Commit) (image : SeenInodes) : Type 0 where
   pub comes : (node i : ℕ) → commit.after node ≡ Some i → ComesBy commit image node i
   pub once : (node twin i : ℕ) → commit.before node ≡ None → commit.before twin ≡ None → commit.after node ≡ Some i → commit.after twin ≡ Some i → node ≡ twin
 
--- The blocks that a commit takes: each place has one of the three, and a fresh block is held by no inode before and taken once.
+-- The blocks that a commit takes: each place of a concerned node has one of the three, and a fresh block is held by no inode before and taken once.
 pub record TakesBlocks (commit : Commit) (image next : SeenInodes) : Type 0 where
-  pub has : (node i place : ℕ) → commit.after node ≡ Some i → HasBlock commit i place (seen_before commit image node) (next.seen i)
+  pub has : (node i place : ℕ) → commit.after node ≡ Some i → commit.concerns node ≡ true → HasBlock commit i place (seen_before commit image node) (next.seen i)
   pub unheld : (i place j other : ℕ) → commit.takes i place ≡ true → j < image.count → (image.seen j).blocks other ≢ commit.fresh i place
   pub once : (i place j other : ℕ) → commit.takes i place ≡ true → commit.takes j other ≡ true → commit.fresh i place ≡ commit.fresh j other → (i ≡ j) × (place ≡ other)
 

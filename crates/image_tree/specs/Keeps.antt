@@ -3,7 +3,7 @@ use Rattle.std.specs.Prelude.{◌≡◌, ◌≢◌, ℕ, ◌<◌, ◌≤◌, Lis
 use Rattle.std.specs.List.{AllByRecursion}
 use Rattle.std.specs.FinMap.{len}
 use Rattle.sfs_base.specs.declared.numbers.Kind.TheVariants.{Directory}
-use Rattle.sfs_tree.specs.Tree.{TreeState, count_of, links_of, bucket_rows}
+use Rattle.sfs_tree.specs.Tree.{count_of, links_of, bucket_rows}
 use Rattle.sfs_tree.specs.Sound.{Above}
 use Rattle.sfs_image.specs.Slot.{Row, kind_byte}
 use Rattle.sfs_image.specs.Seen.{SeenInodes}

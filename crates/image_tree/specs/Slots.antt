@@ -1,5 +1,5 @@
 -- The slots of a directory: what stands under a name, and up to where there are rows.
-use Rattle.std.specs.Prelude.{ℕ, suc, ◌+◌, ◌*◌, ◌/◌, ◌==◌, Bool, ◌&&◌, false, is_none, List, [], ◌∷◌, ◌++◌, take, replicate, Option, Some, None, count_by, bytes_eq, if◌then◌else◌}
+use Rattle.std.specs.Prelude.{ℕ, suc, ◌+◌, ◌*◌, ◌/◌, ◌==◌, Bool, ◌&&◌, false, is_none, List, [], ◌∷◌, ◌++◌, take, replicate, Option, None, count_by, bytes_eq, if◌then◌else◌}
 use Rattle.std.specs.Option.{option_map_or}
 use Rattle.sfs_image.specs.Slot.{Row}
 

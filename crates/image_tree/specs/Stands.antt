@@ -1,5 +1,5 @@
 -- When the inodes of an image stand for a tree: each numbered node is shown by the inode of its number, and nothing else is.
-use Rattle.std.specs.Prelude.{◌≡◌, ◌≢◌, ◌⊎◌, ℕ, ◌*◌, ◌/◌, ◌<◌, ◌≤◌, true, List, length, Option, Some, option_map, if◌then◌else◌}
+use Rattle.std.specs.Prelude.{◌≡◌, ◌≢◌, ◌⊎◌, ℕ, ◌*◌, ◌/◌, ◌<◌, ◌≤◌, true, List, length, Some, option_map, if◌then◌else◌}
 use Rattle.std.specs.FinMap.{len}
 use Rattle.std.specs.Option.{unwrap_or}
 use Rattle.sfs_tree.specs.Tree.{TreeState, row_of, kind_of, bytes_of, links_of, is_directory, bucket_rows}

@@ -3,4 +3,4 @@
 
 mod laws;
 
-pub use laws::{renamed_trees_have_one_shape, standing_images_show};
+pub use laws::{commits_keep_standing, renamed_trees_have_one_shape, standing_images_show};
