@@ -1,0 +1,10 @@
+pub mod Basics
+pub mod Committed
+pub mod Images
+pub mod NetRows
+pub mod Paired
+pub mod Renaming
+pub mod Shapes
+pub mod SlotRows
+pub mod SlotsAfter
+pub mod Standing

@@ -1,0 +1,34 @@
+-- The laws of what an image stands for, each of which a function of the module laws proves.
+use Rattle.std.specs.Prelude.{◌≡◌}
+use Rattle.sfs_tree.specs.Tree.{TreeState}
+use Rattle.sfs_tree.specs.Sound.{IsSound}
+use Rattle.sfs_tree.specs.Shape.{shape_of}
+use Rattle.sfs_image.specs.Seen.{SeenInodes}
+use Rattle.image_tree.specs.ImageTree.{Making, image_tree}
+use Rattle.image_tree.specs.Renamed.{Numbering, IsRenamed}
+use Rattle.image_tree.specs.Stands.{StandsForTree, IsStorable}
+use Rattle.image_tree.specs.Keeps.{KeepsRules}
+use Rattle.image_tree.specs.Commit.{Commit, IsCommit, MayFollow}
+
+-- A tree under other numbers is sound where the first is, and has its shape.
+abbrev pub RenamedTreesHaveOneShape : Type 0
+RenamedTreesHaveOneShape = (num : Numbering) (tree other : TreeState) → IsSound tree → IsRenamed num tree other → IsSound other × (shape_of other ≡ shape_of tree)
+
+-- What an image shows that stands for a tree: it keeps the rules, and its own tree is sound and has the tree's shape.
+pub record ShowsTree (tree : TreeState) (image : SeenInodes) (making : Making) : Type 0 where
+  pub rules : KeepsRules image making
+  pub sound : IsSound (image_tree image making)
+  pub shape : shape_of (image_tree image making) ≡ shape_of tree
+
+-- An image that stands for a sound tree shows it.
+abbrev pub StandingImagesShow : Type 0
+StandingImagesShow = (num : Numbering) (tree : TreeState) (image : SeenInodes) (making : Making) → IsSound tree → IsStorable num tree → StandsForTree num tree image → ShowsTree tree image making
+
+-- what a commit leaves where an image stood for a tree: it stands for the next tree, and shows it
+pub record LeavesTree (commit : Commit) (new : TreeState) (next : SeenInodes) (making : Making) : Type 0 where
+  pub stands : StandsForTree commit.after new next
+  pub shows : ShowsTree new next making
+
+-- A commit makes of an image that stands for a sound tree one that stands for the next tree, and so keeps the rules.
+abbrev pub CommitsKeepStanding : Type 0
+CommitsKeepStanding = (commit : Commit) (old new : TreeState) (image next : SeenInodes) (making : Making) → StandsForTree commit.before old image → IsSound old → IsCommit commit old new image next → IsSound new → MayFollow commit.after old new → IsStorable commit.after new → LeavesTree commit new next making

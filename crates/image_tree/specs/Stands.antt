@@ -1,0 +1,66 @@
+-- When the inodes of an image stand for a tree: each numbered node is shown by the inode of its number, and nothing else is.
+use Rattle.std.specs.Prelude.{◌≡◌, ◌≢◌, ◌⊎◌, ℕ, ◌*◌, ◌/◌, ◌<◌, ◌≤◌, true, List, length, Some, option_map, if◌then◌else◌}
+use Rattle.std.specs.FinMap.{len}
+use Rattle.std.specs.Option.{unwrap_or}
+use Rattle.sfs_tree.specs.Tree.{TreeState, row_of, kind_of, bytes_of, links_of, is_directory, bucket_rows}
+use Rattle.sfs_image.specs.Slot.{Row, kind_byte}
+use Rattle.sfs_image.specs.Seen.{Seen, SeenInodes}
+use Rattle.image_tree.specs.Slots.{BLOCK_SLOTS, looked_up, name_count}
+use Rattle.image_tree.specs.ImageTree.{shows_directory}
+use Rattle.image_tree.specs.Renamed.{Numbering, HasNumber, IsMet}
+
+-- the number of a node, and 0 for one that has none
+abbrev pub inode_under : Numbering → ℕ → ℕ
+inode_under num node = unwrap_or (num node) 0
+
+-- a row as a slot has it: the inode of its child, and the child's kind
+abbrev pub row_on : Numbering → TreeState → List ℕ → ℕ → Row
+row_on num tree name child = record { inode = inode_under num child; kind = kind_of tree child; name = name }
+
+-- how many bytes a block has
+abbrev pub BLOCK_BYTES : ℕ
+BLOCK_BYTES = 4096
+
+-- the size that an inode's record has: a directory's is that of the blocks of its slots, a file's the number of its bytes
+abbrev pub size_of : Seen → ℕ
+size_of seen = if shows_directory seen then BLOCK_BYTES * (length seen.slots / BLOCK_SLOTS) else length seen.bytes
+
+-- An inode shows a node of a tree: its kind, link count and bytes are the node's, its slots are the node's rows, each once, and its
+-- size is that of what it has.
+pub record ShowsNode (num : Numbering) (tree : TreeState) (node : ℕ) (seen : Seen) : Type 0 where
+  pub kind : seen.kind ≡ kind_byte (kind_of tree node)
+  pub links : seen.links ≡ links_of tree node
+  pub size : seen.size ≡ size_of seen
+  pub bytes : seen.bytes ≡ bytes_of tree node
+  pub slots : (name : List ℕ) → looked_up name seen.slots ≡ option_map (row_on num tree name) (row_of tree node name)
+  pub once : (name : List ℕ) → name_count name seen.slots ≤ 1
+
+-- An inode is free: it is of no kind and holds no block.
+pub record IsUnused (seen : Seen) : Type 0 where
+  pub kind : seen.kind ≡ 0
+  pub blocks : (place : ℕ) → seen.blocks place ≡ 0
+
+-- no block is held at two places
+abbrev pub HoldsApart : SeenInodes → Type 0
+HoldsApart image = (i p j q : ℕ) → i < image.count → j < image.count → (image.seen i).blocks p ≢ 0 → (image.seen i).blocks p ≡ (image.seen j).blocks q → (i ≡ j) × (p ≡ q)
+
+-- The inodes of an image stand for a tree under a numbering: the root is inode 0, no two nodes have one inode, each child of a row
+-- has one, each inode shows its node, all others are free, and no block is held twice.
+pub record StandsForTree (num : Numbering) (tree : TreeState) (image : SeenInodes) : Type 0 where
+  pub root : num 0 ≡ Some 0
+  pub once : (node twin i : ℕ) → num node ≡ Some i → num twin ≡ Some i → node ≡ twin
+  pub within : (node i : ℕ) → num node ≡ Some i → i < image.count
+  pub named : (directory : ℕ) (name : List ℕ) (child : ℕ) → row_of tree directory name ≡ Some child → HasNumber num child
+  pub each : (node i : ℕ) → num node ≡ Some i → ShowsNode num tree node (image.seen i)
+  pub rest : (i : ℕ) → i < image.count → ((node : ℕ) × (num node ≡ Some i)) ⊎ IsUnused (image.seen i)
+  pub apart : HoldsApart image
+
+-- how many rows a bucket may have
+abbrev pub BUCKET_ROWS : ℕ
+BUCKET_ROWS = 4096
+
+-- A tree is such that an image may stand for it under a numbering: a directory with a number is the root or is named, and no bucket of
+-- it is overfull.
+pub record IsStorable (num : Numbering) (tree : TreeState) : Type 0 where
+  pub placed : (node i : ℕ) → num node ≡ Some i → is_directory tree node ≡ true → IsMet tree node
+  pub full : (node i number : ℕ) → num node ≡ Some i → number < 8 → len (bucket_rows node number tree.rows) ≤ BUCKET_ROWS

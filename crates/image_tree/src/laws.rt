@@ -1,0 +1,17 @@
+// What is proved of the definitions: each function's contract is a law.
+ghost use Rattle.image_tree.specs.Laws.{RenamedTreesHaveOneShape, StandingImagesShow, CommitsKeepStanding};
+
+/// A tree under other numbers is sound where the first is, and has its shape.
+pub fn renamed_trees_have_one_shape()
+    ensures { RenamedTreesHaveOneShape }
+{}
+
+/// An image that stands for a sound tree keeps the rules, and shows a sound tree of its shape.
+pub fn standing_images_show()
+    ensures { StandingImagesShow }
+{}
+
+/// A commit keeps an image standing: for the next tree.
+pub fn commits_keep_standing()
+    ensures { CommitsKeepStanding }
+{}
