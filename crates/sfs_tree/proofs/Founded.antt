@@ -5,7 +5,8 @@ use Rattle.std.specs.Ordering.{nat_cmp}
 use Rattle.std.proofs.lemmas.Nat.{div-mul-add, mod-mul-add}
 use Rattle.std.proofs.lemmas.List.{get_or-set_same, get_or-set_other, length-set, length-replicate}
 use Rattle.std.specs.FinMap.{FinMap, get, insert, empty, get-empty}
-use Rattle.sfs_tree.specs.Tree.{Node}
+use Rattle.sfs_tree.specs.Tree.{Node, TreeState}
+use Rattle.sfs_tree.specs.Sound.{IsNumbered}
 use Rattle.sfs_tree.specs.Effect.{Edit, edited, with_edit}
 use Rattle.sfs_tree.specs.Build.{IsFounded}
 use Rattle.sfs_tree.proofs.StoreKept.{some_before}
@@ -136,3 +137,17 @@ module _ (nodes : FinMap nat_cmp Node) (first share : ℕ) (made : List ℕ) (h 
             ];
           };
         }
+
+-- the numbers of a tree as it is kept
+pub founded_numbers : (tree : TreeState) → IsFounded tree.nodes tree.first tree.share tree.made → IsNumbered tree
+founded_numbers tree founded = record { known = founded.drawn.known; within = λ core less. let le = founded.allowed.within core in omega arith }
+
+-- where no core has made a node, another share changes nothing
+pub numbered_unmade : (tree : TreeState) (share : ℕ) → IsNumbered tree → ((core : ℕ) → slice_index tree.made core ≡ 0) → IsNumbered (record tree { share = share })
+numbered_unmade tree share numbered unmade = record {
+  known = λ node some. elim (numbered.known node some) [
+    | inl low ↦ inl low
+    | inr made ↦ let none = unmade made.0 in let less = made.3 in absurd (omega arith)
+  ];
+  within = λ core less. let none = unmade core in omega arith;
+}

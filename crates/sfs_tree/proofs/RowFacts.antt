@@ -113,7 +113,7 @@ pub record IsNamed (rows : FinMap key_cmp ℕ) (node : ℕ) : Type 0 where
   pub row : get rows (directory, name) ≡ Some node
 
 -- a node is named, or no row is counted for it
-named_or_none : (rows : FinMap key_cmp ℕ) (node : ℕ) → IsNamed rows node ⊎ (count_of rows node ≡ 0)
+pub named_or_none : (rows : FinMap key_cmp ℕ) (node : ℕ) → IsNamed rows node ⊎ (count_of rows node ≡ 0)
 named_or_none rows node = elim (found_or_none (names_it node) (entries rows)) [
   | inl f ↦
       let both = found_entry (names_it node) f.0 (entries rows) (entries_sorted rows) f.1 in
