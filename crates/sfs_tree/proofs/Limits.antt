@@ -1,5 +1,5 @@
 -- A call keeps a tree within its limits.
-use Rattle.std.proofs.Common.{◌≡◌, ◌≢◌, ℕ, zero, suc, ◌+◌, ◌-◌, ◌<◌, ◌≤◌, Bool, true, false, cond, not, ◌&&◌, List, [], ◌∷◌, length, take, Option, Some, None, IsSome, ◌⊎◌, inl, inr, refl, sym, ap, subst, ◌∙◌, nat_eq, nat_le, arith}
+use Rattle.std.proofs.Common.{◌≡◌, ℕ, zero, suc, ◌+◌, ◌-◌, ◌<◌, ◌≤◌, Bool, true, false, cond, not, ◌&&◌, List, [], ◌∷◌, length, take, Option, Some, None, IsSome, ◌⊎◌, inl, inr, refl, sym, ap, subst, ◌∙◌, nat_eq, nat_le, arith}
 use Rattle.std.specs.Prelude.{is_some}
 use Rattle.std.proofs.lemmas.Bool.{eqb-true}
 use Rattle.std.proofs.lemmas.Bool.Decides.{nat_tests}
@@ -17,10 +17,10 @@ use Rattle.sfs_tree.specs.Order.{name_cmp}
 use Rattle.sfs_tree.specs.Tree.{BUCKET_ROWS, TreeState, row_of, is_alive, is_directory, count_of, bucket_rows, bytes_of}
 use Rattle.sfs_tree.specs.Effect.{Effect, Stays, Adds, Removes, Moves, Edits, Puts, Resizes, tree_with}
 use Rattle.sfs_tree.specs.Verdict.{MOST_LINKS, Verdict, verdict, or_else, done, refused, is_full, directory_fault, make_fault, make_node, link_fault, move_fault, place_fault, move_row, names_child, answered}
-use Rattle.sfs_tree.specs.History.{tree_after, tree_after_entry, IsLegalFrom, IsLegal}
+use Rattle.sfs_tree.specs.History.{tree_after, tree_after_entry, IsLegalFrom}
 use Rattle.sfs_tree.specs.Sound.{IsWithinLimits}
 use Rattle.sfs_tree.specs.Fits.{Fits}
-use Rattle.sfs_tree.specs.Parts.{part_with, part_without, part_after, bytes_after}
+use Rattle.sfs_tree.specs.Parts.{part_without, part_after, bytes_after}
 use Rattle.sfs_tree.specs.Laws.{IsSoundTree, HistoriesStayWithin}
 use Rattle.sfs_tree.proofs.FileHistories.{bytes_with}
 use Rattle.sfs_tree.proofs.Fitting.{neither, not_so}
