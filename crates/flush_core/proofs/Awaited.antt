@@ -25,7 +25,7 @@ module _ (first : TreeState) (events : List Event) (states : ℕ → MachineStat
       (s.at.theirs node).1 (subst (λ (p : ℕ). Concerns first flight.flush (view_of (states p)) node) (begun_once first events states run begin s.begin flight.commit flush flight.flush begun s.at.begun) (subst (λ (f : Flush). Concerns first f (view_of (states begin)) node) (one_flush first events states run begin s.begin flight.commit flush flight.flush begun s.at.begun) concerned))
 
   -- a commit that becomes durable is a flight till then
-  durable_flies : (place commit : ℕ) → slice_get events place ≡ Some (event.Durable commit) → (flight : Flight) × IsOneOf (states place).flights flight × (flight.commit ≡ commit)
+  pub durable_flies : (place commit : ℕ) → slice_get events place ≡ Some (event.Durable commit) → (flight : Flight) × IsOneOf (states place).flights flight × (flight.commit ≡ commit)
   durable_flies place commit stands =
       let takes = run.steps place (event.Durable commit) stands in
       let found = flight_found (states place) commit takes.moves.0 takes.moves.2 in

@@ -55,18 +55,26 @@ from_rows w (c ∷ cs) d n rows x row =
       | false ↦ λ _ r. elim (from_rows w cs d n rows x r) [ inl there ↦ inl there | inr f ↦ inr (further w c cs x f) ]
     ] refl row
 
-module _ (first : TreeState) (history : List Entry) (is : IsSoundTree first) (legal : IsLegal first history) (cut : Cut) (inodes : ℕ → Bool) (flush : Flush) (raised : Cut) (placed : ArePlaced first history cut inodes) (there : HasNode first history flush) (raise : IsRaised first history every_entry cut inodes flush raised) where
-  low : (d : ℕ) → cut_of cut d ≤ cut_of raised d
+module _ (first : TreeState) (history : List Entry) (cut : Cut) (inodes : ℕ → Bool) (flush : Flush) (raised : Cut) (raise : IsRaised first history every_entry cut inodes flush raised) where
+  pub low : (d : ℕ) → cut_of cut d ≤ cut_of raised d
   low d = elim (raise.other d) [
     | inl member ↦ let e = raise.member d member in let le = le-max_left (cut_of cut d) flush.stamp in omega arith
     | inr e ↦ omega arith
   ]
 
+  pub up : (node : ℕ) → IsPlacedByCut first history cut node → IsPlacedByCut first history raised node
+  up node p = record { change = p.change; is_change = p.is_change; places = p.places; child = p.child; within = let lt = p.within in let le = low p.change.directory in omega arith }
+
+  -- what was covered still is
+  pub raised_covers : (other : Flush) → IsCovered first history cut other → IsCovered first history raised other
+  raised_covers other c = record {
+    stamp = let before = c.stamp in let le = low other.node in omega arith;
+    placed = λ birth one same. up other.node (c.placed birth one same);
+  }
+
+module _ (first : TreeState) (history : List Entry) (is : IsSoundTree first) (legal : IsLegal first history) (cut : Cut) (inodes : ℕ → Bool) (flush : Flush) (raised : Cut) (placed : ArePlaced first history cut inodes) (there : HasNode first history flush) (raise : IsRaised first history every_entry cut inodes flush raised) where
   member_low : (d : ℕ) → Closure first history every_entry cut inodes flush d → flush.stamp ≤ cut_of raised d
   member_low d member = let e = raise.member d member in let le = le-max_right (cut_of cut d) flush.stamp in omega arith
-
-  up : (node : ℕ) → IsPlacedByCut first history cut node → IsPlacedByCut first history raised node
-  up node p = record { change = p.change; is_change = p.is_change; places = p.places; child = p.child; within = let lt = p.within in let le = low p.change.directory in omega arith }
 
   -- the making of a node is a change that places it
   by_birth : (birth : Birth) → IsOneOf (births_of first history) birth → birth.stamp < cut_of raised birth.directory → IsPlacedByCut first history raised birth.node
@@ -91,7 +99,7 @@ module _ (first : TreeState) (history : List Entry) (is : IsSoundTree first) (le
           is_change = change_in first history birth.stamp (added birth.stamp birth.directory born.name birth.node None) legal (subst (λ (f : Effect). IsOneOf (changes_by (tree_at first history birth.stamp) birth.stamp f) (added birth.stamp birth.directory born.name birth.node None)) (sym born.adds) (inl refl));
           counted = refl;
           child = refl;
-          unflushed = let lower = low birth.directory in omega arith;
+          unflushed = let lower = low first history cut inodes flush raised raise birth.directory in omega arith;
         } in
         let most = member_low birth.directory (birth_place birth (subst (λ (y : ℕ). Closure first history every_entry cut inodes flush y) (sym same) itself) one out naming) in
         let earlier = made_before in
@@ -109,7 +117,7 @@ module _ (first : TreeState) (history : List Entry) (is : IsSoundTree first) (le
 
   own_placed : (birth : Birth) → IsOneOf (births_of first history) birth → birth.node ≡ flush.node → IsPlacedByCut first history raised birth.node
   own_placed birth one same = elim (inodes birth.node) as (λ b. inodes birth.node ≡ b → IsPlacedByCut first history raised birth.node) [
-    | true ↦ λ e. up birth.node (placed birth one e)
+    | true ↦ λ e. up first history cut inodes flush raised raise birth.node (placed birth one e)
     | false ↦ λ e. own_without birth one same e
   ] refl
 
@@ -130,7 +138,7 @@ module _ (first : TreeState) (history : List Entry) (is : IsSoundTree first) (le
   all_placed : (after : ℕ → Bool) → AreInodesAfter first history every_entry cut inodes flush raised after → ArePlaced first history raised after
   all_placed after sets birth one has =
       elim (inodes birth.node) as (λ b. inodes birth.node ≡ b → IsPlacedByCut first history raised birth.node) [
-        | true ↦ λ e. up birth.node (placed birth one e)
+        | true ↦ λ e. up first history cut inodes flush raised raise birth.node (placed birth one e)
         | false ↦ λ e. elim ((sets.enters birth.node e).0 has).1 [
           | inl named ↦ row_placed birth one named.directory named.name named.row
           | inr file ↦ own_placed birth one file.0
@@ -143,15 +151,9 @@ module _ (first : TreeState) (history : List Entry) (is : IsSoundTree first) (le
     placed = λ birth one same. subst (λ (y : ℕ). IsPlacedByCut first history raised y) same (own_placed birth one same);
   }
 
-  still_covered : (other : Flush) → IsCovered first history cut other → IsCovered first history raised other
-  still_covered other c = record {
-    stamp = let before = c.stamp in let le = low other.node in omega arith;
-    placed = λ birth one same. up other.node (c.placed birth one same);
-  }
-
 pub fsyncs_cover : FsyncsCover
 fsyncs_cover first history cut raised inodes after flush is legal placed there raise sets = record {
   own = own_covered first history is legal cut inodes flush raised placed there raise;
-  earlier = still_covered first history is legal cut inodes flush raised placed there raise;
+  earlier = raised_covers first history cut inodes flush raised raise;
   placed = all_placed first history is legal cut inodes flush raised placed there raise after sets;
 }

@@ -70,3 +70,6 @@ pub mod DirectoryPlaces
 pub mod KeptInodes
 pub mod BlankFiles
 pub mod NewNodes
+pub mod RaisedRuns
+pub mod CoveredRuns
+pub mod LongerRuns

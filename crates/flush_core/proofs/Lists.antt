@@ -12,7 +12,7 @@ use Rattle.flush_core.specs.Cut.{Cut, cut_of, is_within, rows_at_cut}
 use Rattle.flush_core.specs.Rules.{IsClosed, IsOneOf}
 use Rattle.flush_core.specs.Covers.{ArePlaced, IsCovered}
 use Rattle.flush_core.specs.Closure.{every_entry, Flush, HasNode, IsNamedIn, AreFlushed, none, one_more, KeepsCut}
-use Rattle.flush_core.specs.Laws.{ListsCover, ListsKeep}
+use Rattle.flush_core.specs.Laws.{HistoriesAreCovered, ListsCover, ListsKeep}
 use Rattle.flush_core.proofs.Along.{tree_at, run_of, in_left, in_right, in_either, first_nodes}
 use Rattle.flush_core.proofs.Covered.{from_rows, fsyncs_cover}
 use Rattle.flush_core.proofs.Closed.{closed_cuts_are_sound}
@@ -115,3 +115,6 @@ all_covered first history is legal (one_more flushes flush cut raised inodes aft
 
 pub lists_cover : ListsCover
 lists_cover first history flushes cut inodes is legal flushed there flush one = (all_covered first history is legal flushed there).each flush one
+
+pub histories_are_covered : HistoriesAreCovered
+histories_are_covered first history flushes cut inodes moment is legal flushed there all flush ack acknowledged le = (all_covered first history is legal flushed there).each flush (all flush ack acknowledged le)

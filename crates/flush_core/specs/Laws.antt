@@ -9,7 +9,7 @@ use Rattle.sfs_tree.specs.Changes.{rows_at, bytes_at}
 use Rattle.sfs_tree.specs.Laws.{IsSoundTree}
 use Rattle.flush_core.specs.Cut.{Cut, cut_of, rows_at_cut, tree_at_cut}
 use Rattle.flush_core.specs.Rules.{IsClosed, IsOneOf}
-use Rattle.flush_core.specs.Covers.{ArePlaced, IsCovered, CoversMore}
+use Rattle.flush_core.specs.Covers.{ArePlaced, IsCovered, CoversMore, IsAcknowledged, Covers}
 use Rattle.flush_core.specs.declared.event.Event.{Event}
 use Rattle.flush_core.specs.Closure.{Counts, every_entry, Flush, HasNode, IsNamedIn, IsRaised, AreInodesAfter, KeepsCut, AreRaised, AreFlushed}
 use Rattle.flush_core.specs.Machine.{Flight, MachineState}
@@ -65,7 +65,14 @@ abbrev pub ListsCover : Type 0
 ListsCover = (first : TreeState) (history : List Entry) (flushes : List Flush) (cut : Cut) (inodes : ℕ → Bool) → IsSoundTree first → IsLegal first history → AreFlushed first history every_entry flushes cut inodes
     → ((flush : Flush) → IsOneOf flushes flush → HasNode first history flush) → (flush : Flush) → IsOneOf flushes flush → IsCovered first history cut flush
 
--- So it is in each state of a run, and when any fsyncs have raised its cut, as those of any flights.
+-- Where a list of fsyncs of nodes that are there has each one that was acknowledged by a moment, the cut covers the history at it.
+abbrev pub HistoriesAreCovered : Type 0
+HistoriesAreCovered = (first : TreeState) (history : List Entry) (flushes : List Flush) (cut : Cut) (inodes : ℕ → Bool) (moment : ℕ) → IsSoundTree first → IsLegal first history → AreFlushed first history every_entry flushes cut inodes
+    → ((flush : Flush) → IsOneOf flushes flush → HasNode first history flush)
+    → ((flush : Flush) (ack : ℕ) → IsAcknowledged history flush ack → ack ≤ moment → IsOneOf flushes flush)
+    → Covers first history cut moment
+
+-- What lists of fsyncs keep is kept in each state of a run, and when any fsyncs have raised its cut, as those of any flights.
 abbrev pub RunsKeep : Type 0
 RunsKeep = (first : TreeState) (events : List Event) (states : ℕ → MachineState) (place : ℕ) (flushes : List Flush) (cut : Cut) (inodes : ℕ → Bool)
     → IsSoundTree first → IsRun first events states → place ≤ length events
