@@ -17,12 +17,12 @@ use Rattle.flush_core.specs.Closure.{every_entry, Flush, IsConcerned, member, it
 use Rattle.flush_core.specs.LawsInodes.{OthersStay, StaysAsItWas, IsNeverNamed, NoneIsDead, DirectoriesAreNamed, DirectoriesStayNamed, FilesSettle}
 use Rattle.flush_core.proofs.Own.{both, skip}
 use Rattle.flush_core.proofs.Runs.{Run, below_or, not_below}
-use Rattle.flush_core.proofs.Along.{tree_at-first, effect_at, makes_at, run_of, birth_in, nodes_at}
+use Rattle.flush_core.proofs.Along.{effect_at, makes_at, run_of, birth_in, nodes_at}
 use Rattle.flush_core.proofs.Closed.{keeps_of, seen_of, seen_end, closed_cuts_are_sound}
 use Rattle.flush_core.proofs.Children.{links_named}
 use Rattle.flush_core.proofs.Prefixes.{made_at}
 use Rattle.flush_core.proofs.Prefix.{stamp_below}
-use Rattle.flush_core.proofs.MemberKinds.{still_directory}
+use Rattle.flush_core.proofs.MemberKinds.{root_directory}
 use Rattle.flush_core.proofs.Lists.{nothing_within, lists_keep}
 use Rattle.flush_core.proofs.NamedKept.{up, is_between, between_concerned, between_change, row_raised, row_before}
 use Rattle.flush_core.proofs.DirectoryPlaces.{place_at, now, left, gone}
@@ -126,16 +126,13 @@ module _ (first : TreeState) (history : List Entry) (cut raised : Cut) (inodes a
     where
       unreached : (IsReached first history every_entry flush raised flush.node → ⊥) → IsDead first history every_entry raised flush.node
       unreached none_reached = record {
-        no_root = λ root. both (still_root root) file;
+        no_root = λ root. both (root_directory first history is legal) (subst (λ (y : ℕ). is_directory (tree_after first history) y ≡ false) root file);
         unnamed = λ named. none_reached (inl named);
         flushed = λ change one counted child. elim (below_or change.stamp (cut_of raised change.directory)) [
           | inl lt ↦ lt
           | inr le ↦ absurd (none_reached (inr (refl, file, record { change = change; is_change = one; counted = counted; child = child; unflushed = le })))
         ];
       }
-        where
-          still_root : flush.node ≡ 0 → is_directory (tree_after first history) flush.node ≡ true
-          still_root root = subst (λ (y : ℕ). is_directory (tree_after first history) y ≡ true) (sym root) (still_directory first history is legal 0 0 (subst (λ (tree : TreeState). is_directory tree 0 ≡ true) (sym (tree_at-first first history)) is.sound.root))
 
 pub others_stay : OthersStay
 others_stay first history cut raised inodes after flush node is legal raise sets unconcerned = as_it_was first history cut raised inodes after flush is legal raise sets node unconcerned

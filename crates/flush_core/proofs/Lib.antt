@@ -73,3 +73,4 @@ pub mod NewNodes
 pub mod RaisedRuns
 pub mod CoveredRuns
 pub mod LongerRuns
+pub mod OwnFiles

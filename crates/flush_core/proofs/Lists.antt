@@ -51,12 +51,16 @@ first_kept first history inodes is legal same = record {
     at_first [] x some = some
     at_first (e ∷ h) x some = some
 
--- what a row at the cut 0 names is a node of the first tree
-first_named : (first : TreeState) (history : List Entry) → IsSoundTree first → (node : ℕ) → IsNamedIn (rows_at_cut first history empty) node → is_some (get first.nodes node) ≡ true
-first_named first history is node row = elim (from_rows (is_within empty) _ row.directory row.name first.rows node row.row) [
-  | inl there ↦ some (get first.nodes node) (is.sound.node row.directory row.name node there)
+-- a row at the cut 0 is one of the first tree
+pub first_row : (first : TreeState) (history : List Entry) (node : ℕ) → IsNamedIn (rows_at_cut first history empty) node → IsNamedIn first.rows node
+first_row first history node row = elim (from_rows (is_within empty) _ row.directory row.name first.rows node row.row) [
+  | inl there ↦ record { directory = row.directory; name = row.name; row = there }
   | inr f ↦ nothing_within f.change.stamp f.change.directory (ltb-true _ _ f.passes)
 ]
+
+-- so what it names is a node of that
+first_named : (first : TreeState) (history : List Entry) → IsSoundTree first → (node : ℕ) → IsNamedIn (rows_at_cut first history empty) node → is_some (get first.nodes node) ≡ true
+first_named first history is node named = let row = first_row first history node named in some (get first.nodes node) (is.sound.node row.directory row.name node row.row)
   where
     some : (o : Option Node) → IsSome o → is_some o ≡ true
     some (Some x) e = refl

@@ -76,7 +76,7 @@ module _ (first : TreeState) (history : List Entry) (is : IsSoundTree first) (le
       same = stamp_of (tree_at first history o.stamp) o.stamp (effect_at first history o.stamp) o.change o.made
 
   -- a node that is named at the stamp is named at the cut, or open below the stamp
-  named_or_open : (cut : Cut) → ((node : ℕ) → cut_of cut node ≤ k) → (node : ℕ) → IsNamed (tree_at first history k).rows node → IsNamedIn (rows_at_cut first history cut) node ⊎ IsOpen run (cut_of cut) k node
+  pub named_or_open : (cut : Cut) → ((node : ℕ) → cut_of cut node ≤ k) → (node : ℕ) → IsNamed (tree_at first history k).rows node → IsNamedIn (rows_at_cut first history cut) node ⊎ IsOpen run (cut_of cut) k node
   named_or_open cut low node named = elim (flushed_or_open run (cut_of cut) (seen_of first history is legal cut) k named.directory named.name node named.row) [
     | inl there ↦ inl (record {
       directory = named.directory;
