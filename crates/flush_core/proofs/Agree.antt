@@ -11,7 +11,7 @@ use Rattle.sfs_tree.specs.Laws.{IsSoundTree}
 use Rattle.flush_core.specs.Cut.{Cut, cut_of, counted_rows_at_cut}
 use Rattle.flush_core.specs.Rules.{IsChange}
 use Rattle.flush_core.specs.Closure.{Flush, InSpan, HasNaming, Closure, itself, other_side, ended, ancestor, birth_place, IsConcerned, member, named, IsNamedIn, IsRaised, IsReached, IsDead}
-use Rattle.flush_core.proofs.Runs.{below_or}
+use Rattle.flush_core.proofs.Basics.{below_or}
 use Rattle.flush_core.proofs.NamedRows.{names_decide_rows}
 use Rattle.flush_core.proofs.Views.{below, Agree, Agrees}
 

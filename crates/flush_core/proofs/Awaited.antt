@@ -10,10 +10,9 @@ use Rattle.flush_core.specs.Rules.{IsOneOf}
 use Rattle.flush_core.specs.Closure.{Flush}
 use Rattle.flush_core.specs.Machine.{Flight, MachineState}
 use Rattle.flush_core.specs.Runs.{IsRun, flush_by, IsBegun, AreAlive, view_of, Concerns, ComesBefore, ShareANode, AreTied}
-use Rattle.flush_core.proofs.Own.{both}
-use Rattle.flush_core.proofs.Runs.{below_or}
+use Rattle.flush_core.proofs.Basics.{below_or, both, none_some, some_is}
 use Rattle.flush_core.proofs.RunFacts.{flight_found}
-use Rattle.flush_core.proofs.Begun.{some_is, none_some, begun_within, begun_once, one_flush}
+use Rattle.flush_core.proofs.Begun.{begun_within, begun_once, one_flush}
 use Rattle.flush_core.proofs.Flying.{flight_before}
 use Rattle.flush_core.proofs.Stays.{Stays, StayApart}
 use Rattle.flush_core.proofs.Flights.{stay_apart}

@@ -18,9 +18,8 @@ use Rattle.flush_core.specs.Rules.{IsOneOf, IsChange, IsMove, IsLastPlacing, Bir
 use Rattle.flush_core.specs.Past.{IsPast, row_change_of, birth_of}
 use Rattle.flush_core.specs.Engine.{above_of}
 use Rattle.flush_core.specs.Broken.{CutKeeps, rule_place, IsFirstBroken, SomeIs, IsSplit, LeavesChange, IsBornLate, PlacesBelow, IsLatest, IsNext, LacksAncestor}
-use Rattle.flush_core.proofs.Own.{both}
+use Rattle.flush_core.proofs.Basics.{below_or, both}
 use Rattle.flush_core.proofs.Listed.{from_map, to_map}
-use Rattle.flush_core.proofs.Runs.{below_or}
 use Rattle.flush_core.proofs.Along.{tree_at, core_at, effect_at, makes_at, tree_at-after, sound_at, fits_at, change_of}
 use Rattle.flush_core.proofs.Lives.{live_own}
 use Rattle.flush_core.proofs.Brought.{kept_change, change_kept}

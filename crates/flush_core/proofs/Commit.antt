@@ -19,8 +19,9 @@ use Rattle.flush_core.specs.Cut.{Cut, cut_of, IsWithin, rows_at_cut}
 use Rattle.flush_core.specs.Rules.{IsOneOf, IsChange, Birth, births_by, births_of, IsLastPlacing, IsMove, IsClosed}
 use Rattle.flush_core.specs.Closure.{every_entry, Flush, InSpan, Closure, other_side, ended, ancestor, birth_place, IsRaised, AreInodesAfter, AreBorn, KeepsCut}
 use Rattle.flush_core.specs.Laws.{FsyncsKeep}
-use Rattle.flush_core.proofs.Runs.{Run, Made, below_or}
-use Rattle.flush_core.proofs.Along.{tree_at, effect_at, makes_at, tree_at-after, run_of, change_in, change_of, in_either, nodes_at}
+use Rattle.flush_core.proofs.Basics.{below_or, both, in_either, no_less, plus_zero, suc_plus, zero_plus}
+use Rattle.flush_core.proofs.Runs.{Run, Made}
+use Rattle.flush_core.proofs.Along.{tree_at, effect_at, makes_at, tree_at-after, run_of, change_in, change_of, nodes_at}
 use Rattle.flush_core.proofs.Closed.{keeps_of, seen_of, seen_end}
 use Rattle.flush_core.proofs.Lives.{live_at, holder_above, born_before, ended_before, named_born}
 
@@ -54,22 +55,13 @@ birth_from first (entry ∷ history) stamp birth legal one = elim (in_either _ _
       (0, found.4 ∙ legal.0.stamped ∙ sym (plus_zero stamp), record { name = found.0; kind = found.1; adds = found.2; made = found.3 })
   | inr rest ↦
       let found = birth_from (tree_after_entry first entry) history (suc stamp) birth legal.1 rest in
-      (suc found.0, found.1 ∙ one_on stamp found.0, record { name = found.2.name; kind = found.2.kind; adds = found.2.adds; made = found.2.made })
+      (suc found.0, found.1 ∙ suc_plus stamp found.0, record { name = found.2.name; kind = found.2.kind; adds = found.2.adds; made = found.2.made })
 ]
-  where
-    plus_zero : (n : ℕ) → n + 0 ≡ n
-    plus_zero n = omega arith
-
-    one_on : (n m : ℕ) → suc n + m ≡ n + suc m
-    one_on n m = omega arith
 
 pub birth_at : (first : TreeState) (history : List Entry) (birth : Birth) → IsLegal first history → IsOneOf (births_of first history) birth → IsBornAt first history birth birth.stamp
 birth_at first history birth legal one =
     let found = birth_from first history 0 birth legal one in
     subst (λ (t : ℕ). IsBornAt first history birth t) (sym (found.1 ∙ zero_plus found.0)) found.2
-  where
-    zero_plus : (n : ℕ) → 0 + n ≡ n
-    zero_plus n = omega arith
 
 module _ (first : TreeState) (history : List Entry) (is : IsSoundTree first) (legal : IsLegal first history) (cut : Cut) (inodes : ℕ → Bool) (flush : Flush) (raised : Cut) (kept : KeepsCut first history cut inodes) (raise : IsRaised first history every_entry cut inodes flush raised) where
   abbrev run : Run
@@ -102,9 +94,6 @@ module _ (first : TreeState) (history : List Entry) (is : IsSoundTree first) (le
     ]
   ]
     where
-      no_less : {a b : ℕ} → a < b → b ≤ a → ⊥
-      no_less lt le = omega arith
-
       below_stamp : cut_of cut d ≤ t → cut_of raised d ≡ max (cut_of cut d) flush.stamp → t < flush.stamp
       below_stamp le e = elim (below_or t flush.stamp) [
         | inl less ↦ less
@@ -113,6 +102,9 @@ module _ (first : TreeState) (history : List Entry) (is : IsSoundTree first) (le
 
   span : (x : RowChange) → IsChange first history x → cut_of cut x.directory ≤ x.stamp → x.stamp < flush.stamp → InSpan first history every_entry cut flush.stamp x
   span x one from lt = record { is_change = one; counted = refl; from = from; below = lt }
+
+  earlier : (a b : ℕ) → a < b → b < flush.stamp → a < flush.stamp
+  earlier a b lt le = omega arith
 
   -- a directory with a change is one of the last tree
   kind_of_own : (own : RowChange) → IsChange first history own → is_directory (tree_after first history) own.directory ≡ true
@@ -137,9 +129,6 @@ module _ (first : TreeState) (history : List Entry) (is : IsSoundTree first) (le
       naming_is : IsChange first history naming
       naming_is = change_in first history birth.stamp naming legal (subst (λ (f : Effect). IsOneOf (changes_by (tree_at first history birth.stamp) birth.stamp f) naming) (sym born.adds) (inl refl))
 
-      earlier : (a b : ℕ) → a < b → b < flush.stamp → a < flush.stamp
-      earlier a b lt le = omega arith
-
   births_raised : (birth : Birth) (own : RowChange) → IsOneOf (births_of first history) birth → IsChange first history own → own.directory ≡ birth.node → IsWithin raised own → birth.stamp < cut_of raised birth.directory
   births_raised birth own one own_is same within = elim (split own.stamp own.directory within) [
     | inl lt ↦ up birth.stamp birth.directory (kept.closed.births birth own one own_is same lt)
@@ -159,9 +148,6 @@ module _ (first : TreeState) (history : List Entry) (is : IsSoundTree first) (le
         let kind : is_directory (tree_after first (take change.stamp history)) change.directory ≡ true = subst (λ (w : TreeState). is_directory w change.directory ≡ true) (tree_at-after first history change.stamp) live.kind in
         member_up last.stamp holder (ancestor change above holder more.0 (span change move.is_change more.1 more.2) move way (holder_above (tree_after first (take change.stamp history)) 0 0 sound.sound way kind node holder name among row)) (earlier last.stamp change.stamp placing.below more.2)
   ]
-    where
-      earlier : (a b : ℕ) → a < b → b < flush.stamp → a < flush.stamp
-      earlier a b lt le = omega arith
 
   pub closed_raised : IsClosed first history raised
   closed_raised = record {
@@ -178,9 +164,6 @@ module _ (first : TreeState) (history : List Entry) (is : IsSoundTree first) (le
     births = births_raised;
     ancestors = ancestors_raised;
   }
-    where
-      earlier : (a b : ℕ) → a < b → b < flush.stamp → a < flush.stamp
-      earlier a b lt le = omega arith
 
   -- a directory that a row at the raised cut names was made below its birth place's cut
   named_raised : (birth : Birth) → IsOneOf (births_of first history) birth → is_directory (tree_after first history) birth.node ≡ true → (d : ℕ) (n : List ℕ) → get (rows_at_cut first history raised) (d, n) ≡ Some birth.node → birth.stamp < cut_of raised birth.directory
@@ -198,9 +181,6 @@ module _ (first : TreeState) (history : List Entry) (is : IsSoundTree first) (le
           | inr file ↦ absurd (both kind file.1)
         ]
       ] refl
-    where
-      both : {b : Bool} → b ≡ true → b ≡ false → ⊥
-      both t f = cc
 
 pub fsyncs_keep : FsyncsKeep
 fsyncs_keep first history cut raised inodes after flush is legal kept raise sets = record {

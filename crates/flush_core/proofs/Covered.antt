@@ -17,8 +17,8 @@ use Rattle.flush_core.specs.Rules.{IsOneOf, Birth, births_of}
 use Rattle.flush_core.specs.Closure.{every_entry, Flush, HasNode, HasNaming, Closure, itself, birth_place, IsRaised, AreInodesAfter}
 use Rattle.flush_core.specs.Covers.{IsPlacedByCut, IsCovered, ArePlaced}
 use Rattle.flush_core.specs.Laws.{FsyncsCover}
-use Rattle.flush_core.proofs.Runs.{below_or}
-use Rattle.flush_core.proofs.Along.{tree_at, tree_at-after, run_of, change_in}
+use Rattle.flush_core.proofs.Basics.{below_or}
+use Rattle.flush_core.proofs.Along.{node_first, tree_at, tree_at-after, run_of, change_in}
 use Rattle.flush_core.proofs.Lives.{no_node_yet}
 use Rattle.flush_core.proofs.Commit.{IsBornAt, birth_at}
 
@@ -124,16 +124,12 @@ module _ (first : TreeState) (history : List Entry) (is : IsSoundTree first) (le
   -- a node that a row at the raised cut names is placed
   row_placed : (birth : Birth) → IsOneOf (births_of first history) birth → (d : ℕ) (n : List ℕ) → get (rows_at_cut first history raised) (d, n) ≡ Some birth.node → IsPlacedByCut first history raised birth.node
   row_placed birth one d n row = elim (from_rows (is_within raised) (changes_of first history) d n first.rows birth.node row) [
-    | inl before ↦ absurd (no_node_yet (run_of first history is legal) birth.stamp birth.directory born.name birth.node born.kind born.adds born.made 0 (omega arith) (at_first history (is.sound.node d n birth.node before)))
+    | inl before ↦ absurd (no_node_yet (run_of first history is legal) birth.stamp birth.directory born.name birth.node born.kind born.adds born.made 0 (omega arith) (node_first first history birth.node (is.sound.node d n birth.node before)))
     | inr f ↦ record { change = f.change; is_change = f.one; places = f.places; child = f.child; within = ltb-true _ _ f.passes }
   ]
     where
       born : IsBornAt first history birth birth.stamp
       born = birth_at first history birth legal one
-
-      at_first : (h : List Entry) → IsSome (get first.nodes birth.node) → IsSome (get (tree_at first h 0).nodes birth.node)
-      at_first [] some = some
-      at_first (e ∷ h) some = some
 
   all_placed : (after : ℕ → Bool) → AreInodesAfter first history every_entry cut inodes flush raised after → ArePlaced first history raised after
   all_placed after sets birth one has =

@@ -1,5 +1,5 @@
 -- A commit that became durable is covered from then on, and after a failure nothing but a crash moves the cut.
-use Rattle.std.proofs.Common.{◌≡◌, ℕ, zero, suc, ◌<◌, ◌≤◌, Bool, true, false, List, [], ◌∷◌, ◌++◌, length, take, Option, Some, None, inl, inr, refl, sym, ap, subst, ◌∙◌, arith}
+use Rattle.std.proofs.Common.{◌≡◌, ℕ, zero, suc, ◌<◌, ◌≤◌, Bool, true, false, List, [], ◌∷◌, length, take, Option, Some, inl, inr, refl, sym, ap, subst, ◌∙◌, arith}
 use Rattle.std.specs.Prelude.{slice_get}
 use Rattle.std.specs.Option.{option_or}
 use Rattle.sfs_tree.specs.declared.history.Entry.{Entry}
@@ -11,20 +11,18 @@ use Rattle.std.proofs.lemmas.Option.{slice_get_within}
 use Rattle.flush_core.specs.declared.event.Event.{Event}
 use Rattle.flush_core.specs.declared.event.Event.TheVariants as event
 use Rattle.flush_core.specs.declared.event.Refused.TheVariants as refused
-use Rattle.flush_core.specs.Cut.{Cut, cut_of}
+use Rattle.flush_core.specs.Cut.{Cut}
 use Rattle.flush_core.specs.Rules.{IsOneOf}
 use Rattle.flush_core.specs.Closure.{every_entry, Flush, HasLiveNode, HasNode, AreRaised, none, one_more}
-use Rattle.flush_core.specs.Covers.{IsPlacedByCut, IsCovered}
-use Rattle.flush_core.specs.Machine.{Flight, MachineState, kept_of, Accepts}
+use Rattle.flush_core.specs.Covers.{IsCovered}
+use Rattle.flush_core.specs.Machine.{MachineState, kept_of, Accepts}
 use Rattle.flush_core.specs.Runs.{IsRun, IsBegun, AreAlive}
 use Rattle.flush_core.specs.LawsRuns.{every_commit, DurablesAreCovered, HasSameCut, FailuresStopCuts}
-use Rattle.flush_core.proofs.Own.{both}
-use Rattle.flush_core.proofs.Runs.{below_or}
-use Rattle.flush_core.proofs.Along.{in_right}
+use Rattle.flush_core.proofs.Basics.{below_or, both, in_right, is_next, none_below}
 use Rattle.flush_core.proofs.RunFacts.{steady_at, event_there}
 use Rattle.flush_core.proofs.Lists.{lists_cover}
 use Rattle.flush_core.proofs.Prefixes.{alive_node}
-use Rattle.flush_core.proofs.Begun.{begun_once, one_flush}
+use Rattle.flush_core.proofs.Begun.{begun_once}
 use Rattle.flush_core.proofs.Awaited.{durable_flies}
 use Rattle.flush_core.proofs.Stays.{live_begun}
 use Rattle.flush_core.proofs.Durables.{so_far, each_chosen, more_so_far, one_durable}
@@ -120,24 +118,18 @@ failed_step old (event.Crash kept) new commit takes failed goes = absurd (goes (
 
 module _ (first : TreeState) (events : List Event) (states : ℕ → MachineState) (run : IsRun first events states) (place commit : ℕ) (failed : (states place).failed ≡ Some commit) where
   failed_at : (later : ℕ) → place ≤ later → later ≤ length events → ((states later).crashed ≡ true → ⊥) → StaysFailed (states place) (states later) commit
-  failed_at zero le within goes = subst (λ (p : ℕ). StaysFailed (states place) (states p) commit) (none_below le) here
+  failed_at zero le within goes = subst (λ (p : ℕ). StaysFailed (states place) (states p) commit) (none_below place le) here
     where
-      none_below : place ≤ 0 → place ≡ 0
-      none_below less = omega arith
-
       here : StaysFailed (states place) (states place) commit
       here = record { same = record { cut = refl; inodes = refl }; failed = failed }
   failed_at (suc later) le within goes = elim (below_or later place) [
-    | inl lt ↦ subst (λ (p : ℕ). StaysFailed (states place) (states p) commit) (at_once le lt) (record { same = record { cut = refl; inodes = refl }; failed = failed })
+    | inl lt ↦ subst (λ (p : ℕ). StaysFailed (states place) (states p) commit) (is_next place later le lt) (record { same = record { cut = refl; inodes = refl }; failed = failed })
     | inr less ↦
         let there = event_there events later (omega arith) in
         let was = failed_at later less (omega arith) ((run.steps later there.0 there.1).free refused.Crashed) in
         let now = failed_step (states later) there.0 (states (suc later)) commit (run.steps later there.0 there.1) was.failed goes in
         record { same = record { cut = now.same.cut ∙ was.same.cut; inodes = now.same.inodes ∙ was.same.inodes }; failed = now.failed }
   ]
-    where
-      at_once : place ≤ suc later → later < place → place ≡ suc later
-      at_once more lt = omega arith
 
 pub failures_stop_cuts : FailuresStopCuts
 failures_stop_cuts first events states place later commit run le within failed goes = (failed_at first events states run place commit failed later le within (λ ended. both ended goes)).same

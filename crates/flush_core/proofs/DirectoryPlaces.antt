@@ -1,19 +1,20 @@
 -- Where a directory stands in a tree and at a closed cut: its row is flushed, or is left at the cut, or is gone from both.
-use Rattle.std.proofs.Common.{◌≡◌, ℕ, zero, suc, ◌<◌, ◌≤◌, true, false, List, [], ◌∷◌, ◌++◌, Option, Some, None, IsSome, ◌⊎◌, inl, inr, refl, sym, ap, subst, ◌∙◌, arith}
+use Rattle.std.proofs.Common.{◌≡◌, ℕ, zero, suc, ◌<◌, ◌≤◌, true, false, List, Option, Some, None, IsSome, ◌⊎◌, inl, inr, refl, sym, ap, subst, ◌∙◌, arith}
 use Rattle.std.specs.FinMap.{get}
 use Rattle.sfs_base.specs.declared.numbers.Kind.{Kind}
 use Rattle.sfs_tree.specs.Tree.{TreeState, row_of, is_alive, is_directory}
 use Rattle.sfs_tree.specs.Effect.{Effect, Stays, Adds, Removes, Moves, Edits}
-use Rattle.sfs_tree.specs.Changes.{RowChange, added, removed, changes_by}
+use Rattle.sfs_tree.specs.Changes.{RowChange, changes_by}
 use Rattle.sfs_tree.specs.Sound.{IsSound}
 use Rattle.sfs_tree.specs.Fits.{Fits}
 use Rattle.sfs_tree.proofs.RowFacts.{IsNamed, alive_named, named_alive}
 use Rattle.flush_core.specs.Rules.{IsOneOf}
-use Rattle.flush_core.proofs.Own.{both, sides}
-use Rattle.flush_core.proofs.Placed.{IsBorn, WasNamed, IsMoved, named_before, row_stays}
-use Rattle.flush_core.proofs.Runs.{Run, Made, Keeps, Seen, below_or}
+use Rattle.flush_core.proofs.Basics.{below_or, both, not_none}
+use Rattle.flush_core.proofs.Own.{sides}
+use Rattle.flush_core.proofs.Placed.{IsBorn, IsMoved, named_before, row_stays}
+use Rattle.flush_core.proofs.Runs.{Run, Made, Keeps, Seen}
 use Rattle.flush_core.proofs.Seen.{IsSettled, ahead, behind, row_added, row_moved, other_end}
-use Rattle.flush_core.proofs.Children.{OfMove, replaces, moves, of_move, AreNamed, child_named}
+use Rattle.flush_core.proofs.Children.{replaces, moves, of_move, AreNamed, child_named}
 
 -- a number at most a count but not below it is the count
 same_stamp : (u t : ℕ) → u < suc t → t ≤ u → t ≡ u
@@ -31,12 +32,9 @@ module _ (tree : TreeState) (core t : ℕ) (s : IsSound tree) where
     | inr none ↦ absurd none
   ]
   names_placed (Adds e k c) (Some mk) f files d name x kind row y one child = elim one [
-    | inl same ↦ absurd (no_node (s.node d name x row) (ap (get tree.nodes) (sym (ap (λ (z : RowChange). z.child) same ∙ child)) ∙ f.fresh))
+    | inl same ↦ absurd (not_none (s.node d name x row) (ap (get tree.nodes) (sym (ap (λ (z : RowChange). z.child) same ∙ child)) ∙ f.fresh))
     | inr none ↦ absurd none
   ]
-    where
-      no_node : {A : Type 0} {o : Option A} → IsSome o → o ≡ None → ⊥
-      no_node some none = cc
   names_placed (Removes e k c) None f files d name x kind row y one child = elim one [
     | inl same ↦ inl (sym (ap (λ (z : RowChange). z.directory) same) ∙ (s.once e d k name x (f.row ∙ ap Some (ap (λ (z : RowChange). z.child) same ∙ child)) row kind).0)
     | inr none ↦ absurd none

@@ -13,8 +13,8 @@ use Rattle.flush_core.specs.Rules.{IsOneOf}
 use Rattle.flush_core.specs.Closure.{Flush}
 use Rattle.flush_core.specs.Machine.{MachineState}
 use Rattle.flush_core.specs.Runs.{IsRun, flush_by, IsBegun, flush_or, flush_of, durable_by}
-use Rattle.flush_core.proofs.Runs.{below_or}
-use Rattle.flush_core.proofs.Begun.{some_is, none_some, one_flush}
+use Rattle.flush_core.proofs.Basics.{below_or, no_less, none_some, some_is}
+use Rattle.flush_core.proofs.Begun.{one_flush}
 
 -- the one at a place comes behind those before it
 pub take_next : {X : Type 0} (xs : List X) (place : ℕ) (x : X) → slice_get xs place ≡ Some x → take (suc place) xs ≡ take place xs ++ x ∷ []
@@ -195,9 +195,6 @@ below_greater t a b lt = elim (below_or t a) [
   | inl less ↦ inl less
   | inr le ↦ elim (below_or t b) [ inl less ↦ inr less | inr more ↦ absurd (let most = max-le le more in no_less lt most) ]
 ]
-  where
-    no_less : {x y : ℕ} → x < y → y ≤ x → ⊥
-    no_less less le = omega arith
 
 pub below_greatest : (flushes : List Flush) (t : ℕ) → t < greatest flushes → (flush : Flush) × IsOneOf flushes flush × (t < flush.stamp)
 below_greatest [] t lt = absurd (omega arith)

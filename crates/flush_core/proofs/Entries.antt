@@ -1,5 +1,5 @@
 -- The entries of a legal history stand at their stamps, and their calls are a run.
-use Rattle.std.proofs.Common.{◌≡◌, ℕ, zero, suc, ◌+◌, ◌<◌, Bool, true, false, List, [], ◌∷◌, ◌++◌, length, take, map, Some, None, inl, inr, refl, sym, ap, subst, ◌∙◌, arith}
+use Rattle.std.proofs.Common.{◌≡◌, ℕ, zero, suc, ◌+◌, List, [], ◌∷◌, length, take, map, Some, inl, inr, refl, sym, ap, subst, ◌∙◌}
 use Rattle.std.specs.Prelude.{slice_get}
 use Rattle.sfs_tree.specs.declared.history.Entry.{Entry}
 use Rattle.sfs_tree.specs.Tree.{TreeState}
@@ -9,10 +9,10 @@ use Rattle.flush_core.specs.declared.event.Event.TheVariants as event
 use Rattle.flush_core.specs.declared.event.Refused.{Refused}
 use Rattle.flush_core.specs.declared.event.Refused.TheVariants as refused
 use Rattle.flush_core.specs.Rules.{IsOneOf}
-use Rattle.flush_core.specs.Machine.{MachineState, start_of, Refuses, Accepts}
-use Rattle.flush_core.specs.LawsGrowth.{MayComeThere, EntriesMayCome, StampsAreOnce}
+use Rattle.flush_core.specs.Machine.{start_of, Refuses, Accepts}
+use Rattle.flush_core.specs.LawsGrowth.{EntriesMayCome, StampsAreOnce}
 use Rattle.flush_core.specs.LawsRuns.{told, CallsAreARun}
-use Rattle.flush_core.proofs.Begun.{some_is, none_some}
+use Rattle.flush_core.proofs.Basics.{no_true, none_some, plus_zero, some_is, suc_plus, zero_plus}
 use Rattle.flush_core.proofs.Durables.{take_next}
 
 -- one of a list stands at a place
@@ -20,21 +20,12 @@ pub place_of_one : {X : Type 0} (xs : List X) (x : X) → IsOneOf xs x → (plac
 place_of_one [] x one = absurd one
 place_of_one (y ∷ xs) x one = elim one [ inl same ↦ (0, ap Some same) | inr rest ↦ let there = place_of_one xs x rest in (suc there.0, there.1) ]
 
-plus_zero : (n : ℕ) → n + 0 ≡ n
-plus_zero n = omega arith
-
-one_on : (n m : ℕ) → suc n + m ≡ n + suc m
-one_on n m = omega arith
-
-zero_plus : (n : ℕ) → 0 + n ≡ n
-zero_plus n = omega arith
-
 -- what stands at a place of a legal history may come there
 may_from : (first : TreeState) (stamp : ℕ) (history : List Entry) (place : ℕ) (entry : Entry) → IsLegalFrom first stamp history → slice_get history place ≡ Some entry → MayCome (tree_after first (take place history)) (stamp + place) entry
 may_from first stamp [] place entry legal stands = none_some stands
 may_from first stamp (next ∷ history) zero entry legal stands = subst (λ (s : ℕ). MayCome first s entry) (sym (plus_zero stamp)) (subst (MayCome first stamp) (some_is stands) legal.0)
 may_from first stamp (next ∷ history) (suc place) entry legal stands =
-    subst (λ (s : ℕ). MayCome (tree_after (tree_after_entry first next) (take place history)) s entry) (one_on stamp place) (may_from (tree_after_entry first next) (suc stamp) history place entry legal.1 stands)
+    subst (λ (s : ℕ). MayCome (tree_after (tree_after_entry first next) (take place history)) s entry) (suc_plus stamp place) (may_from (tree_after_entry first next) (suc stamp) history place entry legal.1 stands)
 
 may_at : (first : TreeState) (history : List Entry) (place : ℕ) (entry : Entry) → IsLegal first history → slice_get history place ≡ Some entry → MayCome (tree_after first (take place history)) place entry
 may_at first history place entry legal stands = subst (λ (s : ℕ). MayCome (tree_after first (take place history)) s entry) (zero_plus place) (may_from first 0 history place entry legal stands)
@@ -71,10 +62,7 @@ module _ (first : TreeState) (history : List Entry) (legal : IsLegal first histo
   nothing_refuses refused.Crashed r = cc
   nothing_refuses (refused.NotNext want) r = r.0 may.stamped
   nothing_refuses (refused.NotLegal reply) r = r.0 may
-  nothing_refuses (refused.Stopped commit) r = no_call r.0
-    where
-      no_call : false ≡ true → ⊥
-      no_call e = cc
+  nothing_refuses (refused.Stopped commit) r = no_true r.0
   nothing_refuses (refused.Used commit) r = absurd r
   nothing_refuses (refused.Meets node) r = absurd r
   nothing_refuses (refused.Late stamp) r = absurd r

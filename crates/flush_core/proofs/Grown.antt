@@ -22,8 +22,9 @@ use Rattle.flush_core.specs.Rules.{IsOneOf, IsChange, IsMove, births_by, births_
 use Rattle.flush_core.specs.Past.{row_change_of, KeepsAbove, IsPast}
 use Rattle.flush_core.specs.Plan.{IsNoted}
 use Rattle.flush_core.specs.Grows.{Grows}
+use Rattle.flush_core.proofs.Basics.{in_either, in_right, no_true}
 use Rattle.flush_core.proofs.Own.{stamp_of}
-use Rattle.flush_core.proofs.Along.{tree_at-after, in_right, in_either}
+use Rattle.flush_core.proofs.Along.{tree_at-after}
 use Rattle.flush_core.proofs.Lives.{live_own}
 use Rattle.flush_core.proofs.Prefix.{take_take, change_below, kind_whole}
 use Rattle.flush_core.proofs.Prefixes.{move_whole, move_prefix}
@@ -65,10 +66,7 @@ mover_there tree core t s (Moves p n q m c) None f x one places other =
     ] one
   where
     gone : (y : RowChange) → y ≡ x → y.places ≡ false → ⊥
-    gone y e no_place = differ (sym no_place ∙ ap (λ (z : RowChange). z.places) e ∙ places)
-      where
-        differ : false ≡ true → ⊥
-        differ e = cc
+    gone y e no_place = no_true (sym no_place ∙ ap (λ (z : RowChange). z.places) e ∙ places)
 
     two : IsOneOf (removed t p n c (other_side p q) false ∷ added t q m c (other_side q p) ∷ []) x → IsSome (get tree.nodes x.child)
     two h = elim h [

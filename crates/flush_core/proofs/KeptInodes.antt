@@ -1,7 +1,6 @@
 -- What fsyncs leave of nodes that have an inode, and of those that they do not concern.
-use Rattle.std.proofs.Common.{◌≡◌, ℕ, ◌<◌, ◌≤◌, Bool, true, false, List, [], ◌∷◌, length, Option, Some, None, IsSome, is_some, ◌⊎◌, inl, inr, refl, sym, ap, subst, ◌∙◌, nat_eq, arith}
+use Rattle.std.proofs.Common.{◌≡◌, ℕ, ◌<◌, ◌≤◌, Bool, true, false, List, length, Option, Some, ◌⊎◌, inl, inr, refl, sym, ap, subst, ◌∙◌, nat_eq, arith}
 use borrow.Author.Tests.{eqb-true, eqb-false}
-use Rattle.std.specs.Prelude.{◌↔◌}
 use Rattle.std.specs.FinMap.{FinMap, get, empty}
 use Rattle.sfs_base.specs.declared.numbers.Kind.{Kind}
 use Rattle.sfs_tree.specs.declared.history.Entry.{Entry}
@@ -13,11 +12,12 @@ use Rattle.sfs_tree.specs.History.{tree_after, IsLegal}
 use Rattle.sfs_tree.specs.Laws.{IsSoundTree}
 use Rattle.flush_core.specs.Cut.{Cut, cut_of, IsWithin, is_within, rows_at_cut}
 use Rattle.flush_core.specs.Rules.{IsOneOf, IsChange, births_by}
-use Rattle.flush_core.specs.Closure.{every_entry, Flush, IsConcerned, member, itself, IsNamedIn, IsRaised, IsReached, IsDead, AreInodesAfter, KeepsCut, AreRaised, none, one_more, AreFlushed}
+use Rattle.flush_core.specs.Closure.{every_entry, Flush, IsConcerned, member, itself, IsNamedIn, IsRaised, IsReached, IsDead, AreInodesAfter, KeepsCut, none, one_more, AreFlushed}
 use Rattle.flush_core.specs.LawsInodes.{OthersStay, StaysAsItWas, IsNeverNamed, NoneIsDead, DirectoriesAreNamed, DirectoriesStayNamed, FilesSettle}
-use Rattle.flush_core.proofs.Own.{both, skip}
-use Rattle.flush_core.proofs.Runs.{Run, below_or, not_below}
-use Rattle.flush_core.proofs.Along.{effect_at, makes_at, run_of, birth_in, nodes_at}
+use Rattle.flush_core.proofs.Basics.{below_or, both, no_less, not_below}
+use Rattle.flush_core.proofs.Own.{skip}
+use Rattle.flush_core.proofs.Runs.{Run}
+use Rattle.flush_core.proofs.Along.{effect_at, run_of, birth_in, nodes_at}
 use Rattle.flush_core.proofs.Closed.{keeps_of, seen_of, seen_end, closed_cuts_are_sound}
 use Rattle.flush_core.proofs.Children.{links_named}
 use Rattle.flush_core.proofs.Prefixes.{made_at}
@@ -34,9 +34,6 @@ module _ (first : TreeState) (history : List Entry) (cut raised : Cut) (inodes a
 
   abbrev IsConcernedHere : ℕ → Type 0
   IsConcernedHere node = IsConcerned first history every_entry cut inodes flush node
-
-  no_less : (a b : ℕ) → a < b → b ≤ a → ⊥
-  no_less a b lt le = omega arith
 
   -- a change that names a node is flushed as it was, or the node is concerned
   pub flushed_or_concerned : (change : RowChange) → IsChange first history change → IsWithin raised change → IsWithin cut change ⊎ IsConcernedHere change.child
@@ -94,7 +91,7 @@ module _ (first : TreeState) (history : List Entry) (cut raised : Cut) (inodes a
     | inr file ↦
         let naming = file.2 in
         let within = dead.flushed naming.change naming.is_change naming.counted naming.child in
-        no_less naming.change.stamp (cut_of raised naming.change.directory) within naming.unflushed
+        no_less within naming.unflushed
   ]
 
   -- what is dead stays dead
@@ -106,7 +103,7 @@ module _ (first : TreeState) (history : List Entry) (cut raised : Cut) (inodes a
       | inr b ↦
           let change = between_change first history every_entry flush cut raised inodes is legal (λ t lt. refl) raise node b in
           let within = dead.flushed b.change change.0 refl b.child in
-          no_less b.change.stamp (cut_of cut b.change.directory) within change.1
+          no_less within change.1
     ];
     flushed = λ change one counted child. still_within change (dead.flushed change one counted child);
   }

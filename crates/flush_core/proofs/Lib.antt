@@ -1,3 +1,4 @@
+pub mod Basics
 mod CutRows
 pub mod Nodes
 pub mod Own

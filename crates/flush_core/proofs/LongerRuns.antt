@@ -1,11 +1,10 @@
 -- A run is lengthened by an event; a commit alone is accepted; and to each commit all can be tied.
-use Rattle.std.proofs.Common.{◌≡◌, ℕ, zero, suc, ◌<◌, ◌≤◌, Bool, true, false, cond, not, List, [], ◌∷◌, ◌++◌, length, map, Some, None, is_some, ◌⊎◌, inl, inr, refl, sym, ap, subst, ◌∙◌, nat_eq, nat_lt, arith}
+use Rattle.std.proofs.Common.{◌≡◌, ℕ, zero, suc, ◌<◌, ◌≤◌, Bool, true, false, cond, not, List, [], ◌∷◌, ◌++◌, length, Some, None, is_some, ◌⊎◌, inl, inr, refl, sym, ap, subst, ◌∙◌, nat_eq, arith}
 use borrow.Author.Tests.{eq-eqb, lt-ltb}
-use Rattle.std.specs.Prelude.{filter, slice_get}
+use Rattle.std.specs.Prelude.{slice_get}
 use Rattle.std.specs.Option.{option_map_or}
 use Rattle.sfs_base.specs.declared.numbers.NodeId.{NodeId}
 use Rattle.sfs_base.specs.declared.numbers.Stamp.{Stamp}
-use Rattle.sfs_tree.specs.Tree.{TreeState}
 use Rattle.flush_core.specs.declared.event.Event.{Event}
 use Rattle.flush_core.specs.declared.event.Event.TheVariants as event
 use Rattle.flush_core.specs.declared.event.Refused.{Refused}
@@ -14,11 +13,8 @@ use Rattle.flush_core.specs.Cut.{Cut}
 use Rattle.flush_core.specs.Rules.{IsOneOf}
 use Rattle.flush_core.specs.Closure.{every_entry, Flush, IsRaised, AreInodesAfter, AreRaised, none, one_more}
 use Rattle.flush_core.specs.Machine.{Flight, MachineState, is_flying, is_opened, flight_of, Refuses, BeginsFlight, IsRaisedBy, Accepts}
-use Rattle.flush_core.specs.Runs.{IsRun}
-use Rattle.flush_core.specs.LawsRuns.{AllAreTied, EmptyRuns, then_state, RunsLengthen, MayCommit, with_flight, committed, AcceptsCommit, CommitsAreAccepted}
-use Rattle.flush_core.proofs.Own.{both}
-use Rattle.flush_core.proofs.Runs.{not_below}
-use Rattle.flush_core.proofs.Begun.{some_is, none_some}
+use Rattle.flush_core.specs.LawsRuns.{AllAreTied, EmptyRuns, then_state, RunsLengthen, MayCommit, with_flight, committed, CommitsAreAccepted}
+use Rattle.flush_core.proofs.Basics.{both, no_less, no_true, none_some, not_below, some_is}
 
 pub all_are_tied : AllAreTied
 all_are_tied first events states commit flush = record {
@@ -107,9 +103,6 @@ module _ (state : MachineState) (commit : ℕ) (node : NodeId) (stamp : Stamp) (
   begin_free (refused.Used other) r = may.number r.0
   begin_free (refused.Meets met) r = no_flight r.0.flight r.0.flies
   begin_free (refused.Late late) r = let lt = r.0 in let le = may.low in no_less lt le
-    where
-      no_less : {a b : ℕ} → a < b → b ≤ a → ⊥
-      no_less lt le = omega arith
   begin_free (refused.NotFlying other) r = none_some r
   begin_free (refused.NotOpened other) r = none_some r.1
   begin_free (refused.AlreadyOpened other) r = absurd r
@@ -134,10 +127,7 @@ module _ (state : MachineState) (commit : ℕ) (node : NodeId) (stamp : Stamp) (
   open_free (refused.Meets met) r = absurd r
   open_free (refused.Late late) r = absurd r
   open_free (refused.NotFlying other) r = none_found (is_flying (now false) commit) (flies false) r
-  open_free (refused.NotOpened other) r = differ r.0
-    where
-      differ : false ≡ true → ⊥
-      differ e = cc
+  open_free (refused.NotOpened other) r = no_true r.0
   open_free (refused.AlreadyOpened other) r = both r.0 (opened_is false)
   open_free refused.NoMemory r = absurd r
 

@@ -13,7 +13,7 @@ use Rattle.flush_core.specs.Rules.{IsOneOf, IsChange, Birth, births_of}
 use Rattle.flush_core.specs.Closure as closure
 use Rattle.flush_core.specs.Closure.{Counts, Flush, Closure, IsConcerned}
 use Rattle.flush_core.specs.LawsInodes.{MembersAreDirectories, FilesFlushThemselves}
-use Rattle.flush_core.proofs.Own.{both}
+use Rattle.flush_core.proofs.Basics.{both}
 use Rattle.flush_core.proofs.Runs.{Run, Made}
 use Rattle.flush_core.proofs.Along.{tree_at, effect_at, tree_at-first, tree_at-after, run_of, sound_at, nodes_at}
 use Rattle.flush_core.proofs.Lives.{live_at, ended_at}

@@ -12,8 +12,9 @@ use Rattle.sfs_tree.specs.Laws.{IsSoundTree}
 use Rattle.flush_core.specs.Cut.{Cut, cut_of, rows_at_cut, counted_rows_at_cut}
 use Rattle.flush_core.specs.Rules.{IsChange}
 use Rattle.flush_core.specs.Closure.{Counts, Flush, Closure, IsConcerned, named, IsNamedIn, IsRaised, AreInodesAfter}
-use Rattle.flush_core.proofs.Own.{both, stamp_of}
-use Rattle.flush_core.proofs.Runs.{Run, Made, Seen, below_or}
+use Rattle.flush_core.proofs.Basics.{below_or, both}
+use Rattle.flush_core.proofs.Own.{stamp_of}
+use Rattle.flush_core.proofs.Runs.{Run, Made, Seen}
 use Rattle.flush_core.proofs.Seen.{ahead, behind}
 use Rattle.flush_core.proofs.Along.{tree_at, effect_at, run_of, change_in, change_of}
 use Rattle.flush_core.proofs.Closed.{seen_of, seen_end}

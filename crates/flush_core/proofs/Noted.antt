@@ -10,7 +10,7 @@ use Rattle.flush_core.specs.declared.past.OwnChange.{OwnChange}
 use Rattle.flush_core.specs.Rules.{IsOneOf}
 use Rattle.flush_core.specs.Past.{row_change_of}
 use Rattle.flush_core.specs.Plan.{MovesDirectory, IsNoted, AreNoted, IsAboveNew}
-use Rattle.flush_core.proofs.Along.{in_either}
+use Rattle.flush_core.proofs.Basics.{in_either}
 
 -- none are noted of a change that moves no directory
 pub noted_none : (tree : TreeState) (change : OwnChange) → (MovesDirectory tree (row_change_of change) → ⊥) → change.above ≡ None → IsNoted tree change

@@ -1,17 +1,15 @@
 -- An fsync of a live file that has an inode leaves all inodes.
-use Rattle.std.proofs.Common.{◌≡◌, ℕ, ◌<◌, ◌≤◌, Bool, true, false, List, take, inl, inr, refl, sym, subst, arith}
+use Rattle.std.proofs.Common.{◌≡◌, ℕ, ◌<◌, ◌≤◌, Bool, true, false, List, inl, inr, refl, sym, subst, arith}
 use Rattle.std.specs.FinMap.{empty}
 use Rattle.sfs_tree.specs.declared.history.Entry.{Entry}
 use Rattle.sfs_tree.specs.Tree.{TreeState, is_alive, is_directory}
-use Rattle.sfs_tree.specs.Changes.{RowChange}
 use Rattle.sfs_tree.specs.History.{tree_after, IsLegal}
 use Rattle.sfs_tree.specs.Laws.{IsSoundTree}
 use Rattle.sfs_tree.proofs.RowFacts.{alive_named}
 use Rattle.flush_core.specs.Cut.{Cut, cut_of}
-use Rattle.flush_core.specs.Rules.{IsChange}
-use Rattle.flush_core.specs.Closure.{every_entry, Flush, HasLiveNode, IsConcerned, IsRaised, IsDead, AreInodesAfter, AreFlushed}
+use Rattle.flush_core.specs.Closure.{every_entry, Flush, IsConcerned, IsRaised, IsDead, AreInodesAfter}
 use Rattle.flush_core.specs.LawsInodes.{IsNeverNamed, FilesKeepInodes}
-use Rattle.flush_core.proofs.Own.{both}
+use Rattle.flush_core.proofs.Basics.{both}
 use Rattle.flush_core.proofs.Along.{tree_at, tree_at-after, change_in}
 use Rattle.flush_core.proofs.Prefixes.{made_at}
 use Rattle.flush_core.proofs.Recount.{named_or_open}

@@ -14,7 +14,8 @@ use Rattle.sfs_tree.proofs.KeepsNodes.{directory_node}
 use Rattle.flush_core.specs.Cut.{Cut, counted_rows_at_cut}
 use Rattle.flush_core.specs.Rules.{IsChange, IsOneOf, Birth, births_of, IsMove}
 use Rattle.flush_core.specs.Closure.{every_entry, Flush, HasLiveNode, InSpan, HasNaming, IsNamedIn, IsReached, IsDead}
-use Rattle.flush_core.proofs.Runs.{Run, Made, below_or}
+use Rattle.flush_core.proofs.Basics.{below_or}
+use Rattle.flush_core.proofs.Runs.{Run, Made}
 use Rattle.flush_core.proofs.Along.{tree_at, tree_at-after, run_of, change_of, sound_at}
 use Rattle.flush_core.proofs.Lives.{later, no_node_yet}
 use Rattle.flush_core.proofs.Commit.{birth_at}

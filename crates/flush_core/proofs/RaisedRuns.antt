@@ -1,7 +1,6 @@
 -- Before a crash a run's state is what its durable commits have raised.
-use Rattle.std.proofs.Common.{◌≡◌, ℕ, zero, suc, ◌<◌, ◌≤◌, Bool, true, false, List, [], ◌∷◌, ◌++◌, length, take, Some, is_some, inl, inr, refl, sym, ap, subst, ◌∙◌, arith}
+use Rattle.std.proofs.Common.{◌≡◌, ℕ, zero, suc, ◌<◌, ◌≤◌, Bool, true, List, [], ◌∷◌, length, take, Some, inl, inr, refl, sym, ap, subst, ◌∙◌, arith}
 use Rattle.std.specs.Prelude.{slice_get}
-use Rattle.std.specs.FinMap.{get, empty}
 use Rattle.sfs_tree.specs.declared.history.Entry.{Entry}
 use Rattle.sfs_tree.specs.Tree.{TreeState}
 use Rattle.sfs_tree.specs.History.{IsLegal}
@@ -11,18 +10,15 @@ use Rattle.flush_core.specs.declared.event.Event.TheVariants as event
 use Rattle.flush_core.specs.declared.event.Refused.TheVariants as refused
 use Rattle.flush_core.specs.Cut.{Cut}
 use Rattle.flush_core.specs.Rules.{IsOneOf}
-use Rattle.flush_core.specs.Closure.{every_entry, Flush, HasLiveNode, HasNode, AreRaised, none, one_more, AreFlushed}
-use Rattle.flush_core.specs.Covers.{IsCovered}
-use Rattle.flush_core.specs.Machine.{Flight, MachineState, kept_of, Accepts}
-use Rattle.flush_core.specs.Runs.{IsRun, IsBegun, AreAlive, durable_of}
-use Rattle.flush_core.specs.LawsRuns.{every_commit, RunsAreFlushed, DurablesAreCovered, HasSameCut, FailuresStopCuts}
-use Rattle.flush_core.proofs.Own.{both}
-use Rattle.flush_core.proofs.Runs.{below_or}
+use Rattle.flush_core.specs.Closure.{every_entry, Flush, HasLiveNode, AreRaised, none, one_more, AreFlushed}
+use Rattle.flush_core.specs.Machine.{Flight, MachineState}
+use Rattle.flush_core.specs.Runs.{IsRun, IsBegun, AreAlive}
+use Rattle.flush_core.specs.LawsRuns.{every_commit, RunsAreFlushed}
+use Rattle.flush_core.proofs.Basics.{both}
 use Rattle.flush_core.proofs.RunFacts.{IsPrefix, IsSteady, steady_at, event_there, prefix_later}
 use Rattle.flush_core.proofs.Held.{held_at, flights_live}
 use Rattle.flush_core.proofs.RaiseLists.{raised_once}
-use Rattle.flush_core.proofs.Flying.{CutStep, stays, raises, ends, cut_step, flight_before, IsAmong}
-use Rattle.flush_core.proofs.Stays.{live_begun}
+use Rattle.flush_core.proofs.Flying.{CutStep, stays, raises, ends, cut_step, flight_before}
 use Rattle.flush_core.proofs.Durables.{so_far, none_more, one_durable}
 use Rattle.flush_core.proofs.WholeHistory.{raised_whole}
 

@@ -13,8 +13,9 @@ use Rattle.sfs_tree.proofs.RowFacts.{IsNamed}
 use Rattle.flush_core.specs.Cut.{Cut, cut_of, is_within, is_counted_within, with_own, rows_at_cut, counted_rows_at_cut}
 use Rattle.flush_core.specs.Rules.{IsChange}
 use Rattle.flush_core.specs.Closure.{Counts, Flush, HasLiveNode, HasNaming, IsNamedIn, IsReached, IsDead}
+use Rattle.flush_core.proofs.Basics.{and_false, below_or, both, filter_same, no_less, plus_zero}
 use Rattle.flush_core.proofs.Own.{stamp_of}
-use Rattle.flush_core.proofs.Runs.{Run, Seen, below_or}
+use Rattle.flush_core.proofs.Runs.{Run, Seen}
 use Rattle.flush_core.proofs.Seen.{behind}
 use Rattle.flush_core.proofs.Along.{tree_at, effect_at, run_of, change_in}
 use Rattle.flush_core.proofs.Closed.{seen_of, seen_past}
@@ -22,17 +23,13 @@ use Rattle.flush_core.proofs.Lives.{later}
 use Rattle.flush_core.proofs.Views.{IsHeld, Recounts}
 use Rattle.flush_core.proofs.RunFacts.{raised_low}
 use Rattle.flush_core.proofs.Children.{IsOpen, naming_since, flushed_or_open, links_named}
-use Rattle.flush_core.proofs.Prefix.{filter_same}
 use Rattle.flush_core.proofs.Prefixes.{made_at}
 use Rattle.flush_core.proofs.Members.{member_then, concerned_then}
 use Rattle.flush_core.proofs.Alike.{Carries, are_alike}
 
 -- rows at a cut stay from a stamp on that no cut is above
 rows_stay : (r : Run) (cut : ℕ → ℕ) (s : Seen r cut) (k more d : ℕ) (n : List ℕ) → cut d ≤ k → get (s.rows (k + more)) (d, n) ≡ get (s.rows k) (d, n)
-rows_stay r cut s k zero d n le = ap (λ t. get (s.rows t) (d, n)) (none_more k)
-  where
-    none_more : (k : ℕ) → k + 0 ≡ k
-    none_more k = omega arith
+rows_stay r cut s k zero d n le = ap (λ t. get (s.rows t) (d, n)) (plus_zero k)
 rows_stay r cut s k (suc more) d n le = ap (λ t. get (s.rows t) (d, n)) (one_more k more) ∙ behind r cut s (k + more) d n (omega arith) ∙ rows_stay r cut s k more d n le
   where
     one_more : (k m : ℕ) → k + suc m ≡ suc (k + m)
@@ -47,12 +44,8 @@ counted_within : (k : ℕ) (counts : Counts) (cut : Cut) (x : RowChange) → Cou
 counted_within k counts cut x all low =
     elim (nat_lt x.stamp (cut_of cut x.directory)) as (λ b. nat_lt x.stamp (cut_of cut x.directory) ≡ b → (counts x.stamp && b) ≡ b) [
       | true ↦ λ e. ap (λ b. b && true) (all x.stamp (let lt = ltb-true _ _ e in let le = low x.directory in omega arith))
-      | false ↦ λ e. none (counts x.stamp)
+      | false ↦ λ e. and_false (counts x.stamp)
     ] refl
-  where
-    none : (b : Bool) → (b && false) ≡ false
-    none true = refl
-    none false = refl
 
 -- so the rows at it are those at the cut
 pub counted_rows-low : (first : TreeState) (history : List Entry) (k : ℕ) (counts : Counts) (cut : Cut) → CountBelow k counts → ((node : ℕ) → cut_of cut node ≤ k) → counted_rows_at_cut first history counts cut ≡ rows_at_cut first history cut
@@ -123,9 +116,6 @@ module _ (first : TreeState) (history : List Entry) (is : IsSoundTree first) (le
           ],
         );
       }
-        where
-          both : {b : Bool} → b ≡ true → b ≡ false → ⊥
-          both t f = cc
 
       module _ (raised : Cut) (raised_at_most : (node : ℕ) → cut_of raised node ≤ k) where
         same_rows : counted_rows_at_cut first history counts raised ≡ counted_rows_at_cut first history other raised
@@ -158,13 +148,10 @@ module _ (first : TreeState) (history : List Entry) (is : IsSoundTree first) (le
                   let naming = open_naming other raised x.child other_all o in
                   let within = dead.flushed naming.change naming.is_change naming.counted (naming.child ∙ child) in
                   let unflushed = naming.unflushed in
-                  no_less (naming.change.stamp) (cut_of raised naming.change.directory) within unflushed
+                  no_less within unflushed
             ])
           ];
         }
-          where
-            no_less : (a b : ℕ) → a < b → b ≤ a → ⊥
-            no_less a b lt le = omega arith
 
 pub recounts : Recounts
 recounts first history k counts other flush cut inodes is legal all other_all low stamp live held =

@@ -1,5 +1,5 @@
 -- In each state of a run the cut is closed, and directories with an inode are born.
-use Rattle.std.proofs.Common.{◌≡◌, ℕ, zero, suc, ◌≤◌, true, List, [], ◌∷◌, ◌++◌, length, take, sym, ap, subst, arith}
+use Rattle.std.proofs.Common.{ℕ, zero, suc, ◌≤◌, List, [], ◌∷◌, ◌++◌, length, take, sym, ap, subst, arith}
 use Rattle.std.specs.FinMap.{FinMap}
 use Rattle.sfs_tree.specs.Order.{key_cmp}
 use Rattle.std.proofs.Math.Seq.{take-append_seam}

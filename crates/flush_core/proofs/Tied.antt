@@ -17,8 +17,7 @@ use Rattle.flush_core.specs.Closure.{Counts, every_entry, Flush, HasLiveNode, Is
 use Rattle.flush_core.specs.Machine.{Flight, MachineState}
 use Rattle.flush_core.specs.Runs.{IsRun, IsBegun, AreAlive, view_of, IsOneCommit, AreTied, CountEnough}
 use Rattle.flush_core.specs.Laws.{CommitsAreTied}
-use Rattle.flush_core.proofs.Runs.{below_or}
-use Rattle.flush_core.proofs.Along.{in_left, in_right}
+use Rattle.flush_core.proofs.Basics.{below_or, in_left, in_right}
 use Rattle.flush_core.proofs.Views.{below, AreAlike, IsHeld, Agree}
 use Rattle.flush_core.proofs.RunFacts.{IsSteady, prefix_later, steady_at, event_there, cuts_stay_low}
 use Rattle.flush_core.proofs.Lists.{nothing_within}
