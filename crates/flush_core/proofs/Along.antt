@@ -22,7 +22,7 @@ use Rattle.flush_core.specs.Rules.{IsOneOf, Birth, births_by, births_of}
 use Rattle.flush_core.proofs.Basics.{in_either, in_left, in_right, not_false, plus_zero, suc_plus, zero_plus}
 use Rattle.flush_core.proofs.Nodes.{node_stays}
 use Rattle.flush_core.proofs.Own.{stamp_of}
-use Rattle.flush_core.proofs.Runs.{Run}
+use Rattle.flush_core.proofs.Runs.{Run, Made}
 
 -- the tree after so many entries, and what the next one does
 abbrev pub tree_at : TreeState → List Entry → ℕ → TreeState
@@ -196,6 +196,9 @@ change_of first history x legal one =
     let found = change_at first history 0 x legal one in
     let here : IsOneOf (changes_by (tree_at first history found.0) found.0 (effect_at first history found.0)) x = stamped (tree_at first history found.0) (effect_at first history found.0) (0 + found.0) found.0 x (zero_plus found.0) found.1 in
     subst (λ (t : ℕ). IsOneOf (changes_by (tree_at first history t) t (effect_at first history t)) x) (sym (stamp_of (tree_at first history found.0) found.0 (effect_at first history found.0) x here)) here
+
+pub made_at : (first : TreeState) (history : List Entry) (is : IsSoundTree first) (legal : IsLegal first history) (x : RowChange) → IsOneOf (changes_of first history) x → Made (run_of first history is legal) x.stamp x
+made_at first history is legal x one = change_of first history x legal one
 
 -- each birth at a stamp is one of the history
 pub birth_in : (first : TreeState) (history : List Entry) (t : ℕ) (birth : Birth) → IsLegal first history → IsOneOf (births_by t (effect_at first history t) (makes_at first history t)) birth → IsOneOf (births_of first history) birth

@@ -1,7 +1,5 @@
 -- An fsync keeps the cut closed, and each directory with an inode has its making below its birth place's cut.
 use Rattle.std.proofs.Common.{◌≡◌, ℕ, suc, ◌+◌, ◌<◌, ◌≤◌, Bool, true, false, List, [], ◌∷◌, length, take, Option, Some, None, ◌⊎◌, inl, inr, refl, sym, ap, subst, ◌∙◌, arith}
-use Rattle.std.specs.Prelude.{max}
-use Rattle.std.proofs.Math.Nat.{le-max_left, le-max_right, max-le}
 use Rattle.std.specs.FinMap.{FinMap, get}
 use Rattle.sfs_base.specs.declared.numbers.Kind.{Kind}
 use Rattle.sfs_tree.specs.declared.history.Entry.{Entry}
@@ -19,9 +17,10 @@ use Rattle.flush_core.specs.Cut.{Cut, cut_of, IsWithin, rows_at_cut}
 use Rattle.flush_core.specs.Rules.{IsOneOf, IsChange, Birth, births_by, births_of, IsLastPlacing, IsMove, IsClosed}
 use Rattle.flush_core.specs.Closure.{every_entry, Flush, InSpan, Closure, other_side, ended, ancestor, birth_place, IsRaised, AreInodesAfter, AreBorn, KeepsCut}
 use Rattle.flush_core.specs.Laws.{FsyncsKeep}
-use Rattle.flush_core.proofs.Basics.{below_or, both, in_either, no_less, plus_zero, suc_plus, zero_plus}
-use Rattle.flush_core.proofs.Runs.{Run, Made}
-use Rattle.flush_core.proofs.Along.{tree_at, effect_at, makes_at, tree_at-after, run_of, change_in, change_of, nodes_at}
+use Rattle.flush_core.proofs.Basics.{below_or, both, in_either, plus_zero, suc_plus, zero_plus}
+use Rattle.flush_core.proofs.Raises.{cuts_rise, members_rise, was_or_spanned}
+use Rattle.flush_core.proofs.Runs.{Run}
+use Rattle.flush_core.proofs.Along.{made_at, tree_at, effect_at, makes_at, tree_at-after, run_of, change_in, nodes_at}
 use Rattle.flush_core.proofs.Closed.{keeps_of, seen_of, seen_end}
 use Rattle.flush_core.proofs.Lives.{live_at, holder_above, born_before, ended_before, named_born}
 
@@ -70,35 +69,17 @@ module _ (first : TreeState) (history : List Entry) (is : IsSoundTree first) (le
   abbrev Member : ℕ → Type 0
   Member node = Closure first history every_entry cut inodes flush node
 
-  made : (x : RowChange) → IsChange first history x → Made run x.stamp x
-  made x one = change_of first history x legal one
-
   -- what lay below the cut still does
   up : (t d : ℕ) → t < cut_of cut d → t < cut_of raised d
-  up t d lt = elim (raise.other d) [
-    | inl member ↦ let e = raise.member d member in let le = le-max_left (cut_of cut d) flush.stamp in omega arith
-    | inr e ↦ subst (λ (k : ℕ). t < k) (sym e) lt
-  ]
+  up t d lt = let le = cuts_rise first history every_entry cut inodes flush raised raise d in omega arith
 
   -- of a member all that lies below the fsync's stamp does
   member_up : (t d : ℕ) → Member d → t < flush.stamp → t < cut_of raised d
-  member_up t d member lt = let e = raise.member d member in let le = le-max_right (cut_of cut d) flush.stamp in omega arith
+  member_up t d member lt = let le = members_rise first history every_entry cut inodes flush raised raise d member in omega arith
 
   -- what lies below the raised cut lay below the cut, or in a member's span
   split : (t d : ℕ) → t < cut_of raised d → (t < cut_of cut d) ⊎ (Member d × (cut_of cut d ≤ t) × (t < flush.stamp))
-  split t d lt = elim (below_or t (cut_of cut d)) [
-    | inl less ↦ inl less
-    | inr le ↦ elim (raise.other d) [
-      | inl member ↦ inr (member, le, below_stamp le (raise.member d member))
-      | inr e ↦ absurd (no_less (subst (λ (k : ℕ). t < k) e lt) le)
-    ]
-  ]
-    where
-      below_stamp : cut_of cut d ≤ t → cut_of raised d ≡ max (cut_of cut d) flush.stamp → t < flush.stamp
-      below_stamp le e = elim (below_or t flush.stamp) [
-        | inl less ↦ less
-        | inr more ↦ absurd (no_less (subst (λ (k : ℕ). t < k) e lt) (max-le le more))
-      ]
+  split = was_or_spanned first history every_entry cut inodes flush raised raise
 
   span : (x : RowChange) → IsChange first history x → cut_of cut x.directory ≤ x.stamp → x.stamp < flush.stamp → InSpan first history every_entry cut flush.stamp x
   span x one from lt = record { is_change = one; counted = refl; from = from; below = lt }
@@ -109,7 +90,7 @@ module _ (first : TreeState) (history : List Entry) (is : IsSoundTree first) (le
   -- a directory with a change is one of the last tree
   kind_of_own : (own : RowChange) → IsChange first history own → is_directory (tree_after first history) own.directory ≡ true
   kind_of_own own one =
-      let live = live_at run own.stamp own (made own one) in
+      let live = live_at run own.stamp own (made_at first history is legal own one) in
       (nodes_at first history own.stamp is legal own.directory (directory_node (tree_at first history own.stamp) own.directory live.kind)).1 ∙ live.kind
 
   -- the making of a member without an inode that has a change below the stamp
@@ -117,7 +98,7 @@ module _ (first : TreeState) (history : List Entry) (is : IsSoundTree first) (le
   makes_up birth own one own_is same member none lt =
       elim (below_or birth.stamp (cut_of cut birth.directory)) [
         | inl less ↦ up birth.stamp birth.directory less
-        | inr le ↦ member_up birth.stamp birth.directory (birth_place birth member one none (record { change = naming; is_change = naming_is; counted = refl; child = refl; unflushed = le })) (earlier birth.stamp own.stamp (born_before run birth.stamp birth.directory born.name birth.node born.kind born.adds born.made own.stamp own (made own own_is) same) lt)
+        | inr le ↦ member_up birth.stamp birth.directory (birth_place birth member one none (record { change = naming; is_change = naming_is; counted = refl; child = refl; unflushed = le })) (earlier birth.stamp own.stamp (born_before run birth.stamp birth.directory born.name birth.node born.kind born.adds born.made own.stamp own (made_at first history is legal own own_is) same) lt)
       ]
     where
       born : IsBornAt first history birth birth.stamp
@@ -143,7 +124,7 @@ module _ (first : TreeState) (history : List Entry) (is : IsSoundTree first) (le
   ancestors_raised change above node holder name last move within way among row placing = elim (split change.stamp change.directory within) [
     | inl lt ↦ up last.stamp holder (kept.closed.ancestors change above node holder name last move lt way among row placing)
     | inr more ↦
-        let live = live_at run change.stamp change (made change move.is_change) in
+        let live = live_at run change.stamp change (made_at first history is legal change move.is_change) in
         let sound = histories_keep_sound first history change.stamp is legal in
         let kind : is_directory (tree_after first (take change.stamp history)) change.directory ≡ true = subst (λ (w : TreeState). is_directory w change.directory ≡ true) (tree_at-after first history change.stamp) live.kind in
         member_up last.stamp holder (ancestor change above holder more.0 (span change move.is_change more.1 more.2) move way (holder_above (tree_after first (take change.stamp history)) 0 0 sound.sound way kind node holder name among row)) (earlier last.stamp change.stamp placing.below more.2)
@@ -158,7 +139,7 @@ module _ (first : TreeState) (history : List Entry) (is : IsSoundTree first) (le
     removals = λ change own one ends within own_is same. elim (split change.stamp change.directory within) [
       | inl lt ↦ up own.stamp own.directory (kept.closed.removals change own one ends lt own_is same)
       | inr more ↦
-          let before = ended_before run change.stamp change own.stamp own (made change one) ends (made own own_is) same in
+          let before = ended_before run change.stamp change own.stamp own (made_at first history is legal change one) ends (made_at first history is legal own own_is) same in
           member_up own.stamp own.directory (subst (λ (y : ℕ). Member y) (sym same) (ended change more.0 (span change one more.1 more.2) ends)) (earlier own.stamp change.stamp before more.2)
     ];
     births = births_raised;

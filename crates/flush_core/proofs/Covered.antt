@@ -1,8 +1,7 @@
 -- An fsync is covered by the cut that it leaves.
-use Rattle.std.proofs.Common.{◌≡◌, ℕ, ◌<◌, ◌≤◌, Bool, true, false, cond, List, [], ◌∷◌, take, Some, None, IsSome, ◌⊎◌, inl, inr, refl, sym, subst, arith}
+use Rattle.std.proofs.Common.{◌≡◌, ℕ, ◌<◌, Bool, true, false, cond, List, [], ◌∷◌, take, Some, None, IsSome, ◌⊎◌, inl, inr, refl, sym, subst, arith}
 use borrow.Author.Tests.{ltb-true}
 use Rattle.std.specs.Prelude.{filter, fold}
-use Rattle.std.proofs.Math.Nat.{le-max_left, le-max_right}
 use Rattle.std.specs.FinMap.{FinMap, get, insert, remove}
 use Rattle.sfs_tree.specs.declared.history.Entry.{Entry}
 use Rattle.sfs_tree.specs.Order.{key_cmp}
@@ -18,6 +17,7 @@ use Rattle.flush_core.specs.Closure.{every_entry, Flush, HasNode, HasNaming, Clo
 use Rattle.flush_core.specs.Covers.{IsPlacedByCut, IsCovered, ArePlaced}
 use Rattle.flush_core.specs.Laws.{FsyncsCover}
 use Rattle.flush_core.proofs.Basics.{below_or}
+use Rattle.flush_core.proofs.Raises.{cuts_rise, members_rise}
 use Rattle.flush_core.proofs.Along.{node_first, tree_at, tree_at-after, run_of, change_in}
 use Rattle.flush_core.proofs.Lives.{no_node_yet}
 use Rattle.flush_core.proofs.Commit.{IsBornAt, birth_at}
@@ -56,26 +56,17 @@ from_rows w (c ∷ cs) d n rows x row =
     ] refl row
 
 module _ (first : TreeState) (history : List Entry) (cut : Cut) (inodes : ℕ → Bool) (flush : Flush) (raised : Cut) (raise : IsRaised first history every_entry cut inodes flush raised) where
-  pub low : (d : ℕ) → cut_of cut d ≤ cut_of raised d
-  low d = elim (raise.other d) [
-    | inl member ↦ let e = raise.member d member in let le = le-max_left (cut_of cut d) flush.stamp in omega arith
-    | inr e ↦ omega arith
-  ]
-
   pub up : (node : ℕ) → IsPlacedByCut first history cut node → IsPlacedByCut first history raised node
-  up node p = record { change = p.change; is_change = p.is_change; places = p.places; child = p.child; within = let lt = p.within in let le = low p.change.directory in omega arith }
+  up node p = record { change = p.change; is_change = p.is_change; places = p.places; child = p.child; within = let lt = p.within in let le = cuts_rise first history every_entry cut inodes flush raised raise p.change.directory in omega arith }
 
   -- what was covered still is
   pub raised_covers : (other : Flush) → IsCovered first history cut other → IsCovered first history raised other
   raised_covers other c = record {
-    stamp = let before = c.stamp in let le = low other.node in omega arith;
+    stamp = let before = c.stamp in let le = cuts_rise first history every_entry cut inodes flush raised raise other.node in omega arith;
     placed = λ birth one same. up other.node (c.placed birth one same);
   }
 
 module _ (first : TreeState) (history : List Entry) (is : IsSoundTree first) (legal : IsLegal first history) (cut : Cut) (inodes : ℕ → Bool) (flush : Flush) (raised : Cut) (placed : ArePlaced first history cut inodes) (there : HasNode first history flush) (raise : IsRaised first history every_entry cut inodes flush raised) where
-  member_low : (d : ℕ) → Closure first history every_entry cut inodes flush d → flush.stamp ≤ cut_of raised d
-  member_low d member = let e = raise.member d member in let le = le-max_right (cut_of cut d) flush.stamp in omega arith
-
   -- the making of a node is a change that places it
   by_birth : (birth : Birth) → IsOneOf (births_of first history) birth → birth.stamp < cut_of raised birth.directory → IsPlacedByCut first history raised birth.node
   by_birth birth one lt = record {
@@ -99,9 +90,9 @@ module _ (first : TreeState) (history : List Entry) (is : IsSoundTree first) (le
           is_change = change_in first history birth.stamp (added birth.stamp birth.directory born.name birth.node None) legal (subst (λ (f : Effect). IsOneOf (changes_by (tree_at first history birth.stamp) birth.stamp f) (added birth.stamp birth.directory born.name birth.node None)) (sym born.adds) (inl refl));
           counted = refl;
           child = refl;
-          unflushed = let lower = low first history cut inodes flush raised raise birth.directory in omega arith;
+          unflushed = let lower = cuts_rise first history every_entry cut inodes flush raised raise birth.directory in omega arith;
         } in
-        let most = member_low birth.directory (birth_place birth (subst (λ (y : ℕ). Closure first history every_entry cut inodes flush y) (sym same) itself) one out naming) in
+        let most = members_rise first history every_entry cut inodes flush raised raise birth.directory (birth_place birth (subst (λ (y : ℕ). Closure first history every_entry cut inodes flush y) (sym same) itself) one out naming) in
         let earlier = made_before in
         by_birth birth one (omega arith)
   ]
@@ -143,7 +134,7 @@ module _ (first : TreeState) (history : List Entry) (is : IsSoundTree first) (le
 
   own_covered : IsCovered first history raised flush
   own_covered = record {
-    stamp = member_low flush.node itself;
+    stamp = members_rise first history every_entry cut inodes flush raised raise flush.node itself;
     placed = λ birth one same. subst (λ (y : ℕ). IsPlacedByCut first history raised y) same (own_placed birth one same);
   }
 

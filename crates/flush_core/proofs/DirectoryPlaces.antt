@@ -131,8 +131,12 @@ module _ (r : Run) (cut : ℕ → ℕ) (s : Seen r cut) (keeps : Keeps r cut) (l
     | inr le ↦ inr (sym (behind r cut s t e k le) ∙ row, le)
   ]
 
+  -- no row at the cut that names it stays as the stamp passes
+  abbrev NoneStays : ℕ → Type 0
+  NoneStays t = (e : ℕ) (k : List ℕ) → get (s.rows t) (e, k) ≡ Some x → cut e ≤ t → ⊥
+
   -- it stands in a directory where it is placed below the cut
-  now_there : (t d : ℕ) (n : List ℕ) → t < cut d → row_of (r.tree (suc t)) d n ≡ Some x → ((e : ℕ) (k : List ℕ) → get (s.rows t) (e, k) ≡ Some x → cut e ≤ t → ⊥) → AreFlushedTill (suc t) → IsNow (suc t)
+  now_there : (t d : ℕ) (n : List ℕ) → t < cut d → row_of (r.tree (suc t)) d n ≡ Some x → NoneStays t → AreFlushedTill (suc t) → IsNow (suc t)
   now_there t d n lt row none flushed = record {
     directory = d;
     name = n;
@@ -145,7 +149,7 @@ module _ (r : Run) (cut : ℕ → ℕ) (s : Seen r cut) (keeps : Keeps r cut) (l
     flushed = flushed;
   }
 
-  gone_there : (t : ℕ) → (IsNamed (r.tree (suc t)).rows x → ⊥) → ((e : ℕ) (k : List ℕ) → get (s.rows t) (e, k) ≡ Some x → cut e ≤ t → ⊥) → AreFlushedTill (suc t) → IsGone (suc t)
+  gone_there : (t : ℕ) → (IsNamed (r.tree (suc t)).rows x → ⊥) → NoneStays t → AreFlushedTill (suc t) → IsGone (suc t)
   gone_there t unnamed none flushed = record {
     unnamed = unnamed;
     unseen = λ named. elim (came_or_was t named.directory named.name named.row) [
@@ -167,7 +171,7 @@ module _ (r : Run) (cut : ℕ → ℕ) (s : Seen r cut) (keeps : Keeps r cut) (l
     ])))
   ]
     where
-      unseen : (e : ℕ) (k : List ℕ) → get (s.rows t) (e, k) ≡ Some x → cut e ≤ t → ⊥
+      unseen : NoneStays t
       unseen e k row le = g.unseen (record { directory = e; name = k; row = row })
 
       lt : (born : IsBorn (r.tree t) (r.core t) (r.sound t) (r.effect t) (r.makes t) x) → t < cut born.directory
@@ -197,7 +201,7 @@ module _ (r : Run) (cut : ℕ → ℕ) (s : Seen r cut) (keeps : Keeps r cut) (l
           kind : is_directory (r.tree t) x ≡ true
           kind = kind_at t p.directory p.name p.row
 
-          other : (e : ℕ) (k : List ℕ) → get (s.rows t) (e, k) ≡ Some x → cut e ≤ t → ⊥
+          other : NoneStays t
           other e k row le = no_less (subst (λ (d : ℕ). cut d ≤ t) (p.only e k row) le)
             where
               no_less : cut p.directory ≤ t → ⊥

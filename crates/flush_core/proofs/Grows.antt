@@ -13,13 +13,13 @@ use Rattle.flush_core.specs.Rules.{IsChange, IsLastPlacing, IsClosed}
 use Rattle.flush_core.specs.Closure.{every_entry, Flush, AreInodesAfter, AreRaised, none, one_more, IsNamedIn, IsReached, KeepsCut, AreBorn}
 use Rattle.flush_core.proofs.Basics.{below_or}
 use Rattle.flush_core.proofs.Runs.{Run}
-use Rattle.flush_core.proofs.Along.{node_first, tree_at, tree_at-after, run_of, nodes_at}
+use Rattle.flush_core.proofs.Along.{made_at, node_first, nodes_at, run_of, tree_at, tree_at-after}
 use Rattle.flush_core.proofs.Lives.{born_before, ended_before, no_node_yet}
 use Rattle.flush_core.proofs.Commit.{IsBornAt, birth_at, fsyncs_keep}
 use Rattle.flush_core.proofs.Covered.{from_rows}
 use Rattle.flush_core.proofs.Children.{child_node}
 use Rattle.flush_core.proofs.Prefix.{change_whole, change_prefix, birth_prefix, kind_whole, counted_rows-take}
-use Rattle.flush_core.proofs.Prefixes.{made_at, move_prefix, same_tree}
+use Rattle.flush_core.proofs.Prefixes.{move_prefix, same_tree}
 use Rattle.flush_core.proofs.Views.{below}
 use Rattle.flush_core.proofs.Recount.{counted_rows-low}
 use Rattle.flush_core.proofs.NamedKept.{named_after}
@@ -131,5 +131,5 @@ flushes_keep first history is legal (one_more flushes flush before raised inodes
     record {
       kept = fsyncs_keep first history before raised inodes_before after flush is legal now.kept raise sets;
       nodes = nodes_raised first history is legal before inodes_before flush raised after sets now.nodes;
-      named = named_after first history every_entry flush before raised inodes_before is legal (λ t lt. refl) raise after sets refl now.named;
+      named = named_after first history every_entry flush before raised inodes_before is legal (λ t lt. refl) raise after sets (λ node row. row) now.named;
     }

@@ -17,21 +17,18 @@ use Rattle.flush_core.specs.LawsInodes.{OthersStay, StaysAsItWas, IsNeverNamed, 
 use Rattle.flush_core.proofs.Basics.{below_or, both, no_less, not_below}
 use Rattle.flush_core.proofs.Own.{skip}
 use Rattle.flush_core.proofs.Runs.{Run}
-use Rattle.flush_core.proofs.Along.{effect_at, run_of, birth_in, nodes_at}
+use Rattle.flush_core.proofs.Raises.{cuts_rise}
+use Rattle.flush_core.proofs.Along.{birth_in, effect_at, made_at, nodes_at, run_of}
 use Rattle.flush_core.proofs.Closed.{keeps_of, seen_of, seen_end, closed_cuts_are_sound}
 use Rattle.flush_core.proofs.Children.{links_named}
-use Rattle.flush_core.proofs.Prefixes.{made_at}
 use Rattle.flush_core.proofs.Prefix.{stamp_below}
 use Rattle.flush_core.proofs.MemberKinds.{root_directory}
 use Rattle.flush_core.proofs.Lists.{nothing_within, lists_keep}
-use Rattle.flush_core.proofs.NamedKept.{up, is_between, between_concerned, between_change, row_raised, row_before}
+use Rattle.flush_core.proofs.NamedKept.{is_between, between_concerned, between_change, row_raised, row_before}
 use Rattle.flush_core.proofs.DirectoryPlaces.{place_at, now, left, gone}
 use Rattle.flush_core.proofs.Commit.{fsyncs_keep}
 
 module _ (first : TreeState) (history : List Entry) (cut raised : Cut) (inodes after : ℕ → Bool) (flush : Flush) (is : IsSoundTree first) (legal : IsLegal first history) (raise : IsRaised first history every_entry cut inodes flush raised) (sets : AreInodesAfter first history every_entry cut inodes flush raised after) where
-  abbrev higher : (d : ℕ) → cut_of cut d ≤ cut_of raised d
-  higher = up first history every_entry flush cut raised inodes is legal (λ t lt. refl) raise
-
   abbrev IsConcernedHere : ℕ → Type 0
   IsConcernedHere node = IsConcerned first history every_entry cut inodes flush node
 
@@ -43,7 +40,7 @@ module _ (first : TreeState) (history : List Entry) (cut raised : Cut) (inodes a
   ]
 
   still_within : (change : RowChange) → IsWithin cut change → IsWithin raised change
-  still_within change within = let le = higher change.directory in omega arith
+  still_within change within = let le = cuts_rise first history every_entry cut inodes flush raised raise change.directory in omega arith
 
   module _ (node : ℕ) (none : IsConcernedHere node → ⊥) where
     same_inode : after node ≡ inodes node

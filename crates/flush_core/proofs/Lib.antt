@@ -1,4 +1,5 @@
 pub mod Basics
+pub mod Raises
 mod CutRows
 pub mod Nodes
 pub mod Own

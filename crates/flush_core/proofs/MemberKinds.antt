@@ -15,10 +15,9 @@ use Rattle.flush_core.specs.Closure.{Counts, Flush, Closure, IsConcerned}
 use Rattle.flush_core.specs.LawsInodes.{MembersAreDirectories, FilesFlushThemselves}
 use Rattle.flush_core.proofs.Basics.{both}
 use Rattle.flush_core.proofs.Runs.{Run, Made}
-use Rattle.flush_core.proofs.Along.{tree_at, effect_at, tree_at-first, tree_at-after, run_of, sound_at, nodes_at}
+use Rattle.flush_core.proofs.Along.{effect_at, made_at, nodes_at, run_of, sound_at, tree_at, tree_at-after, tree_at-first}
 use Rattle.flush_core.proofs.Lives.{live_at, ended_at}
 use Rattle.flush_core.proofs.Commit.{IsBornAt, birth_at}
-use Rattle.flush_core.proofs.Prefixes.{made_at}
 use Rattle.flush_core.proofs.Members.{other_changes, above_directory}
 
 module _ (first : TreeState) (history : List Entry) (is : IsSoundTree first) (legal : IsLegal first history) where

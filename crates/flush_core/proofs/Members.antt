@@ -16,11 +16,11 @@ use Rattle.flush_core.specs.Closure.{Counts, Flush, HasLiveNode, Closure, IsConc
 use Rattle.flush_core.proofs.Basics.{below_or, none_some}
 use Rattle.flush_core.proofs.Own.{goes_in, comes_in}
 use Rattle.flush_core.proofs.Runs.{Run, Made}
-use Rattle.flush_core.proofs.Along.{tree_at, effect_at, tree_at-after, run_of, sound_at}
+use Rattle.flush_core.proofs.Along.{effect_at, made_at, run_of, sound_at, tree_at, tree_at-after}
 use Rattle.flush_core.proofs.Lives.{live_at, later, no_node_yet}
 use Rattle.flush_core.proofs.Commit.{IsBornAt, birth_at}
 use Rattle.flush_core.proofs.Children.{child_node}
-use Rattle.flush_core.proofs.Prefixes.{made_at, live_node}
+use Rattle.flush_core.proofs.Prefixes.{live_node}
 
 -- the other one of two directories is the second
 other_is : (a b o : ℕ) → other_side a b ≡ Some o → b ≡ o

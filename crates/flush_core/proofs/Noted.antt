@@ -10,25 +10,19 @@ use Rattle.flush_core.specs.declared.past.OwnChange.{OwnChange}
 use Rattle.flush_core.specs.Rules.{IsOneOf}
 use Rattle.flush_core.specs.Past.{row_change_of}
 use Rattle.flush_core.specs.Plan.{MovesDirectory, IsNoted, AreNoted, IsAboveNew}
-use Rattle.flush_core.proofs.Basics.{in_either}
+use Rattle.flush_core.proofs.Basics.{in_either, no_true, none_some}
 
 -- none are noted of a change that moves no directory
 pub noted_none : (tree : TreeState) (change : OwnChange) → (MovesDirectory tree (row_change_of change) → ⊥) → change.above ≡ None → IsNoted tree change
 noted_none tree change still none = record {
-  moves = λ v e. absurd (differ (sym none ∙ e));
-  stand = λ v e. absurd (differ (sym none ∙ e));
+  moves = λ v e. absurd (none_some (sym none ∙ e));
+  stand = λ v e. absurd (none_some (sym none ∙ e));
   all = λ moves above way. absurd (still moves);
 }
-  where
-    differ : {v : Vec ℕ Global} → None ≡ Some v → ⊥
-    differ e = cc
 
 -- a row that goes moves nothing
 pub noted_taken : (tree : TreeState) (change : OwnChange) (stamp directory : ℕ) (name : List ℕ) (child : ℕ) (other : Option ℕ) (ends : Bool) → row_change_of change ≡ removed stamp directory name child other ends → change.above ≡ None → IsNoted tree change
-noted_taken tree change stamp directory name child other ends row none = noted_none tree change (λ moves. differ (sym (ap (λ (c : RowChange). c.places) row) ∙ moves.places)) none
-  where
-    differ : false ≡ true → ⊥
-    differ e = cc
+noted_taken tree change stamp directory name child other ends row none = noted_none tree change (λ moves. no_true (sym (ap (λ (c : RowChange). c.places) row) ∙ moves.places)) none
 
 -- a row that comes by a rename
 pub noted_put : (tree : TreeState) (change : OwnChange) (stamp directory to_directory : ℕ) (name : List ℕ) (child : ℕ) → IsSound tree → row_change_of change ≡ added stamp to_directory name child (other_side to_directory directory)

@@ -10,8 +10,7 @@ use Rattle.flush_core.specs.Cut.{Cut, cut_of}
 use Rattle.flush_core.specs.Closure.{every_entry, Flush, IsConcerned, IsRaised, IsDead, AreInodesAfter}
 use Rattle.flush_core.specs.LawsInodes.{IsNeverNamed, FilesKeepInodes}
 use Rattle.flush_core.proofs.Basics.{both}
-use Rattle.flush_core.proofs.Along.{tree_at, tree_at-after, change_in}
-use Rattle.flush_core.proofs.Prefixes.{made_at}
+use Rattle.flush_core.proofs.Along.{change_in, made_at, tree_at, tree_at-after}
 use Rattle.flush_core.proofs.Recount.{named_or_open}
 use Rattle.flush_core.proofs.Lists.{first_row}
 use Rattle.flush_core.proofs.WholeHistory.{none_above}

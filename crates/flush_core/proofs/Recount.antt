@@ -17,13 +17,12 @@ use Rattle.flush_core.proofs.Basics.{and_false, below_or, both, filter_same, no_
 use Rattle.flush_core.proofs.Own.{stamp_of}
 use Rattle.flush_core.proofs.Runs.{Run, Seen}
 use Rattle.flush_core.proofs.Seen.{behind}
-use Rattle.flush_core.proofs.Along.{tree_at, effect_at, run_of, change_in}
+use Rattle.flush_core.proofs.Along.{change_in, effect_at, made_at, run_of, tree_at}
 use Rattle.flush_core.proofs.Closed.{seen_of, seen_past}
 use Rattle.flush_core.proofs.Lives.{later}
 use Rattle.flush_core.proofs.Views.{IsHeld, Recounts}
 use Rattle.flush_core.proofs.RunFacts.{raised_low}
 use Rattle.flush_core.proofs.Children.{IsOpen, naming_since, flushed_or_open, links_named}
-use Rattle.flush_core.proofs.Prefixes.{made_at}
 use Rattle.flush_core.proofs.Members.{member_then, concerned_then}
 use Rattle.flush_core.proofs.Alike.{Carries, are_alike}
 
@@ -50,6 +49,10 @@ counted_within k counts cut x all low =
 -- so the rows at it are those at the cut
 pub counted_rows-low : (first : TreeState) (history : List Entry) (k : ℕ) (counts : Counts) (cut : Cut) → CountBelow k counts → ((node : ℕ) → cut_of cut node ≤ k) → counted_rows_at_cut first history counts cut ≡ rows_at_cut first history cut
 counted_rows-low first history k counts cut all low = ap (fold with_own first.rows) (filter_same (is_counted_within counts cut) (is_within cut) (changes_of first history) (λ x one. counted_within k counts cut x all low))
+
+-- and what a row at the cut names is named by the entries that count
+pub counted_named : (first : TreeState) (history : List Entry) (k : ℕ) (counts : Counts) (cut : Cut) → CountBelow k counts → ((node : ℕ) → cut_of cut node ≤ k) → (node : ℕ) → IsNamedIn (rows_at_cut first history cut) node → IsNamedIn (counted_rows_at_cut first history counts cut) node
+counted_named first history k counts cut all low node named = subst (λ (rows : FinMap key_cmp ℕ). IsNamedIn rows node) (sym (counted_rows-low first history k counts cut all low)) named
 
 module _ (first : TreeState) (history : List Entry) (is : IsSoundTree first) (legal : IsLegal first history) (k : ℕ) where
   abbrev run : Run
@@ -103,18 +106,19 @@ module _ (first : TreeState) (history : List Entry) (is : IsSoundTree first) (le
     at_k node some = later run flush.stamp k node stamp some
 
     module _ (counts other : Counts) (all : CountBelow k counts) (other_all : CountBelow k other) where
-      carries : Carries first history counts history other cut inodes flush
+      carries : Carries first flush (record { history = history; counts = counts; cut = cut; inodes = inodes }) (record { history = history; counts = other; cut = cut; inodes = inodes })
       carries = record {
-        span = λ x span. record { is_change = span.is_change; counted = other_all x.stamp (let lt = span.below in omega arith); from = span.from; below = span.below };
+        span = λ x own there span. record { is_change = span.is_change; counted = other_all x.stamp (let lt = span.below in omega arith); from = span.from; below = span.below };
         moves = λ x span move. move;
         stands = λ x above span way. way;
-        births = λ birth own one none naming. (
-          one,
-          elim (renamed counts other cut birth.node other_all low (at_k birth.node (member_then first history is legal counts cut inodes flush live own)) naming) [
-            | inl named ↦ absurd (both (held.named birth.node named) none)
+        births = λ birth own there l. record {
+          one = l.one;
+          lacks = l.lacks;
+          naming = elim (renamed counts other cut birth.node other_all low (at_k birth.node (member_then first history is legal counts cut inodes flush live own)) l.naming) [
+            | inl named ↦ absurd (both (held.named birth.node named) l.lacks)
             | inr found ↦ found
-          ],
-        );
+          ];
+        };
       }
 
       module _ (raised : Cut) (raised_at_most : (node : ℕ) → cut_of raised node ≤ k) where
@@ -124,14 +128,11 @@ module _ (first : TreeState) (history : List Entry) (is : IsSoundTree first) (le
         named_other : (node : ℕ) → IsNamedIn (counted_rows_at_cut first history counts raised) node → IsNamedIn (counted_rows_at_cut first history other raised) node
         named_other node named = subst (λ (rows : FinMap key_cmp ℕ). IsNamedIn rows node) same_rows named
 
-        named_counted : (node : ℕ) → IsNamedIn (rows_at_cut first history raised) node → IsNamedIn (counted_rows_at_cut first history counts raised) node
-        named_counted node named = subst (λ (rows : FinMap key_cmp ℕ). IsNamedIn rows node) (sym (counted_rows-low first history k counts raised all raised_at_most)) named
-
         reached_other : (node : ℕ) → IsSome (get (tree_at first history k).nodes node) → IsReached first history counts flush raised node → IsReached first history other flush raised node
         reached_other node some reached = elim reached [
           | inl named ↦ inl (named_other node named)
           | inr file ↦ elim (renamed counts other raised node other_all raised_at_most some file.2) [
-            | inl named ↦ inl (named_other node (named_counted node named))
+            | inl named ↦ inl (named_other node (counted_named first history k counts raised all raised_at_most node named))
             | inr naming ↦ inr (file.0, file.1, naming)
           ]
         ]
@@ -143,7 +144,7 @@ module _ (first : TreeState) (history : List Entry) (is : IsSoundTree first) (le
           flushed = λ x one counted child. elim (below_or x.stamp k) [
             | inl lt ↦ dead.flushed x one (other_all x.stamp lt) child
             | inr le ↦ absurd (elim (late_naming raised raised_at_most x one le (subst (λ (y : ℕ). IsSome (get (tree_at first history k).nodes y)) (sym child) some)) [
-              | inl named ↦ dead.unnamed (named_other node (named_counted node (subst (λ (y : ℕ). IsNamedIn (rows_at_cut first history raised) y) child named)))
+              | inl named ↦ dead.unnamed (named_other node (counted_named first history k counts raised all raised_at_most node (subst (λ (y : ℕ). IsNamedIn (rows_at_cut first history raised) y) child named)))
               | inr o ↦
                   let naming = open_naming other raised x.child other_all o in
                   let within = dead.flushed naming.change naming.is_change naming.counted (naming.child ∙ child) in

@@ -1,5 +1,5 @@
 -- What holds of each state of a run of the machine.
-use Rattle.std.proofs.Common.{◌≡◌, ◌≢◌, ℕ, zero, suc, ◌<◌, ◌≤◌, Bool, true, false, cond, not, List, [], ◌∷◌, ◌++◌, length, take, map, Option, Some, None, inl, inr, refl, sym, ap, subst, ◌∙◌, nat_eq, arith, length-append}
+use Rattle.std.proofs.Common.{◌≡◌, ◌≢◌, ℕ, zero, suc, ◌<◌, ◌≤◌, Bool, true, false, cond, not, List, [], ◌∷◌, ◌++◌, length, take, map, Option, Some, inl, inr, refl, sym, ap, subst, ◌∙◌, nat_eq, arith, length-append}
 use borrow.Author.Tests.{eqb-true}
 use Rattle.std.specs.Prelude.{filter, slice_get, max}
 use Rattle.std.specs.List.{find}
@@ -20,7 +20,7 @@ use Rattle.flush_core.specs.Rules.{IsOneOf}
 use Rattle.flush_core.specs.Closure.{Counts, Flush, IsRaised, AreRaised, none, one_more}
 use Rattle.flush_core.specs.Machine.{Flight, MachineState, start_of, tree_now, flight_of, opened_for, kept_of, IsRaisedBy, BeginsFlight, Accepts}
 use Rattle.flush_core.specs.Runs.{IsRun, AreApart}
-use Rattle.flush_core.proofs.Basics.{below_or, in_either, in_left, in_right, is_next, none_below}
+use Rattle.flush_core.proofs.Basics.{below_or, in_either, in_left, in_right, is_next, none_below, none_some}
 use Rattle.flush_core.proofs.Listed.{from_map}
 use Rattle.flush_core.proofs.Prefix.{take_take}
 
@@ -42,9 +42,6 @@ pub record IsPrefix (short long : List Entry) : Type 0 where
 -- the one that is found is one of the list, and passes the test
 pub found_in : {X : Type 0} (w : X → Bool) (xs : List X) (x : X) → find w xs ≡ Some x → IsOneOf xs x × (w x ≡ true)
 found_in w [] x found = absurd (none_some found)
-  where
-    none_some : None ≡ Some x → ⊥
-    none_some e = cc
 found_in {X} w (y ∷ xs) x found =
     elim (w y) as (λ b. w y ≡ b → cond b (Some y) (find w xs) ≡ Some x → IsOneOf (y ∷ xs) x × (w x ≡ true)) [
       | true ↦ λ t f. let same = some_is f in (inl same, subst (λ (z : X). w z ≡ true) same t)
