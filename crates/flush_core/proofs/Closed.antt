@@ -14,7 +14,7 @@ use Rattle.sfs_tree.specs.Sound.{Above, IsSound}
 use Rattle.sfs_tree.specs.History.{tree_after, IsLegal}
 use Rattle.sfs_tree.specs.Laws.{IsSoundTree}
 use Rattle.sfs_tree.proofs.KeepsSound.{with_rows}
-use Rattle.sfs_tree.proofs.KeepsNodes.{IsSound-nodes, directory_node}
+use Rattle.sfs_tree.proofs.KeepsNodes.{IsSound-nodes}
 use Rattle.flush_core.specs.Cut.{Cut, cut_of, is_within, with_own, rows_at_cut, nodes_at_cut, tree_at_cut}
 use Rattle.flush_core.specs.Rules.{IsOneOf, IsChange, births_by, IsLastPlacing, IsClosed}
 use Rattle.flush_core.specs.Laws.{ClosedCutsAreSound}
@@ -93,9 +93,7 @@ module _ (first : TreeState) (history : List Entry) (is : IsSoundTree first) (le
         let found = last_change node t s last in
         subst (λ (k : ℕ). k < cut_of cut holder) found.2 (closed.ancestors x above node holder name found.0 (record {
           is_change = in_history t x one;
-          places = places;
-          other = other;
-          kind = (nodes_at first history t is legal x.child (directory_node (tree_at first history t) x.child kind)).1 ∙ kind;
+          moves = record { places = places; other = other; kind = subst (λ (w : TreeState). is_directory w x.child ≡ true) tree kind };
         }) (subst (λ (k : ℕ). k < cut_of cut x.directory) (sym e) lt) (subst (λ (w : TreeState). Above w x.directory above) tree way) among (subst (λ (w : TreeState). row_of w holder name ≡ Some node) tree row) (subst (λ (k : ℕ). IsLastPlacing first history node k found.0) (sym e) found.1));
   }
     where

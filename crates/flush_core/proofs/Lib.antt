@@ -14,7 +14,7 @@ pub mod Lives
 pub mod Commit
 pub mod Stamps
 pub mod Growing
-pub mod Noted
+pub mod KeptAbove
 pub mod Planned
 pub mod Views
 pub mod Prefix

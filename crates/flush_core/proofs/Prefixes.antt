@@ -12,7 +12,7 @@ use Rattle.sfs_tree.specs.Laws.{IsSoundTree}
 use Rattle.sfs_tree.proofs.RowFacts.{alive_named}
 use Rattle.sfs_tree.proofs.KeepsNodes.{directory_node}
 use Rattle.flush_core.specs.Cut.{Cut, counted_rows_at_cut}
-use Rattle.flush_core.specs.Rules.{IsChange, IsOneOf, Birth, births_of, IsMove}
+use Rattle.flush_core.specs.Rules.{IsChange, IsOneOf, Birth, births_of, MovesDirectory, IsMove}
 use Rattle.flush_core.specs.Closure.{every_entry, Flush, HasLiveNode, InSpan, HasNaming, IsNamedIn, IsReached, IsDead}
 use Rattle.flush_core.proofs.Basics.{below_or}
 use Rattle.flush_core.proofs.Runs.{Run}
@@ -89,27 +89,20 @@ module _ (first : TreeState) (history : List Entry) (is : IsSoundTree first) (le
       unflushed = naming.unflushed;
     }
 
-    child_kind : (x : RowChange) → IsChange first history x → x.stamp < n → is_directory (tree_after first history) x.child ≡ is_directory (tree_after first prefix) x.child
-    child_kind x one lt = kind_whole first history n legal x.child is (child_node run x.stamp x (made_at first history is legal x one) n lt)
+    pub same_tree : (s : ℕ) → s < n → tree_after first (take s prefix) ≡ tree_after first (take s history)
+    same_tree s lt = ap (tree_after first) (take_take history s n (omega arith))
 
     pub move_whole : (x : RowChange) → IsMove first prefix x → IsMove first history x
     move_whole x move = record {
       is_change = change_whole first history n legal x move.is_change;
-      places = move.places;
-      other = move.other;
-      kind = child_kind x (change_whole first history n legal x move.is_change) (change_below first history n legal x move.is_change) ∙ move.kind;
+      moves = subst (λ (tree : TreeState). MovesDirectory tree x) (same_tree x.stamp (change_below first history n legal x move.is_change)) move.moves;
     }
 
     pub move_prefix : (x : RowChange) → x.stamp < n → IsMove first history x → IsMove first prefix x
     move_prefix x lt move = record {
       is_change = change_prefix first history n legal x move.is_change lt;
-      places = move.places;
-      other = move.other;
-      kind = sym (child_kind x move.is_change lt) ∙ move.kind;
+      moves = subst (λ (tree : TreeState). MovesDirectory tree x) (sym (same_tree x.stamp lt)) move.moves;
     }
-
-    pub same_tree : (s : ℕ) → s < n → tree_after first (take s prefix) ≡ tree_after first (take s history)
-    same_tree s lt = ap (tree_after first) (take_take history s n (omega arith))
 
     module _ (flush : Flush) (cut : Cut) (inodes : ℕ → Bool) (low : flush.stamp ≤ n) (live : HasLiveNode first history flush) where
       abbrev short : CommitView
