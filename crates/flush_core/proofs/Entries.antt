@@ -1,5 +1,5 @@
 -- The entries of a legal history stand at their stamps, and their calls are a run.
-use Rattle.std.proofs.Common.{◌≡◌, ℕ, zero, suc, ◌+◌, List, [], ◌∷◌, length, take, map, Some, inl, inr, refl, sym, ap, subst, ◌∙◌}
+use Rattle.std.proofs.Common.{◌≡◌, ℕ, zero, suc, ◌+◌, List, [], ◌∷◌, length, take, map, Some, refl, sym, ap, subst, ◌∙◌}
 use Rattle.std.specs.Prelude.{slice_get}
 use Rattle.sfs_tree.specs.declared.history.Entry.{Entry}
 use Rattle.sfs_tree.specs.Tree.{TreeState}
@@ -8,17 +8,11 @@ use Rattle.flush_core.specs.declared.event.Event.{Event}
 use Rattle.flush_core.specs.declared.event.Event.TheVariants as event
 use Rattle.flush_core.specs.declared.event.Refused.{Refused}
 use Rattle.flush_core.specs.declared.event.Refused.TheVariants as refused
-use Rattle.flush_core.specs.Rules.{IsOneOf}
 use Rattle.flush_core.specs.Machine.{start_of, Refuses, Accepts}
 use Rattle.flush_core.specs.LawsGrowth.{EntriesMayCome, StampsAreOnce}
 use Rattle.flush_core.specs.LawsRuns.{told, CallsAreARun}
 use Rattle.flush_core.proofs.Basics.{no_true, none_some, plus_zero, some_is, suc_plus, zero_plus}
-use Rattle.flush_core.proofs.Durables.{take_next}
-
--- one of a list stands at a place
-pub place_of_one : {X : Type 0} (xs : List X) (x : X) → IsOneOf xs x → (place : ℕ) × (slice_get xs place ≡ Some x)
-place_of_one [] x one = absurd one
-place_of_one (y ∷ xs) x one = elim one [ inl same ↦ (0, ap Some same) | inr rest ↦ let there = place_of_one xs x rest in (suc there.0, there.1) ]
+use Rattle.flush_core.proofs.Durables.{place_of_one, take_next}
 
 -- what stands at a place of a legal history may come there
 may_from : (first : TreeState) (stamp : ℕ) (history : List Entry) (place : ℕ) (entry : Entry) → IsLegalFrom first stamp history → slice_get history place ≡ Some entry → MayCome (tree_after first (take place history)) (stamp + place) entry

@@ -66,7 +66,7 @@ first_kept_well first history is legal = record {
 pub lists_keep : ListsKeep
 lists_keep first history flushes cut inodes is legal flushed =
     let all = flushes_keep first history is legal flushed (first_kept_well first history is legal) in
-    record { kept = all.kept; sound = closed_cuts_are_sound first history cut is legal all.kept.closed; named = all.named }
+    record { kept = all.kept; sound = closed_cuts_are_sound first history cut is legal all.kept.closed; named = all.named; nodes = all.nodes }
 
 first_placed : (first : TreeState) (history : List Entry) (inodes : ℕ → Bool) → IsSoundTree first → IsLegal first history → ((node : ℕ) → inodes node ≡ is_some (get first.nodes node)) → ArePlaced first history empty inodes
 first_placed first history inodes is legal same birth one has =

@@ -19,7 +19,7 @@ use Rattle.flush_core.proofs.Basics.{both, no_less, no_true, none_some, not_belo
 pub all_are_tied : AllAreTied
 all_are_tied first events states commit flush = record {
   tied = record { own = λ other before shares. refl; theirs = λ other earlier ties before shares. refl };
-  counted = record { own = λ stamp lt. refl; theirs = λ other own stamp ties found lt. refl };
+  counted = record { own = λ stamp lt. refl; theirs = λ other own stamp ties before found lt. refl };
 }
 
 pub empty_runs : EmptyRuns

@@ -12,15 +12,17 @@ use Rattle.flush_core.specs.Cut.{Cut}
 use Rattle.flush_core.specs.Rules.{IsOneOf}
 use Rattle.flush_core.specs.Closure.{every_entry, Flush, HasLiveNode, AreRaised, none, one_more, AreFlushed}
 use Rattle.flush_core.specs.Machine.{Flight, MachineState}
-use Rattle.flush_core.specs.Runs.{IsRun, IsBegun, AreAlive}
+use Rattle.flush_core.specs.Runs.{IsRun, IsBegun, AreAlive, durable_of}
 use Rattle.flush_core.specs.LawsRuns.{every_commit, RunsAreFlushed}
 use Rattle.flush_core.proofs.Basics.{both}
 use Rattle.flush_core.proofs.RunFacts.{IsPrefix, IsSteady, steady_at, event_there, prefix_later}
-use Rattle.flush_core.proofs.Held.{held_at, flights_live}
+use Rattle.flush_core.proofs.Held.{first_held, held_at, flights_live}
 use Rattle.flush_core.proofs.RaiseLists.{raised_once}
 use Rattle.flush_core.proofs.Flying.{CutStep, stays, raises, ends, cut_step, flight_before}
-use Rattle.flush_core.proofs.Durables.{so_far, none_more, one_durable}
-use Rattle.flush_core.proofs.WholeHistory.{raised_whole}
+use Rattle.flush_core.proofs.Stays.{live_begun}
+use Rattle.flush_core.proofs.Begun.{begun_low}
+use Rattle.flush_core.proofs.Durables.{so_far, each_chosen, none_more, one_durable}
+use Rattle.flush_core.proofs.WholeHistory.{raised_whole, none_above}
 
 module _ (first : TreeState) (events : List Event) (states : ℕ → MachineState) (is : IsSoundTree first) (run : IsRun first events states) (alive : AreAlive first events states) (last : ℕ) (within : last ≤ length events) where
   abbrev whole : List Entry
@@ -80,4 +82,20 @@ module _ (first : TreeState) (events : List Event) (states : ℕ → MachineStat
       (flushed_at so_many (omega arith) (goes_on_at so_many (omega arith)))
 
 pub runs_are_flushed : RunsAreFlushed
-runs_are_flushed first events states place is run alive le goes = flushed_at first events states is run alive place le place (omega arith) (λ ended. both ended goes)
+runs_are_flushed first events states place later is run alive le within goes =
+    let last = steady_at first events states run later within in
+    let prefix = prefix_later first events states run place later le within in
+    raised_whole first (states later).history (length (states place).history) is last.legal prefix.shorter
+    (subst (λ (h : List Entry). AreFlushed first h every_entry (durable_of (take place events) every_commit) (states place).cut (states place).inodes) (sym prefix.first_part) (flushed_at first events states is run alive place (omega arith) place (omega arith) (λ ended. both ended goes))) (record {
+      low = λ flush one. low_at flush one;
+      live = λ flush one.
+          let chosen = each_chosen first events states run place every_commit place flush one in
+          live_begun first events states is run alive later within chosen.begin chosen.commit flush (let less = chosen.before in omega arith) chosen.begun;
+    }) (none_above (length (states place).history)) (first_held first (states later).history is last.legal)
+  where
+    low_at : (flush : Flush) → IsOneOf (durable_of (take place events) every_commit) flush → flush.stamp ≤ length (states place).history
+    low_at flush one =
+        let chosen = each_chosen first events states run place every_commit place flush one in
+        let low = begun_low first events states run chosen.begin chosen.commit flush chosen.begun in
+        let shorter = (prefix_later first events states run chosen.begin place (let less = chosen.before in omega arith) (omega arith)).shorter in
+        omega arith

@@ -64,4 +64,4 @@ pub runs_keep : RunsKeep
 runs_keep first events states place flushes cut inodes is run le raised =
     let legal = (steady_at first events states run place le).legal in
     let all = flushes_keep first (states place).history is legal raised (kept_at first is events states run place le) in
-    record { kept = all.kept; sound = closed_cuts_are_sound first (states place).history cut is legal all.kept.closed; named = all.named }
+    record { kept = all.kept; sound = closed_cuts_are_sound first (states place).history cut is legal all.kept.closed; named = all.named; nodes = all.nodes }

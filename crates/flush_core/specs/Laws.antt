@@ -44,12 +44,13 @@ abbrev pub FsyncsKeep : Type 0
 FsyncsKeep = (first : TreeState) (history : List Entry) (cut raised : Cut) (inodes after : ℕ → Bool) (flush : Flush) → IsSoundTree first → IsLegal first history
     → KeepsCut first history cut inodes → IsRaised first history every_entry cut inodes flush raised → AreInodesAfter first history every_entry cut inodes flush raised after → KeepsCut first history raised after
 
--- The cut is closed, each directory with an inode has its making below its birth place's cut, the tree at the cut is sound, and
--- what a row at the cut names has an inode.
+-- The cut is closed, each directory with an inode has its making below its birth place's cut, the tree at the cut is sound, what
+-- a row at the cut names has an inode, and what has an inode is a node of the tree after the history.
 pub record KeepsAll (first : TreeState) (history : List Entry) (cut : Cut) (inodes : ℕ → Bool) : Type 0 where
   pub kept : KeepsCut first history cut inodes
   pub sound : IsSound (tree_at_cut first history cut)
   pub named : (node : ℕ) → IsNamedIn (rows_at_cut first history cut) node → inodes node ≡ true
+  pub nodes : (node : ℕ) → inodes node ≡ true → IsSome (get (tree_after first history).nodes node)
 
 -- So it is after any list of fsyncs.
 abbrev pub ListsKeep : Type 0
@@ -96,6 +97,6 @@ CommitsAreTied = (first : TreeState) (events : List Event) (states : ℕ → Mac
     → IsSoundTree first → IsRun first events states → AreAlive first events states
     → IsBegun events place commit flush
     → AreTied first events states commit tied
-    → CountEnough events flush tied counts
+    → CountEnough events commit flush tied counts
     → AreFlushed first (states (length events)).history counts (durable_of (take place events) tied) cut inodes
     → IsOneCommit first flush (view_of (states place)) (record { history = (states (length events)).history; counts = counts; cut = cut; inodes = inodes })

@@ -20,11 +20,11 @@ abbrev pub every_commit : ℕ → Bool
 every_commit _ = true
 
 -- Before a crash a run's state has the cut and the nodes with an inode that its durable commits have raised, in the order in which
--- they became durable.
+-- they became durable; they raise the same over the history of each later state.
 abbrev pub RunsAreFlushed : Type 0
-RunsAreFlushed = (first : TreeState) (events : List Event) (states : ℕ → MachineState) (place : ℕ) → IsSoundTree first → IsRun first events states → AreAlive first events states
-    → place ≤ length events → (states place).crashed ≡ false
-    → AreFlushed first (states place).history every_entry (durable_of (take place events) every_commit) (states place).cut (states place).inodes
+RunsAreFlushed = (first : TreeState) (events : List Event) (states : ℕ → MachineState) (place later : ℕ) → IsSoundTree first → IsRun first events states → AreAlive first events states
+    → place ≤ later → later ≤ length events → (states place).crashed ≡ false
+    → AreFlushed first (states later).history every_entry (durable_of (take place events) every_commit) (states place).cut (states place).inodes
 
 -- A commit that became durable before a place is covered by the cut of the state there.
 abbrev pub DurablesAreCovered : Type 0
@@ -98,7 +98,7 @@ CommitsAreAccepted = (state : MachineState) (commit : ℕ) (node : NodeId) (stam
 -- what the law of tied commits asks, where all commits are tied and all entries count
 pub record MayTieAll (first : TreeState) (events : List Event) (states : ℕ → MachineState) (commit : ℕ) (flush : Flush) : Type 0 where
   pub tied : AreTied first events states commit every_commit
-  pub counted : CountEnough events flush every_commit every_entry
+  pub counted : CountEnough events commit flush every_commit every_entry
 
 -- It holds of each commit of a run.
 abbrev pub AllAreTied : Type 0
