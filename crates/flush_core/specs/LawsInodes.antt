@@ -68,6 +68,14 @@ FilesSettle = (first : TreeState) (history : List Entry) (cut raised : Cut) (ino
     → is_directory (tree_after first history) flush.node ≡ false
     → (after flush.node ≡ true) ⊎ IsDead first history every_entry raised flush.node
 
+-- Behind a list of fsyncs one of a live file that has an inode leaves every node with its inode, or without.
+abbrev pub FilesKeepInodes : Type 0
+FilesKeepInodes = (first : TreeState) (history : List Entry) (flushes : List Flush) (cut raised : Cut) (inodes after : ℕ → Bool) (flush : Flush) (node : ℕ) → IsSoundTree first → IsLegal first history
+    → AreFlushed first history every_entry flushes cut inodes
+    → IsRaised first history every_entry cut inodes flush raised → AreInodesAfter first history every_entry cut inodes flush raised after
+    → HasLiveNode first history flush → is_directory (tree_after first history) flush.node ≡ false → inodes flush.node ≡ true
+    → after node ≡ inodes node
+
 -- A node has the stamp 0 and no bytes at a cut.
 pub record IsBlank (first : TreeState) (history : List Entry) (cut : Cut) (node : ℕ) : Type 0 where
   pub stamp : cut_of cut node ≡ 0

@@ -127,7 +127,8 @@ durable_by events chosen _ = None
 abbrev pub durable_of : List Event → (ℕ → Bool) → List Flush
 durable_of events chosen = filter_map (durable_by events chosen) events
 
--- The entries that count have all below the stamp of a commit and below those of the commits to which it is tied.
-pub record CountEnough (events : List Event) (flush : Flush) (tied : ℕ → Bool) (counts : Counts) : Type 0 where
+-- The entries that count have all below the stamp of a commit, and below those of the commits to which it is tied and that come
+-- before it.
+pub record CountEnough (events : List Event) (commit : ℕ) (flush : Flush) (tied : ℕ → Bool) (counts : Counts) : Type 0 where
   pub own : (stamp : ℕ) → stamp < flush.stamp → counts stamp ≡ true
-  pub theirs : (commit : ℕ) (other : Flush) (stamp : ℕ) → tied commit ≡ true → flush_of events commit ≡ Some other → stamp < other.stamp → counts stamp ≡ true
+  pub theirs : (other : ℕ) (fsync : Flush) (stamp : ℕ) → tied other ≡ true → ComesBefore events other commit → flush_of events other ≡ Some fsync → stamp < fsync.stamp → counts stamp ≡ true
