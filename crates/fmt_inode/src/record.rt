@@ -67,9 +67,12 @@ fn fault_of(bytes: &[u8; 512]) -> Option<u32>
     }
 }
 
-/// Writes the record of an inode. It takes no memory.
+/// Writes the record of an inode, from which `decode` reads it again. It takes no memory.
 pub fn encode(inode: &Inode, bytes: &mut [u8; 512])
-    ensures { bytes.new ≡ inode_bytes inode.now }
+    requires { IsInode inode.now }
+    ensures spelled { bytes.new ≡ inode_bytes inode.now }
+    ensures sound { inode_fault bytes.new ≡ None }
+    ensures again { inode_of bytes.new ≡ inode.now }
 {
     bytes[..4].copy_from_slice(&[inode.kind, 0, 0, 0]);
     LittleEndian::write_u32(&mut bytes[4..8], inode.links);

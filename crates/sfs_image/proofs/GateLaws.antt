@@ -1,18 +1,16 @@
 -- A gate that opens, and one that shuts.
-use Rattle.std.proofs.Common.{◌≡◌, ◌≢◌, ℕ, ◌+◌, ◌*◌, ◌<◌, ◌≤◌, true, false, List, All, Option, None, Some, option_map, refl, sym, ap, ◌∙◌, subst, arith, inl, inr, ◌⊎◌}
+use Rattle.std.proofs.Common.{◌≡◌, ◌≢◌, ℕ, ◌+◌, ◌*◌, ◌<◌, ◌≤◌, List, All, Option, None, Some, option_map, refl, sym, ap, ◌∙◌, subst, arith, inl, inr}
 use Rattle.std.specs.Prelude.{unwrap_or}
-use Rattle.std.specs.List.{range_with_len}
 use Rattle.std.proofs.lemmas.Bool.{cases_eq}
 use Rattle.sfs_image.specs.Bytes.{part}
-use Rattle.sfs_image.specs.ImageOf.{InodePart, Transaction, part_given, given, with_opened, with_slot, IsShut, HasBody, IsOpenWith, IsSlotOf, HaveOwnStamps, IsImageOf, AgreesOutside, LiesApart, PointsToData, MayOpen, MayShut, OpensGate, ShutsGate}
-use Rattle.sfs_image.specs.Journal.{head_of}
-use Rattle.sfs_image.specs.Laws.{table_byte}
+use Rattle.sfs_image.specs.ImageOf.{InodePart, Transaction, part_given, given, with_opened, with_slot, HasBody, IsSlotOf, HaveOwnStamps, IsImageOf, AgreesOutside, PointsToData, MayOpen, MayShut, OpensGate, ShutsGate}
+use Rattle.sfs_image.specs.Laws.{IsShutAfter}
 use Rattle.sfs_image.specs.Part.{Part, IsGathered, pointer_at}
-use Rattle.sfs_image.specs.Settled.{Stamped, newest, image_block, slot_byte, slot_count, journal_slot, table_record}
-use Rattle.sfs_image.specs.Super.{Layout, slot_blocks, data_start}
-use Rattle.sfs_image.proofs.FrameLaws.{part_apart, part_changes, gate_kept, whole_kept}
+use Rattle.sfs_image.specs.Settled.{table_byte, Stamped, image_block, slot_byte, slot_count, journal_slot, table_record}
+use Rattle.sfs_image.specs.Super.{Layout, slot_blocks}
+use Rattle.sfs_image.proofs.FrameLaws.{part_apart, part_changes, whole_kept}
 use Rattle.sfs_image.proofs.GivenLaws.{with_slot-same, with_slot-other, given_has, given_aside, given_newer, given_behind}
-use Rattle.sfs_image.proofs.KeptLaws.{IsAside, aside_kept, sound_kept, divided_kept, gathered_kept, slots_apart, slot_before_table, slot_before_data, table_behind_slots, records_apart, table_before_data, data_behind_slots, data_behind_table}
+use Rattle.sfs_image.proofs.KeptLaws.{sound_kept, divided_kept, gathered_kept, slots_apart, slot_before_table, slot_before_data}
 use Rattle.sfs_image.proofs.LayoutLaws.{divided}
 use Rattle.sfs_image.proofs.NewestLaws.{newest_none, newest_greatest}
 use Rattle.sfs_image.proofs.BytesLaws.{None-option_map}
@@ -51,7 +49,6 @@ module _ (layout : Layout) (opened : ℕ → Option Transaction) (parts : ℕ �
         | inr other ↦ subst (λ (o : Option Transaction). IsSlotOf layout.inodes o (journal_slot layout new j)) (sym (with_slot-other opened k one j other))
             (subst (IsSlotOf layout.inodes (opened j)) (sym (other_slot j other)) (is.slots j h))
       ]
-
 
 -- a part that the open slots give instead
 unwrapped : {o : Option Part} {part : Part} (default : Part) → o ≡ Some part → unwrap_or o default ≡ part
@@ -182,3 +179,10 @@ gate_shuts layout opened parts k old new is shuts = record {
         is.table i h before ∙ sym (ap (λ (o : Option Part). (unwrap_or o (parts i)).raw) before)
     settled_in_table i h none (Some ours) gives =
         shuts.may.table i ours h gives none ∙ sym (ap (λ (part : Part). part.raw) (unwrapped (parts i) (alone_given layout opened k i ours shuts.within gives none)))
+
+-- what stands once a gate has shut
+pub gate_shut : (layout : Layout) (opened : ℕ → Option Transaction) (parts : ℕ → Part) (k : ℕ) (old new : List ℕ) → IsImageOf layout opened parts old → ShutsGate layout opened k old new → IsShutAfter layout opened parts k new
+gate_shut layout opened parts k old new is shuts = record {
+  stands = gate_shuts layout opened parts k old new is shuts;
+  same = λ i. gone_same layout opened parts k i old shuts.within is.stamps shuts.may;
+}

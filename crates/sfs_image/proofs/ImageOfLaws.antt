@@ -1,15 +1,16 @@
 -- An image that stands for parts: its settled parts are those with what the open slots give, and nothing is wrong in its
 -- superblock and journals.
-use Rattle.std.proofs.Common.{◌≡◌, ◌≢◌, ℕ, zero, suc, ◌+◌, ◌^◌, ◌<◌, ◌≤◌, Bool, true, false, cond, eqb, ltb, List, [], ◌∷◌, ◌++◌, map, Option, None, Some, option_map, refl, sym, ap, ◌∙◌, subst, arith, inl, inr, ◌⊎◌}
-use Rattle.std.specs.Prelude.{unwrap_or, true, false}
+use Rattle.std.proofs.Common.{◌≡◌, ◌≢◌, ℕ, zero, suc, ◌+◌, ◌^◌, ◌<◌, ◌≤◌, Bool, false, eqb, ltb, List, [], ◌∷◌, map, Option, None, Some, option_map, refl, sym, ap, ◌∙◌, subst, arith, inl, inr}
+use Rattle.std.specs.Prelude.{unwrap_or, false}
 use Rattle.std.specs.Option.{option_or}
 use Rattle.std.specs.List.{range_with_len, flat_map, find, list_any}
 use Rattle.std.proofs.lemmas.Bool.{cases_Bool, cond-true, cond-false, le-ltb, ne_eqb, or_from}
 use Rattle.std.proofs.lemmas.List.{map-append}
 use Rattle.std.proofs.lemmas.List.Folds.{list_any-append}
-use Rattle.sfs_image.specs.Bytes.{part, first_of, fault_at}
-use Rattle.sfs_image.specs.ImageOf.{InodePart, Transaction, transaction_body, part_given, given, with_opened, IsShut, HasBody, IsOpenWith, IsSlotOf, HaveOwnStamps, IsImageOf, PointsToData}
-use Rattle.sfs_image.specs.Journal.{Entry, head_of, head_fault, numbers_fault, numbers_of, journal_fault, AreEntries, HasEntries}
+use Rattle.sfs_image.specs.Bytes.{part, fault_at}
+use Rattle.sfs_image.specs.ImageOf.{InodePart, Transaction, transaction_body, part_given, given, with_opened, HasBody, IsSlotOf, IsImageOf, PointsToData}
+use Rattle.sfs_image.specs.Journal.{Entry, head_of, numbers_fault, numbers_of, journal_fault, AreEntries, HasEntries}
+use Rattle.sfs_image.specs.Laws.{IsReadAs}
 use Rattle.sfs_image.specs.Part.{Part, part_of, IsGathered}
 use Rattle.sfs_image.specs.Settled.{Body, Stamped, newest, body_in, open_body, open_below, open_bodies, record_in, held, table_record, settled, parts_of, journal_slot, slot_count, image_block, slot_fault_of, journal_fault_of}
 use Rattle.sfs_image.specs.Super.{Layout}
@@ -60,7 +61,7 @@ module _ (layout : Layout) (opened : ℕ → Option Transaction) (image : List �
   held_given i =
       ap (option_map (λ newest. newest.value))
       (newest_of_pieces (record_in i) (λ k. open_body layout.inodes (journal_slot layout image k)) (λ k. option_map (over (λ part. part.raw)) (part_given i (opened k))) 0 (slot_count layout)
-        (λ k low high. slot_shows layout.inodes i (opened k) (journal_slot layout image k) (slots k (omega arith)))
+      (λ k low high. slot_shows layout.inodes i (opened k) (journal_slot layout image k) (slots k (omega arith)))
       ∙ newest_over (λ part. part.raw) (λ k. part_given i (opened k)) (range_with_len 0 (slot_count layout)))
       ∙ option_map-option_map (λ newest. newest.value) (over (λ part. part.raw)) (newest (map (λ k. part_given i (opened k)) (range_with_len 0 (slot_count layout))))
       ∙ sym (option_map-option_map (λ part. part.raw) (λ newest. newest.value) (newest (map (λ k. part_given i (opened k)) (range_with_len 0 (slot_count layout)))))
@@ -128,6 +129,14 @@ module _ (layout : Layout) (opened : ℕ → Option Transaction) (parts : ℕ �
   -- nothing is wrong in the journals
   pub journals_are_sound : journal_fault_of layout image ≡ None
   journals_are_sound = first_of-from (slot_count layout) (slot_fault_of layout image) slot_is_sound
+
+-- An image that stands for parts is read as these.
+pub read_as : (layout : Layout) (opened : ℕ → Option Transaction) (parts : ℕ → Part) (image : List ℕ) → IsImageOf layout opened parts image → IsReadAs layout opened parts image
+read_as layout opened parts image is = record {
+  super = is.sound;
+  journals = journals_are_sound layout opened parts image is;
+  settles = parts_are layout opened parts image is;
+}
 
 -- Where the entries of a transaction stand in a slot, under its commit stamp, its whole body is there.
 pub whole_body : (inodes : ℕ) (one : Transaction) (slot : List ℕ) → inodes ≤ 2 ^ 32 → (head_of (part 0 4096 slot)).stamp ≡ one.stamp → AreEntries inodes (transaction_body one).entries → HasEntries inodes (transaction_body one).entries slot →

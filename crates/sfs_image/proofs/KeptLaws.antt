@@ -1,14 +1,12 @@
 -- Writes that keep what an image stands for.
-use Rattle.std.proofs.Common.{◌≡◌, ◌≢◌, ℕ, ◌+◌, ◌*◌, ◌/◌, ◌<◌, ◌≤◌, List, length, Option, None, Some, refl, sym, ap, ◌∙◌, subst, arith, inl, inr, ◌⊎◌}
-use Rattle.std.proofs.lemmas.Bool.{cases_eq, cases_order}
+use Rattle.std.proofs.Common.{◌≡◌, ◌≢◌, ℕ, ◌+◌, ◌*◌, ◌/◌, ◌<◌, ◌≤◌, List, Option, None, ap, ◌∙◌, arith, inl, inr}
+use Rattle.std.proofs.lemmas.Bool.{cases_order}
 use Rattle.sfs_image.specs.Bytes.{part}
-use Rattle.sfs_image.specs.ImageOf.{Transaction, given, with_opened, IsSlotOf, IsImageOf, AgreesOutside, LiesApart, PointsToData}
-use Rattle.sfs_image.specs.Journal.{head_of}
-use Rattle.sfs_image.specs.Laws.{table_byte, IsDivided}
+use Rattle.sfs_image.specs.ImageOf.{Transaction, given, with_opened, IsSlotOf, IsImageOf, AgreesOutside, LiesApart}
 use Rattle.sfs_image.specs.Part.{Part, IsGathered, pointer_at}
-use Rattle.sfs_image.specs.Settled.{image_block, layout_of, super_fault_of, slot_byte, slot_count, journal_slot, table_record}
+use Rattle.sfs_image.specs.Settled.{table_byte, image_block, layout_of, super_fault_of, slot_byte, slot_count, journal_slot}
 use Rattle.sfs_image.specs.Super.{Layout, slot_blocks, data_start, super_of, super_fault}
-use Rattle.sfs_image.proofs.FrameLaws.{part_apart, part_changes, gate_kept}
+use Rattle.sfs_image.proofs.FrameLaws.{part_apart}
 use Rattle.sfs_image.proofs.LayoutLaws.{divided}
 use Rattle.sfs_image.proofs.PartLaws.{gathered_same}
 

@@ -1,7 +1,7 @@
 -- Laws of what has the greatest stamp.
-use Rattle.std.proofs.Common.{◌≡◌, ◌≢◌, ℕ, zero, suc, ◌+◌, ◌<◌, ◌≤◌, Bool, true, false, cond, ltb, List, [], ◌∷◌, ◌++◌, map, Option, None, Some, option_map, refl, sym, ap, ◌∙◌, arith, inl, inr, ◌⊎◌, add-one}
-use Rattle.std.proofs.lemmas.Bool.{cases_Bool, cases_lt, cases_eq, cond-true, cond-false, lt-ltb, le-ltb, ltb-true, ltb-false}
-use Rattle.std.specs.List.{range_with_len, flat_map, find}
+use Rattle.std.proofs.Common.{◌≡◌, ◌≢◌, ℕ, zero, suc, ◌+◌, ◌<◌, ◌≤◌, ltb, List, [], ◌∷◌, ◌++◌, map, Option, None, Some, option_map, refl, sym, ap, ◌∙◌, arith, inl, inr, ◌⊎◌}
+use Rattle.std.proofs.lemmas.Bool.{cases_Bool, cases_eq, cond-true, cond-false, lt-ltb, le-ltb, ltb-true, ltb-false}
+use Rattle.std.specs.List.{range_with_len, flat_map}
 use Rattle.sfs_image.specs.Settled.{Stamped, newer, newest}
 
 -- the same stamp over another value
@@ -114,7 +114,7 @@ newest_greatest {A = A} at a (suc n) k s is =
     elim (cases_eq k a) [
       | inl first ↦ ap (λ (o : Option (Stamped A)). newer o (newest (map at (range_with_len (a + 1) n)))) (ap at (sym first) ∙ is.here)
           ∙ newer_first s (newest (map at (range_with_len (a + 1) n)))
-            (λ other rest. let one = newest_from at (a + 1) n other rest in let l = one.1 in let h = one.2 in is.others one.0 other (omega arith) (omega arith) (omega arith) one.3)
+          (λ other rest. let one = newest_from at (a + 1) n other rest in let l = one.1 in let h = one.2 in is.others one.0 other (omega arith) (omega arith) (omega arith) one.3)
       | inr later ↦ ap (newer (at a)) (newest_greatest at (a + 1) n k s (behind later))
           ∙ newer_last s (at a) (λ other here. is.others a other (omega arith) (omega arith) (λ same. later (sym same)) here)
     ]

@@ -1,12 +1,14 @@
 -- What the rules on bytes and pointers say.
-use Rattle.std.proofs.Common.{◌≡◌, ◌≢◌, ℕ, zero, suc, ◌+◌, ◌-◌, ◌*◌, ◌/◌, ◌%◌, ◌<◌, ◌≤◌, Bool, true, false, not, cond, eqb, leb, ltb, ◌&&◌, ◌||◌, List, [], length, get_or, slice_index, Option, None, Some, is_some, refl, sym, ap, ◌∙◌, subst, arith, inl, inr, ◌⊎◌}
-use Rattle.std.proofs.lemmas.Bool.{cases_Bool, cases_order, cond_both, cond-false, cond-true, ne_eqb, eqb-true, eqb-false, eq-eqb, and_left, and_right, and_cases, and_parts, or_from, or_parts, or_cases, not_from_true, not_from_false, not-false, both_ways, leb-true, ltb-true, le-leb, lt-ltb, or_left, or_right, and_from}
+use Rattle.std.proofs.Common.{◌≡◌, ◌≢◌, ℕ, ◌<◌, ◌≤◌, Bool, true, false, not, eqb, leb, ◌&&◌, ◌||◌, List, length, slice_index, Option, None, Some, is_some, refl, sym, ap, ◌∙◌, arith, inl, inr}
+use Rattle.std.proofs.lemmas.Bool.{cases_Bool, cases_lt, cases_order, cond_both, cond-false, ne_eqb, eqb-true, eqb-false, and_left, and_right, and_parts, or_from, or_parts, or_cases, not_from_true, not_from_false, both_ways, leb-true, ltb-true, le-leb, lt-ltb, or_left, or_right, and_from}
 use Rattle.sfs_image.specs.Inode.{inode_fault}
-use Rattle.sfs_image.specs.Part.{Part, inode_in, pointer_at, is_free_part, is_file_part, is_directory_part}
-use Rattle.sfs_image.specs.Rules.{any_below, breaks_record, breaks_root, breaks_size, is_data_block, is_good_pointer, first_covered, breaks_pointers, stands_below, is_held_before, breaks_apart, breaks_tail, breaks_slots, breaks_bytes_rule}
+use Rattle.sfs_image.specs.ImageOf.{PointsToData}
+use Rattle.sfs_image.specs.Part.{Part, part_of, inode_in, pointer_at, is_free_part, is_file_part, is_directory_part}
+use Rattle.sfs_image.specs.Rules.{any_below, breaks_record, is_data_block, is_good_pointer, first_covered, breaks_pointers, stands_below, is_held_before, breaks_apart, breaks_bytes_rule}
 use Rattle.sfs_image.specs.Seen.{PLACES}
 use Rattle.sfs_image.specs.Super.{Layout, data_start}
 use Rattle.sfs_image.proofs.Basics.{any_below-none, any_below-from}
+use Rattle.sfs_image.proofs.PartLaws.{free_has_none, none_past_places}
 
 -- where both of two tests are not passed and the first is passed the second is not
 second_fails : (x y : Bool) → (x && y) ≡ false → x ≡ true → y ≡ false
@@ -54,11 +56,14 @@ pub apart_from_rule : (parts : ℕ → Part) (i j p q : ℕ) → breaks_apart pa
     pointer_at (parts i) p ≢ 0 → pointer_at (parts i) p ≡ pointer_at (parts j) q → (i ≡ j) × (p ≡ q)
 apart_from_rule parts i j p q first second used taken within inside there same =
     elim (cases_order i j) [
-      | inl e ↦ (e, (elim (cases_order p q) [
-        | inl place ↦ place
-        | inr (inl before) ↦ absurd (none_before parts j q taken second inside held_too p before (ap (λ (m : ℕ). pointer_at (parts m) p) (sym e) ∙ same))
-        | inr (inr after) ↦ absurd (none_before parts i p used first within there q after (ap (λ (m : ℕ). pointer_at (parts m) q) e ∙ sym same))
-      ]))
+      | inl e ↦ (
+        e,
+        (elim (cases_order p q) [
+          | inl place ↦ place
+          | inr (inl before) ↦ absurd (none_before parts j q taken second inside held_too p before (ap (λ (m : ℕ). pointer_at (parts m) p) (sym e) ∙ same))
+          | inr (inr after) ↦ absurd (none_before parts i p used first within there q after (ap (λ (m : ℕ). pointer_at (parts m) q) e ∙ sym same))
+        ]),
+      )
       | inr (inl below) ↦ absurd (none_below parts j q taken second inside held_too i p below within same)
       | inr (inr above) ↦ absurd (none_below parts i p used first within there j q above inside (sym same))
     ]
@@ -108,3 +113,19 @@ rule_from_good layout part good =
           or_right (eqb (pointer_at part p) 0) _
           (and_from _ _ (and_from _ _ (le-leb (data_start layout) (pointer_at part p) facts.0) (lt-ltb (pointer_at part p) layout.blocks facts.1)) (lt-ltb (first_covered p) (inode_in part).size facts.2)))
     ])))
+
+-- A part that keeps the first and the fourth rule points to data.
+pub points_to_data : (layout : Layout) (store : ℕ → List ℕ) (raw : List ℕ) → length raw ≡ 512 → breaks_record (part_of store raw) ≡ false → breaks_pointers layout (part_of store raw) ≡ false → PointsToData layout (part_of store raw)
+unfolding part_of
+points_to_data layout store raw len first fourth place there =
+    elim (cases_Bool (is_free_part (part_of store raw))) [
+      | inl free ↦ absurd (there (free_has_none store raw len (none_from_fault (inode_fault raw) first) (eqb-true (slice_index raw 0) 0 free) place))
+      | inr used ↦ elim (cases_lt place PLACES) [
+        | inl within ↦ (let facts = good_from_rule layout (part_of store raw) place fourth used within there in (facts.0, facts.1))
+        | inr past ↦ absurd (there (none_past_places store raw place past))
+      ]
+    ]
+  where
+    none_from_fault : (o : Option ℕ) → is_some o ≡ false → o ≡ None
+    none_from_fault None h = refl
+    none_from_fault (Some x) h = absurd cc

@@ -1,21 +1,13 @@
 -- Writes to the data, the table and the slots of an image that stands for parts.
-use Rattle.std.proofs.Common.{◌≡◌, ◌≢◌, ℕ, ◌+◌, ◌*◌, ◌<◌, ◌≤◌, true, false, List, All, Option, None, Some, option_map, refl, sym, ap, ◌∙◌, subst, arith, inl, inr, ◌⊎◌}
-use Rattle.std.specs.Prelude.{unwrap_or}
-use Rattle.std.specs.List.{range_with_len}
+use Rattle.std.proofs.Common.{◌≡◌, ◌≢◌, ℕ, ◌+◌, ◌*◌, ◌<◌, ◌≤◌, List, Option, None, sym, ap, ◌∙◌, subst, arith, inl, inr}
 use Rattle.std.proofs.lemmas.Bool.{cases_eq}
-use Rattle.sfs_image.specs.Bytes.{part}
-use Rattle.sfs_image.specs.ImageOf.{InodePart, Transaction, part_given, given, with_opened, with_slot, IsShut, HasBody, IsOpenWith, IsSlotOf, HaveOwnStamps, IsImageOf, AgreesOutside, LiesApart, PointsToData, MayOpen, MayShut}
-use Rattle.sfs_image.specs.Journal.{head_of}
-use Rattle.sfs_image.specs.Laws.{table_byte}
-use Rattle.sfs_image.specs.Part.{Part, IsGathered, pointer_at}
-use Rattle.sfs_image.specs.Settled.{Stamped, newest, image_block, slot_byte, slot_count, journal_slot, table_record}
+use Rattle.sfs_image.specs.ImageOf.{Transaction, given, with_opened, IsShut, IsSlotOf, IsImageOf, AgreesOutside, LiesApart}
+use Rattle.sfs_image.specs.Part.{Part, pointer_at}
+use Rattle.sfs_image.specs.Settled.{table_byte, slot_byte, slot_count, journal_slot}
 use Rattle.sfs_image.specs.Super.{Layout, slot_blocks, data_start}
-use Rattle.sfs_image.proofs.FrameLaws.{part_apart, part_changes, gate_kept, whole_kept}
-use Rattle.sfs_image.proofs.GivenLaws.{with_slot-same, with_slot-other, given_has, given_aside, given_newer, given_behind}
-use Rattle.sfs_image.proofs.KeptLaws.{IsAside, aside_kept, sound_kept, divided_kept, gathered_kept, slots_apart, slot_before_table, slot_before_data, table_behind_slots, records_apart, table_before_data, data_behind_slots, data_behind_table}
+use Rattle.sfs_image.proofs.FrameLaws.{part_apart, part_changes, gate_kept}
+use Rattle.sfs_image.proofs.KeptLaws.{aside_kept, slots_apart, slot_before_table, slot_before_data, table_behind_slots, records_apart, table_before_data, data_behind_slots, data_behind_table}
 use Rattle.sfs_image.proofs.LayoutLaws.{divided}
-use Rattle.sfs_image.proofs.NewestLaws.{newest_none, newest_greatest}
-use Rattle.sfs_image.proofs.BytesLaws.{None-option_map}
 
 module _ (layout : Layout) (opened : ℕ → Option Transaction) (parts : ℕ → Part) (old new : List ℕ) (is : IsImageOf layout opened parts old) where
   -- a slot stays where its bytes do

@@ -1,11 +1,11 @@
 -- Which parts an image stands for, whatever journal slots are open in it.
-use Rattle.std.specs.Prelude.{◌≡◌, ◌≢◌, ◌⊎◌, ℕ, ◌+◌, ◌*◌, ◌<◌, ◌≤◌, ◌==◌, true, false, All, List, [], ◌∷◌, length, map, take, drop, Option, None, Some, option_map, unwrap_or, if◌then◌else◌}
-use Rattle.std.specs.List.{range_with_len, flat_map, find}
+use Rattle.std.specs.Prelude.{◌≡◌, ◌≢◌, ◌⊎◌, ℕ, ◌+◌, ◌<◌, ◌≤◌, ◌==◌, true, false, All, List, length, map, take, drop, Option, None, Some, option_map, unwrap_or, if◌then◌else◌}
+use Rattle.std.specs.List.{range_with_len, find}
 use Rattle.sfs_image.specs.Bytes.{part}
-use Rattle.sfs_image.specs.Journal.{Entry, head_of, numbers_of, numbers_fault}
+use Rattle.sfs_image.specs.Journal.{head_of, numbers_of, numbers_fault}
 use Rattle.sfs_image.specs.Part.{Part, IsGathered, pointer_at}
 use Rattle.sfs_image.specs.Settled.{Body, Stamped, newest, body_in, image_block, journal_slot, layout_of, slot_byte, slot_count, super_fault_of, table_record}
-use Rattle.sfs_image.specs.Super.{Layout, IsLayout, data_start}
+use Rattle.sfs_image.specs.Super.{Layout, data_start}
 
 -- an inode and its part
 pub record InodePart : Type 0 where
