@@ -1,6 +1,8 @@
 pub mod Basics
 pub mod Committed
+pub mod Faults
 pub mod Images
+pub mod Mounted
 pub mod NetRows
 pub mod Paired
 pub mod Renaming

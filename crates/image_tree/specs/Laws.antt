@@ -1,5 +1,5 @@
 -- The laws of what an image stands for, each of which a function of the module laws proves.
-use Rattle.std.specs.Prelude.{◌≡◌}
+use Rattle.std.specs.Prelude.{◌≡◌, ◌↔◌, ℕ, ◌<◌, ◌≤◌, Bool, false, None}
 use Rattle.sfs_tree.specs.Tree.{TreeState}
 use Rattle.sfs_tree.specs.Sound.{IsSound}
 use Rattle.sfs_tree.specs.Shape.{shape_of}
@@ -8,6 +8,8 @@ use Rattle.image_tree.specs.ImageTree.{Making, image_tree}
 use Rattle.image_tree.specs.Renamed.{Numbering, IsRenamed}
 use Rattle.image_tree.specs.Stands.{StandsForTree, IsStorable}
 use Rattle.image_tree.specs.Keeps.{KeepsRules}
+use Rattle.image_tree.specs.Mount.{ShowsByKind, StandsByItself}
+use Rattle.image_tree.specs.Rules.{BYTE_RULES, KeepsByteRules, inode_fault}
 use Rattle.image_tree.specs.Commit.{Commit, IsCommit, MayFollow}
 
 -- A tree under other numbers is sound where the first is, and has its shape.
@@ -16,7 +18,7 @@ RenamedTreesHaveOneShape = (num : Numbering) (tree other : TreeState) → IsSoun
 
 -- What an image shows that stands for a tree: it keeps the rules, and its own tree is sound and has the tree's shape.
 pub record ShowsTree (tree : TreeState) (image : SeenInodes) (making : Making) : Type 0 where
-  pub rules : KeepsRules image making
+  pub rules : KeepsRules image
   pub sound : IsSound (image_tree image making)
   pub shape : shape_of (image_tree image making) ≡ shape_of tree
 
@@ -32,3 +34,11 @@ pub record LeavesTree (commit : Commit) (new : TreeState) (next : SeenInodes) (m
 -- A commit makes of an image that stands for a sound tree one that stands for the next tree, and so keeps the rules.
 abbrev pub CommitsKeepStanding : Type 0
 CommitsKeepStanding = (commit : Commit) (old new : TreeState) (image next : SeenInodes) (making : Making) → StandsForTree commit.before old image → IsSound old → IsCommit commit old new image next → IsSound new → MayFollow commit.after old new → IsStorable commit.after new → LeavesTree commit new next making
+
+-- An image that keeps the rules stands for its own tree.
+abbrev pub RulesMakeStanding : Type 0
+RulesMakeStanding = (image : SeenInodes) (making : Making) → KeepsRules image → ShowsByKind image → StandsByItself image making
+
+-- The first fault is none exactly where the rules hold, those on bytes being given.
+abbrev pub NoFaultIsRulesKept : Type 0
+NoFaultIsRulesKept = (image : SeenInodes) (breaks_byte_rule : ℕ → ℕ → Bool) → KeepsByteRules image → ((rule i : ℕ) → 1 ≤ rule → rule ≤ BYTE_RULES → i < image.count → breaks_byte_rule rule i ≡ false) → (inode_fault breaks_byte_rule image ≡ None) ↔ KeepsRules image

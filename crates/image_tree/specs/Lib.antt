@@ -2,6 +2,8 @@ pub mod Commit
 pub mod ImageTree
 pub mod Keeps
 pub mod Laws
+pub mod Mount
 pub mod Renamed
+pub mod Rules
 pub mod Slots
 pub mod Stands

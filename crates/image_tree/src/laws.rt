@@ -1,5 +1,6 @@
 // What is proved of the definitions: each function's contract is a law.
 ghost use Rattle.image_tree.specs.Laws.{RenamedTreesHaveOneShape, StandingImagesShow, CommitsKeepStanding};
+ghost use Rattle.image_tree.specs.Laws.{RulesMakeStanding, NoFaultIsRulesKept};
 
 /// A tree under other numbers is sound where the first is, and has its shape.
 pub fn renamed_trees_have_one_shape()
@@ -14,4 +15,14 @@ pub fn standing_images_show()
 /// A commit keeps an image standing: for the next tree.
 pub fn commits_keep_standing()
     ensures { CommitsKeepStanding }
+{}
+
+/// An image that keeps the rules stands for its own tree.
+pub fn rules_make_standing()
+    ensures { RulesMakeStanding }
+{}
+
+/// The first fault is none exactly where the rules hold.
+pub fn no_fault_is_rules_kept()
+    ensures { NoFaultIsRulesKept }
 {}

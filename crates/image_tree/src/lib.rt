@@ -3,4 +3,7 @@
 
 mod laws;
 
-pub use laws::{commits_keep_standing, renamed_trees_have_one_shape, standing_images_show};
+pub use laws::{
+    commits_keep_standing, no_fault_is_rules_kept, renamed_trees_have_one_shape,
+    rules_make_standing, standing_images_show,
+};
