@@ -11,7 +11,7 @@ use Rattle.sfs_tree.specs.Tree.{TreeState, row_of, is_directory, is_directory_ki
 use Rattle.sfs_tree.specs.Sound.{IsSound}
 use Rattle.sfs_tree.proofs.Names.{get-names_where}
 use Rattle.sfs_image.specs.Slot.{Row, kind_byte}
-use Rattle.sfs_image.specs.Seen.{Seen, SeenInodes}
+use Rattle.sfs_image.specs.Seen.{Seen, SeenInodes, PLACES}
 use Rattle.absorb.specs.declared.nets.NetRow.{NetRow}
 use Rattle.absorb.specs.Net.{IsNetRow, IsNet}
 use Rattle.image_tree.specs.Slots.{looked_up, name_count, in_blocks}
@@ -290,12 +290,12 @@ module _ (commit : Commit) (old new : TreeState) (image next : SeenInodes) (st :
     before : i < image.count → (image.seen i).blocks p ≡ (next.seen i).blocks p → HeldBy i p
     taken : commit.takes i p ≡ true → (next.seen i).blocks p ≡ commit.fresh i p → HeldBy i p
 
-  held : (i p : ℕ) → i < next.count → (next.seen i).blocks p ≢ 0 → HeldBy i p
-  held i p lt some = elim (c.rest i lt) as (λ _. HeldBy i p) [
-    | inr free ↦ absurd (some (free.blocks p))
+  held : (i p : ℕ) → i < next.count → p < PLACES → (next.seen i).blocks p ≢ 0 → HeldBy i p
+  held i p lt small some = elim (c.rest i lt) as (λ _. HeldBy i p) [
+    | inr free ↦ absurd (some (free.blocks p small))
     | inl node ↦ elim (commit.concerns node.0) as (λ b. commit.concerns node.0 ≡ b → HeldBy i p) [
       | false ↦ λ t. let a = c.stays node.0 i node.1 t in HeldBy.before (number_within node.0 i node.1) (ap (λ (seen : Seen). seen.blocks p) (sym a.1))
-      | true ↦ λ t. by_block node.0 node.1 (c.blocks.has node.0 i p node.1 t)
+      | true ↦ λ t. by_block node.0 node.1 (c.blocks.has node.0 i p small node.1 t)
     ] refl
   ]
     where
@@ -309,12 +309,12 @@ module _ (commit : Commit) (old new : TreeState) (image next : SeenInodes) (st :
       by_block x is (fresh takes same) = HeldBy.taken takes same
 
   blocks_apart : HoldsApart next
-  blocks_apart i p j q lt less some same = by_holders (held i p lt some) (held j q less (λ zero. some (same ∙ zero)))
+  blocks_apart i p j q lt less small tiny some same = by_holders (held i p lt small some) (held j q less tiny (λ zero. some (same ∙ zero)))
     where
       by_holders : HeldBy i p → HeldBy j q → (i ≡ j) × (p ≡ q)
-      by_holders (before a e) (before b f) = st.apart i p j q a b (λ zero. some (sym e ∙ zero)) (e ∙ same ∙ sym f)
-      by_holders (before a e) (taken t f) = absurd (c.blocks.unheld j q i p t a (e ∙ same ∙ f))
-      by_holders (taken t e) (before b f) = absurd (c.blocks.unheld i p j q t b (f ∙ sym same ∙ e))
+      by_holders (before a e) (before b f) = st.apart i p j q a b small tiny (λ zero. some (sym e ∙ zero)) (e ∙ same ∙ sym f)
+      by_holders (before a e) (taken t f) = absurd (c.blocks.unheld j q i p t a small (e ∙ same ∙ f))
+      by_holders (taken t e) (before b f) = absurd (c.blocks.unheld i p j q t b tiny (f ∙ sym same ∙ e))
       by_holders (taken t e) (taken u f) = c.blocks.once i p j q t u (sym e ∙ same ∙ f)
 
   pub stands_after : StandsForTree commit.after new next

@@ -7,7 +7,7 @@ use Rattle.sfs_tree.specs.Tree.{TreeState, row_of, kind_of, bytes_of, links_of, 
 use Rattle.absorb.specs.declared.nets.NetRow.{NetRow}
 use Rattle.absorb.specs.Net.{IsNet}
 use Rattle.sfs_image.specs.Slot.{Row, kind_byte}
-use Rattle.sfs_image.specs.Seen.{Seen, SeenInodes}
+use Rattle.sfs_image.specs.Seen.{Seen, SeenInodes, PLACES}
 use Rattle.image_tree.specs.Slots.{in_blocks}
 use Rattle.image_tree.specs.Renamed.{Numbering, HasNumber}
 use Rattle.image_tree.specs.Stands.{row_on, size_of, IsUnused}
@@ -90,8 +90,8 @@ pub record GivesNumbers (commit : Commit) (image : SeenInodes) : Type 0 where
 
 -- The blocks that a commit takes: each place of a concerned node has one of the three, and a fresh block is held by no inode before and taken once.
 pub record TakesBlocks (commit : Commit) (image next : SeenInodes) : Type 0 where
-  pub has : (node i place : ℕ) → commit.after node ≡ Some i → commit.concerns node ≡ true → HasBlock commit i place (seen_before commit image node) (next.seen i)
-  pub unheld : (i place j other : ℕ) → commit.takes i place ≡ true → j < image.count → (image.seen j).blocks other ≢ commit.fresh i place
+  pub has : (node i place : ℕ) → place < PLACES → commit.after node ≡ Some i → commit.concerns node ≡ true → HasBlock commit i place (seen_before commit image node) (next.seen i)
+  pub unheld : (i place j other : ℕ) → commit.takes i place ≡ true → j < image.count → other < PLACES → (image.seen j).blocks other ≢ commit.fresh i place
   pub once : (i place j other : ℕ) → commit.takes i place ≡ true → commit.takes j other ≡ true → commit.fresh i place ≡ commit.fresh j other → (i ≡ j) × (place ≡ other)
 
 -- A commit changes the inodes of an image from those of an old tree to those of a new one.

@@ -4,7 +4,7 @@ use Rattle.std.specs.FinMap.{len}
 use Rattle.std.specs.Option.{unwrap_or}
 use Rattle.sfs_tree.specs.Tree.{TreeState, row_of, kind_of, bytes_of, links_of, is_directory, bucket_rows}
 use Rattle.sfs_image.specs.Slot.{Row, kind_byte}
-use Rattle.sfs_image.specs.Seen.{Seen, SeenInodes}
+use Rattle.sfs_image.specs.Seen.{Seen, SeenInodes, PLACES}
 use Rattle.image_tree.specs.Slots.{BLOCK_SLOTS, looked_up, name_count}
 use Rattle.image_tree.specs.ImageTree.{shows_directory}
 use Rattle.image_tree.specs.Renamed.{Numbering, HasNumber, IsMet}
@@ -38,11 +38,11 @@ pub record ShowsNode (num : Numbering) (tree : TreeState) (node : ℕ) (seen : S
 -- An inode is free: it is of no kind and holds no block.
 pub record IsUnused (seen : Seen) : Type 0 where
   pub kind : seen.kind ≡ 0
-  pub blocks : (place : ℕ) → seen.blocks place ≡ 0
+  pub blocks : (place : ℕ) → place < PLACES → seen.blocks place ≡ 0
 
 -- no block is held at two places
 abbrev pub HoldsApart : SeenInodes → Type 0
-HoldsApart image = (i p j q : ℕ) → i < image.count → j < image.count → (image.seen i).blocks p ≢ 0 → (image.seen i).blocks p ≡ (image.seen j).blocks q → (i ≡ j) × (p ≡ q)
+HoldsApart image = (i place j other : ℕ) → i < image.count → j < image.count → place < PLACES → other < PLACES → (image.seen i).blocks place ≢ 0 → (image.seen i).blocks place ≡ (image.seen j).blocks other → (i ≡ j) × (place ≡ other)
 
 -- The inodes of an image stand for a tree under a numbering: the root is inode 0, no two nodes have one inode, each child of a row
 -- has one, each inode shows its node, all others are free, and no block is held twice.
