@@ -1,7 +1,7 @@
 -- A commit keeps an image standing: for the next tree.
 use Rattle.std.proofs.Common.{◌≡◌, ◌≢◌, ℕ, ◌+◌, ◌<◌, ◌≤◌, Bool, true, false, cond, ◌&&◌, List, map, Option, Some, None, option_map, inl, inr, refl, sym, ap, subst, ◌∙◌, arith, count_by, nat_eq}
 use borrow.Author.Tests.{eqb-true}
-use Rattle.std.specs.Prelude.{is_none}
+use Rattle.std.specs.Prelude.{is_none, ◌↔◌}
 use Rattle.std.specs.Option.{option_and_then, option_map_or}
 use Rattle.std.specs.FinMap.{FinMap, get, entries}
 use Rattle.sfs_base.specs.declared.numbers.NodeId.{NodeId}
@@ -17,7 +17,7 @@ use Rattle.absorb.specs.Net.{IsNetRow, IsNet}
 use Rattle.image_tree.specs.Slots.{looked_up, name_count, in_blocks}
 use Rattle.image_tree.specs.Renamed.{Numbering}
 use Rattle.image_tree.specs.Stands.{row_on, ShowsNode, IsUnused, HoldsApart, StandsForTree}
-use Rattle.image_tree.specs.Commit.{net_row, row_after, slot_after, new_rows, filled, slots_after, Commit, blank, seen_before, IsAside, HasBlock, hole, kept, fresh, ComesBy, had, enters, IsCommit, MayFollow}
+use Rattle.image_tree.specs.Commit.{net_row, row_after, slot_after, new_rows, filled, slots_after, Commit, blank, seen_before, IsAside, HasBlock, hole, kept, fresh, ComesBy, had, enters, IsCommit, GivesNumbers, MayFollow}
 use Rattle.image_tree.specs.Laws.{CommitsKeepStanding}
 use Rattle.image_tree.proofs.Basics.{some_is, none_some, both_true_first}
 use Rattle.image_tree.proofs.Paired.{count_paired}
@@ -172,6 +172,58 @@ module _ (num after : Numbering) (old new : TreeState) (x : ℕ) (net : List Net
       once = λ n. subst (λ (k : ℕ). k ≤ 1) (sym (count_in_blocks n (slots_after after new net slots))) (by_name n).once;
     }
 
+-- a node has one link count in two trees that agree on its rows, on the rows that name it, and on kinds
+module _ (old new : TreeState) (kinds : (x : ℕ) → kind_of new x ≡ kind_of old x) (x : ℕ) (rows : (n : List ℕ) → row_of new x n ≡ row_of old x n) (naming : (d : ℕ) (n : List ℕ) → (row_of new d n ≡ Some x) ↔ (row_of old d n ≡ Some x)) where
+  same_directory : (y : ℕ) → is_directory new y ≡ is_directory old y
+  same_directory y = kind_directory new y ∙ ap is_directory_kind (kinds y) ∙ sym (kind_directory old y)
+
+  at : (tree : TreeState) (k : Key) (y d : ℕ) → k.0 ≡ d → get tree.rows k ≡ Some y → row_of tree d k.1 ≡ Some y
+  at tree k y d same is = subst (λ (e : ℕ). row_of tree e k.1 ≡ Some y) same is
+
+  back_at : (tree : TreeState) (k : Key) (y d : ℕ) → k.0 ≡ d → row_of tree d k.1 ≡ Some y → get tree.rows k ≡ Some y
+  back_at tree k y d same is = subst (λ (e : ℕ). row_of tree e k.1 ≡ Some y) (sym same) is
+
+  directories_alike : count_by (holds_directory old x) (entries old.rows) ≡ count_by (holds_directory new x) (entries new.rows)
+  directories_alike = count_alike (holds_directory old x) (holds_directory new x) old.rows new.rows (λ k y is passes.
+    let here : k.0 ≡ x = eqb-true _ _ (both_true_first (nat_eq k.0 x) (is_directory old y) passes) in
+    (back_at new k y x here (rows k.1 ∙ at old k y x here is), ap (λ b. nat_eq k.0 x && b) (same_directory y) ∙ passes)) (λ k y is passes.
+    let here : k.0 ≡ x = eqb-true _ _ (both_true_first (nat_eq k.0 x) (is_directory new y) passes) in
+    (back_at old k y x here (sym (rows k.1) ∙ at new k y x here is), ap (λ b. nat_eq k.0 x && b) (sym (same_directory y)) ∙ passes))
+
+  naming_alike : count_of old.rows x ≡ count_of new.rows x
+  naming_alike = count_alike (names_it x) (names_it x) old.rows new.rows (λ k y is passes.
+    let child : y ≡ x = eqb-true _ _ passes in
+    ((naming k.0 k.1).1 (is ∙ ap Some child) ∙ ap Some (sym child), passes)) (λ k y is passes.
+    let child : y ≡ x = eqb-true _ _ passes in
+    ((naming k.0 k.1).0 (is ∙ ap Some child) ∙ ap Some (sym child), passes))
+
+  pub links_alike : links_of old x ≡ links_of new x
+  links_alike =
+      ap (λ b. cond b (2 + count_by (holds_directory old x) (entries old.rows)) (count_of old.rows x)) (sym (same_directory x))
+      ∙ ap (λ n. cond (is_directory new x) (2 + n) (count_of old.rows x)) directories_alike
+      ∙ ap (cond (is_directory new x) (2 + count_by (holds_directory new x) (entries new.rows))) naming_alike
+
+-- the numbers after a commit: no two nodes have one, and each is within the image
+module _ (commit : Commit) (old : TreeState) (image : SeenInodes) (st : StandsForTree commit.before old image) (numbers : GivesNumbers commit image) where
+  pub number_once : (x y i : ℕ) → commit.after x ≡ Some i → commit.after y ≡ Some i → x ≡ y
+  number_once x y i a b = by_ways (numbers.comes x i a) (numbers.comes y i b)
+    where
+      taken : (z : ℕ) → commit.before z ≡ Some i → IsUnused (image.seen i) → ⊥
+      taken z is free = not_used (kind_of old z) (sym (st.each z i is).kind ∙ free.kind)
+
+      by_ways : ComesBy commit image x i → ComesBy commit image y i → x ≡ y
+      by_ways (had p) (had q) = st.once x y i p q
+      by_ways (had p) (enters _ _ free) = absurd (taken x p free)
+      by_ways (enters _ _ free) (had q) = absurd (taken y q free)
+      by_ways (enters p _ _) (enters q _ _) = numbers.once x y i p q a b
+
+  pub number_within : (x i : ℕ) → commit.after x ≡ Some i → i < image.count
+  number_within x i is = by_way (numbers.comes x i is)
+    where
+      by_way : ComesBy commit image x i → i < image.count
+      by_way (had p) = st.within x i p
+      by_way (enters _ lt _) = lt
+
 module _ (commit : Commit) (old new : TreeState) (image next : SeenInodes) (st : StandsForTree commit.before old image) (s : IsSound old) (c : IsCommit commit old new image next) (m : MayFollow commit.after old new) where
   -- a node with a number before and after keeps it
   keeps_number : (y i j : ℕ) → commit.before y ≡ Some i → commit.after y ≡ Some j → i ≡ j
@@ -214,42 +266,12 @@ module _ (commit : Commit) (old new : TreeState) (image next : SeenInodes) (st :
         once = λ n. subst (λ (k : ℕ). k ≤ 1) (sym (ap (name_count n) b.slots)) (h.once n);
       }
 
-  same_directory : (x : ℕ) → is_directory new x ≡ is_directory old x
-  same_directory x = kind_directory new x ∙ ap is_directory_kind (m.kinds x) ∙ sym (kind_directory old x)
-
-  -- a node aside keeps its link count
-  links_aside : (x : ℕ) → IsAside old new x → links_of old x ≡ links_of new x
-  links_aside x a =
-      ap (λ b. cond b (2 + count_by (holds_directory old x) (entries old.rows)) (count_of old.rows x)) (sym (same_directory x))
-      ∙ ap (λ n. cond (is_directory new x) (2 + n) (count_of old.rows x)) directories
-      ∙ ap (cond (is_directory new x) (2 + count_by (holds_directory new x) (entries new.rows))) naming
-    where
-      at : (tree : TreeState) (k : Key) (y d : ℕ) → k.0 ≡ d → get tree.rows k ≡ Some y → row_of tree d k.1 ≡ Some y
-      at tree k y d same is = subst (λ (e : ℕ). row_of tree e k.1 ≡ Some y) same is
-
-      back_at : (tree : TreeState) (k : Key) (y d : ℕ) → k.0 ≡ d → row_of tree d k.1 ≡ Some y → get tree.rows k ≡ Some y
-      back_at tree k y d same is = subst (λ (e : ℕ). row_of tree e k.1 ≡ Some y) (sym same) is
-
-      directories : count_by (holds_directory old x) (entries old.rows) ≡ count_by (holds_directory new x) (entries new.rows)
-      directories = count_alike (holds_directory old x) (holds_directory new x) old.rows new.rows (λ k y is passes.
-          let here : k.0 ≡ x = eqb-true _ _ (both_true_first (nat_eq k.0 x) (is_directory old y) passes) in
-          (back_at new k y x here (a.rows k.1 ∙ at old k y x here is), ap (λ b. nat_eq k.0 x && b) (same_directory y) ∙ passes)) (λ k y is passes.
-          let here : k.0 ≡ x = eqb-true _ _ (both_true_first (nat_eq k.0 x) (is_directory new y) passes) in
-          (back_at old k y x here (sym (a.rows k.1) ∙ at new k y x here is), ap (λ b. nat_eq k.0 x && b) (sym (same_directory y)) ∙ passes))
-
-      naming : count_of old.rows x ≡ count_of new.rows x
-      naming = count_alike (names_it x) (names_it x) old.rows new.rows (λ k y is passes.
-          let child : y ≡ x = eqb-true _ _ passes in
-          ((a.naming k.0 k.1).1 (is ∙ ap Some child) ∙ ap Some (sym child), passes)) (λ k y is passes.
-          let child : y ≡ x = eqb-true _ _ passes in
-          ((a.naming k.0 k.1).0 (is ∙ ap Some child) ∙ ap Some (sym child), passes))
-
   shows_aside : (x i : ℕ) → commit.before x ≡ Some i → IsAside old new x → ShowsNode commit.after new x (image.seen i)
   shows_aside x i is a =
       let e = st.each x i is in
       record {
         kind = e.kind ∙ ap kind_byte (sym (m.kinds x));
-        links = e.links ∙ links_aside x a;
+        links = e.links ∙ links_alike old new m.kinds x a.rows a.naming;
         size = e.size;
         bytes = e.bytes ∙ sym a.bytes;
         slots = λ n. e.slots n ∙ by_child n (row_of old x n) refl ∙ ap (option_map (row_on commit.after new n)) (sym (a.rows n));
@@ -266,25 +288,6 @@ module _ (commit : Commit) (old new : TreeState) (image next : SeenInodes) (st :
     | false ↦ λ t. let a = c.stays x i is t in subst (ShowsNode commit.after new x) (sym a.1) (shows_aside x i a.0 a.2)
   ] refl
 
-  number_once : (x y i : ℕ) → commit.after x ≡ Some i → commit.after y ≡ Some i → x ≡ y
-  number_once x y i a b = by_ways (c.numbers.comes x i a) (c.numbers.comes y i b)
-    where
-      taken : (z : ℕ) → commit.before z ≡ Some i → IsUnused (image.seen i) → ⊥
-      taken z is free = not_used (kind_of old z) (sym (st.each z i is).kind ∙ free.kind)
-
-      by_ways : ComesBy commit image x i → ComesBy commit image y i → x ≡ y
-      by_ways (had p) (had q) = st.once x y i p q
-      by_ways (had p) (enters _ _ free) = absurd (taken x p free)
-      by_ways (enters _ _ free) (had q) = absurd (taken y q free)
-      by_ways (enters p _ _) (enters q _ _) = c.numbers.once x y i p q a b
-
-  number_within : (x i : ℕ) → commit.after x ≡ Some i → i < image.count
-  number_within x i is = by_way (c.numbers.comes x i is)
-    where
-      by_way : ComesBy commit image x i → i < image.count
-      by_way (had p) = st.within x i p
-      by_way (enters _ lt _) = lt
-
   -- a block that is held after the commit was held there, or is fresh
   data HeldBy (i p : ℕ) : Type 0 where
     before : i < image.count → (image.seen i).blocks p ≡ (next.seen i).blocks p → HeldBy i p
@@ -294,13 +297,13 @@ module _ (commit : Commit) (old new : TreeState) (image next : SeenInodes) (st :
   held i p lt small some = elim (c.rest i lt) as (λ _. HeldBy i p) [
     | inr free ↦ absurd (some (free.blocks p small))
     | inl node ↦ elim (commit.concerns node.0) as (λ b. commit.concerns node.0 ≡ b → HeldBy i p) [
-      | false ↦ λ t. let a = c.stays node.0 i node.1 t in HeldBy.before (number_within node.0 i node.1) (ap (λ (seen : Seen). seen.blocks p) (sym a.1))
+      | false ↦ λ t. let a = c.stays node.0 i node.1 t in HeldBy.before (number_within commit old image st c.numbers node.0 i node.1) (ap (λ (seen : Seen). seen.blocks p) (sym a.1))
       | true ↦ λ t. by_block node.0 node.1 (c.blocks.has node.0 i p small node.1 t)
     ] refl
   ]
     where
       by_number : (x : ℕ) → commit.after x ≡ Some i → ComesBy commit image x i → (next.seen i).blocks p ≡ (seen_before commit image x).blocks p → HeldBy i p
-      by_number x is (had was) same = HeldBy.before (number_within x i is) (sym (same ∙ ap (λ (o : Option ℕ). (option_map_or image.seen o blank).blocks p) was))
+      by_number x is (had was) same = HeldBy.before (number_within commit old image st c.numbers x i is) (sym (same ∙ ap (λ (o : Option ℕ). (option_map_or image.seen o blank).blocks p) was))
       by_number x is (enters none _ _) same = absurd (some (same ∙ ap (λ (o : Option ℕ). (option_map_or image.seen o blank).blocks p) none))
 
       by_block : (x : ℕ) → commit.after x ≡ Some i → HasBlock commit i p (seen_before commit image x) (next.seen i) → HeldBy i p
@@ -320,8 +323,8 @@ module _ (commit : Commit) (old new : TreeState) (image next : SeenInodes) (st :
   pub stands_after : StandsForTree commit.after new next
   stands_after = record {
     root = m.root;
-    once = number_once;
-    within = λ x i is. subst (λ (n : ℕ). i < n) (sym c.count) (number_within x i is);
+    once = number_once commit old image st c.numbers;
+    within = λ x i is. subst (λ (n : ℕ). i < n) (sym c.count) (number_within commit old image st c.numbers x i is);
     named = m.named;
     each = shows_each;
     rest = c.rest;

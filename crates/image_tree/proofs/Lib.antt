@@ -1,5 +1,6 @@
 pub mod Basics
 pub mod Committed
+pub mod Elsewhere
 pub mod Faults
 pub mod Images
 pub mod Mounted

@@ -22,7 +22,7 @@ use Rattle.image_tree.proofs.Basics.{some_is, none_some, true_false}
 use Rattle.image_tree.proofs.SlotRows.{bytes_same, bytes_are, bytes_apart, count_slot}
 
 -- two numbers that may be there are one or not
-same_option : (a b : Option ℕ) → (a ≡ b) ⊎ (a ≢ b)
+pub same_option : (a b : Option ℕ) → (a ≡ b) ⊎ (a ≢ b)
 same_option None None = inl refl
 same_option None (Some b) = inr (λ e. none_some e)
 same_option (Some a) None = inr (λ e. none_some (sym e))

@@ -8,6 +8,7 @@ use Rattle.image_tree.specs.ImageTree.{Making, image_tree}
 use Rattle.image_tree.specs.Renamed.{Numbering, IsRenamed}
 use Rattle.image_tree.specs.Stands.{StandsForTree, IsStorable}
 use Rattle.image_tree.specs.Keeps.{KeepsRules}
+use Rattle.image_tree.specs.Elsewhere.{Elsewhere, commit_there, ConcernsItsChanges, AgreesBefore, FollowsThere}
 use Rattle.image_tree.specs.Mount.{ShowsByKind, StandsByItself}
 use Rattle.image_tree.specs.Rules.{BYTE_RULES, KeepsByteRules, inode_fault}
 use Rattle.image_tree.specs.Commit.{Commit, IsCommit, MayFollow}
@@ -42,3 +43,8 @@ RulesMakeStanding = (image : SeenInodes) (making : Making) → KeepsRules image 
 -- The first fault is none exactly where the rules hold, those on bytes being given.
 abbrev pub NoFaultIsRulesKept : Type 0
 NoFaultIsRulesKept = (image : SeenInodes) (breaks_byte_rule : ℕ → ℕ → Bool) → KeepsByteRules image → ((rule i : ℕ) → 1 ≤ rule → rule ≤ BYTE_RULES → i < image.count → breaks_byte_rule rule i ≡ false) → (inode_fault breaks_byte_rule image ≡ None) ↔ KeepsRules image
+
+-- A commit that was planned in one state is one in each other state that agrees with it on what it concerns.
+abbrev pub PlannedCommitsHoldElsewhere : Type 0
+PlannedCommitsHoldElsewhere = (commit : Commit) (old new : TreeState) (image next : SeenInodes) (there : Elsewhere) → StandsForTree commit.before old image → IsCommit commit old new image next → ConcernsItsChanges commit old new
+    → StandsForTree there.before there.old there.image → AgreesBefore commit old image there → FollowsThere commit new next there → IsCommit (commit_there commit there) there.old there.new there.image there.next

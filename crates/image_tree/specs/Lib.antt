@@ -1,4 +1,5 @@
 pub mod Commit
+pub mod Elsewhere
 pub mod ImageTree
 pub mod Keeps
 pub mod Laws

@@ -1,6 +1,6 @@
 // What is proved of the definitions: each function's contract is a law.
 ghost use Rattle.image_tree.specs.Laws.{RenamedTreesHaveOneShape, StandingImagesShow, CommitsKeepStanding};
-ghost use Rattle.image_tree.specs.Laws.{RulesMakeStanding, NoFaultIsRulesKept};
+ghost use Rattle.image_tree.specs.Laws.{RulesMakeStanding, NoFaultIsRulesKept, PlannedCommitsHoldElsewhere};
 
 /// A tree under other numbers is sound where the first is, and has its shape.
 pub fn renamed_trees_have_one_shape()
@@ -25,4 +25,9 @@ pub fn rules_make_standing()
 /// The first fault is none exactly where the rules hold.
 pub fn no_fault_is_rules_kept()
     ensures { NoFaultIsRulesKept }
+{}
+
+/// A commit that was planned in one state is one in each other that agrees with it on what it concerns.
+pub fn planned_commits_hold_elsewhere()
+    ensures { PlannedCommitsHoldElsewhere }
 {}
