@@ -185,17 +185,17 @@ module _ (old new : TreeState) (kinds : (x : ℕ) → kind_of new x ≡ kind_of 
 
   directories_alike : count_by (holds_directory old x) (entries old.rows) ≡ count_by (holds_directory new x) (entries new.rows)
   directories_alike = count_alike (holds_directory old x) (holds_directory new x) old.rows new.rows (λ k y is passes.
-    let here : k.0 ≡ x = eqb-true _ _ (both_true_first (nat_eq k.0 x) (is_directory old y) passes) in
-    (back_at new k y x here (rows k.1 ∙ at old k y x here is), ap (λ b. nat_eq k.0 x && b) (same_directory y) ∙ passes)) (λ k y is passes.
-    let here : k.0 ≡ x = eqb-true _ _ (both_true_first (nat_eq k.0 x) (is_directory new y) passes) in
-    (back_at old k y x here (sym (rows k.1) ∙ at new k y x here is), ap (λ b. nat_eq k.0 x && b) (sym (same_directory y)) ∙ passes))
+      let here : k.0 ≡ x = eqb-true _ _ (both_true_first (nat_eq k.0 x) (is_directory old y) passes) in
+      (back_at new k y x here (rows k.1 ∙ at old k y x here is), ap (λ b. nat_eq k.0 x && b) (same_directory y) ∙ passes)) (λ k y is passes.
+      let here : k.0 ≡ x = eqb-true _ _ (both_true_first (nat_eq k.0 x) (is_directory new y) passes) in
+      (back_at old k y x here (sym (rows k.1) ∙ at new k y x here is), ap (λ b. nat_eq k.0 x && b) (sym (same_directory y)) ∙ passes))
 
   naming_alike : count_of old.rows x ≡ count_of new.rows x
   naming_alike = count_alike (names_it x) (names_it x) old.rows new.rows (λ k y is passes.
-    let child : y ≡ x = eqb-true _ _ passes in
-    ((naming k.0 k.1).1 (is ∙ ap Some child) ∙ ap Some (sym child), passes)) (λ k y is passes.
-    let child : y ≡ x = eqb-true _ _ passes in
-    ((naming k.0 k.1).0 (is ∙ ap Some child) ∙ ap Some (sym child), passes))
+      let child : y ≡ x = eqb-true _ _ passes in
+      ((naming k.0 k.1).1 (is ∙ ap Some child) ∙ ap Some (sym child), passes)) (λ k y is passes.
+      let child : y ≡ x = eqb-true _ _ passes in
+      ((naming k.0 k.1).0 (is ∙ ap Some child) ∙ ap Some (sym child), passes))
 
   pub links_alike : links_of old x ≡ links_of new x
   links_alike =

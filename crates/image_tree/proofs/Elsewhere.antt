@@ -1,7 +1,6 @@
 -- A commit that was planned in one state is one in each other that agrees with it on what it concerns.
-use Rattle.std.proofs.Common.{◌≡◌, ◌≢◌, ℕ, ◌<◌, ◌≤◌, Bool, true, false, cond, List, [], ◌∷◌, map, Option, Some, None, option_map, ◌⊎◌, inl, inr, refl, sym, ap, subst, ◌∙◌, nat_eq}
-use borrow.Author.Tests.{eqb-true, eqb-false}
-use Rattle.std.specs.Prelude.{is_none, filter_map, All, ◌↔◌}
+use Rattle.std.proofs.Common.{◌≡◌, ℕ, ◌<◌, true, false, cond, List, [], ◌∷◌, map, Option, Some, None, option_map, ◌⊎◌, inl, inr, refl, sym, ap, subst, ◌∙◌}
+use Rattle.std.specs.Prelude.{is_none, All, ◌↔◌}
 use Rattle.std.specs.List.{cons_option}
 use Rattle.std.specs.List.Sorted.{IsStrictlySortedBy}
 use Rattle.std.specs.Option.{option_map_or}
@@ -10,7 +9,7 @@ use Rattle.std.specs.FinMap.{FinMap, get, same_map}
 use Rattle.std.proofs.lemmas.List.Elements.{All-nil, All-head, All-tail}
 use Rattle.sfs_tree.specs.NameRow.{number_of}
 use Rattle.sfs_tree.specs.Order.{name_cmp}
-use Rattle.sfs_tree.specs.Tree.{TreeState, row_of, kind_of, bytes_of, links_of, names_of}
+use Rattle.sfs_tree.specs.Tree.{TreeState, row_of, kind_of, links_of, names_of}
 use Rattle.sfs_tree.proofs.Joined.{name_cmp-IsAntisymmetric}
 use Rattle.sfs_tree.proofs.Names.{get-names_where}
 use Rattle.sfs_image.specs.Slot.{Row, kind_byte}
@@ -19,8 +18,8 @@ use Rattle.absorb.specs.declared.nets.NetRow.{NetRow}
 use Rattle.absorb.specs.Net.{IsNetRow, IsNet}
 use Rattle.image_tree.specs.Slots.{in_blocks}
 use Rattle.image_tree.specs.Renamed.{Numbering}
-use Rattle.image_tree.specs.Stands.{inode_under, row_on, size_of, IsUnused, StandsForTree}
-use Rattle.image_tree.specs.Commit.{net_row, row_after, slot_after, new_rows, filled, slots_after, Commit, blank, seen_before, IsBuilt, IsAside, HasBlock, hole, kept, fresh, ComesBy, had, enters, GivesNumbers, TakesBlocks, IsCommit}
+use Rattle.image_tree.specs.Stands.{row_on, IsUnused, StandsForTree}
+use Rattle.image_tree.specs.Commit.{net_row, row_after, slot_after, new_rows, filled, slots_after, Commit, blank, seen_before, IsBuilt, IsAside, HasBlock, hole, kept, fresh, ComesBy, had, enters, IsCommit}
 use Rattle.image_tree.specs.Elsewhere.{Elsewhere, commit_there, ConcernsItsChanges, AgreesBefore, IsTouched, FollowsThere}
 use Rattle.image_tree.specs.Laws.{PlannedCommitsHoldElsewhere}
 use Rattle.image_tree.proofs.Basics.{some_is, none_some, true_false}
@@ -73,10 +72,10 @@ module _ (commit : Commit) (old new : TreeState) (image next : SeenInodes) (ther
   nets_there x = elim (commit.concerns x) as (λ b. commit.concerns x ≡ b → IsNet (names_of x there.old.rows) (names_of x there.new.rows) (commit.nets x)) [
     | true ↦ λ t.
         subst (λ (rows : FinMap name_cmp ℕ). IsNet rows (names_of x there.new.rows) (commit.nets x)) (sym (same_names old there.old x (a.rows x t)))
-          (subst (λ (rows : FinMap name_cmp ℕ). IsNet (names_of x old.rows) rows (commit.nets x)) (sym (same_names new there.new x (f.nodes x t).0)) (c.nets x))
+        (subst (λ (rows : FinMap name_cmp ℕ). IsNet (names_of x old.rows) rows (commit.nets x)) (sym (same_names new there.new x (f.nodes x t).0)) (c.nets x))
     | false ↦ λ t.
         subst (IsNet (names_of x there.old.rows) (names_of x there.new.rows)) (sym (w.nets x t))
-          (subst (λ (rows : FinMap name_cmp ℕ). IsNet (names_of x there.old.rows) rows []) (sym (same_names there.old there.new x (f.other_nodes x t).0)) (no_net (names_of x there.old.rows)))
+        (subst (λ (rows : FinMap name_cmp ℕ). IsNet (names_of x there.old.rows) rows []) (sym (same_names there.old there.new x (f.other_nodes x t).0)) (no_net (names_of x there.old.rows)))
   ] refl
 
   -- a row that names a concerned node there, after the commit, is a planned one
@@ -144,13 +143,13 @@ module _ (commit : Commit) (old new : TreeState) (image next : SeenInodes) (ther
       let b = c.built x i planned concerned in
       let same = as_planned x i (within_there x i concerned planned) concerned (inr planned) in
       subst (IsBuilt (commit_there commit there) there.new x (seen_before (commit_there commit there) there.image x)) (sym same)
-        (subst (λ (s : Seen). IsBuilt (commit_there commit there) there.new x s (next.seen i)) (sym (before_there x concerned)) (record {
-          kind = b.kind ∙ ap kind_byte (sym (f.kinds x));
-          links = b.links ∙ links_there x concerned;
-          size = b.size;
-          bytes = b.bytes ∙ sym (f.nodes x concerned).1;
-          slots = b.slots ∙ ap in_blocks (sym (slots_alike commit.after there.after new there.new (names_of x old.rows) (names_of x new.rows) (after_there x) (commit.nets x) (c.nets x) (seen_before commit image x).slots));
-        }))
+      (subst (λ (s : Seen). IsBuilt (commit_there commit there) there.new x s (next.seen i)) (sym (before_there x concerned)) (record {
+        kind = b.kind ∙ ap kind_byte (sym (f.kinds x));
+        links = b.links ∙ links_there x concerned;
+        size = b.size;
+        bytes = b.bytes ∙ sym (f.nodes x concerned).1;
+        slots = b.slots ∙ ap in_blocks (sym (slots_alike commit.after there.after new there.new (names_of x old.rows) (names_of x new.rows) (after_there x) (commit.nets x) (c.nets x) (seen_before commit image x).slots));
+      }))
 
   comes_there : (x i : ℕ) → there.after x ≡ Some i → ComesBy (commit_there commit there) there.image x i
   comes_there x i is = elim (commit.concerns x) as (λ b. commit.concerns x ≡ b → ComesBy (commit_there commit there) there.image x i) [
@@ -204,11 +203,14 @@ module _ (commit : Commit) (old new : TreeState) (image next : SeenInodes) (ther
 
   stays_there : (x i : ℕ) → there.after x ≡ Some i → commit.concerns x ≡ false → (there.before x ≡ Some i) × (there.next.seen i ≡ there.image.seen i) × IsAside there.old there.new x
   stays_there x i is other =
-      let was = sym (f.other_numbers x other) ∙ is in
-      (was, elim (f.inodes i (su.within x i was)) as (λ _. there.next.seen i ≡ there.image.seen i) [
-        | inl touched ↦ absurd (untouched x i other was touched.0)
-        | inr apart ↦ apart.1
-      ], aside_there x other)
+      let was = sym (f.other_numbers x other) ∙ is in (
+        was,
+        elim (f.inodes i (su.within x i was)) as (λ _. there.next.seen i ≡ there.image.seen i) [
+          | inl touched ↦ absurd (untouched x i other was touched.0)
+          | inr apart ↦ apart.1
+        ],
+        aside_there x other,
+      )
 
   -- an inode that the commit plans for a concerned node, or leaves free
   abbrev Rests : ℕ → Type 0

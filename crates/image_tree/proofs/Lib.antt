@@ -3,6 +3,7 @@ pub mod Committed
 pub mod Elsewhere
 pub mod Faults
 pub mod Images
+pub mod LinkChanges
 pub mod Mounted
 pub mod NetRows
 pub mod Paired

@@ -63,7 +63,7 @@ module _ (earlier later : FinMap name_cmp ℕ) (net : List NetRow) (h : IsNet ea
   ]
 
 -- no name stands in a net twice
-pub HasNamesOnce : List NetRow → Type 0
+unfoldable pub HasNamesOnce : List NetRow → Type 0
 HasNamesOnce [] = Unit {0}
 HasNamesOnce (row ∷ rows) = (net_row row.name rows ≡ None) × HasNamesOnce rows
 

@@ -1,6 +1,6 @@
 -- The laws of what an image stands for, each of which a function of the module laws proves.
-use Rattle.std.specs.Prelude.{◌≡◌, ◌↔◌, ℕ, ◌<◌, ◌≤◌, Bool, false, None}
-use Rattle.sfs_tree.specs.Tree.{TreeState}
+use Rattle.std.specs.Prelude.{◌≡◌, ◌↔◌, ℕ, ◌+◌, ◌<◌, ◌≤◌, Bool, false, List, None}
+use Rattle.sfs_tree.specs.Tree.{TreeState, links_of}
 use Rattle.sfs_tree.specs.Sound.{IsSound}
 use Rattle.sfs_tree.specs.Shape.{shape_of}
 use Rattle.sfs_image.specs.Seen.{SeenInodes}
@@ -9,6 +9,8 @@ use Rattle.image_tree.specs.Renamed.{Numbering, IsRenamed}
 use Rattle.image_tree.specs.Stands.{StandsForTree, IsStorable}
 use Rattle.image_tree.specs.Keeps.{KeepsRules}
 use Rattle.image_tree.specs.Elsewhere.{Elsewhere, commit_there, ConcernsItsChanges, AgreesBefore, FollowsThere}
+use Rattle.absorb.specs.declared.nets.NetRow.{NetRow}
+use Rattle.image_tree.specs.LinkChanges.{gained, lost, linking, net_changes, AreAllNets}
 use Rattle.image_tree.specs.Mount.{ShowsByKind, StandsByItself}
 use Rattle.image_tree.specs.Rules.{BYTE_RULES, KeepsByteRules, inode_fault}
 use Rattle.image_tree.specs.Commit.{Commit, IsCommit, MayFollow}
@@ -48,3 +50,8 @@ NoFaultIsRulesKept = (image : SeenInodes) (breaks_byte_rule : ℕ → ℕ → Bo
 abbrev pub PlannedCommitsHoldElsewhere : Type 0
 PlannedCommitsHoldElsewhere = (commit : Commit) (old new : TreeState) (image next : SeenInodes) (there : Elsewhere) → StandsForTree commit.before old image → IsCommit commit old new image next → ConcernsItsChanges commit old new
     → StandsForTree there.before there.old there.image → AgreesBefore commit old image there → FollowsThere commit new next there → IsCommit (commit_there commit there) there.old there.new there.image there.next
+
+-- A node's link count in the later tree, with the rows that went, is that in the earlier one with the rows that came.
+abbrev pub NetsGiveLinks : Type 0
+NetsGiveLinks = (old new : TreeState) (nets : ℕ → List NetRow) (members : List ℕ) (node : ℕ) → AreAllNets old new nets members
+    → links_of new node + lost (linking new node) (net_changes nets members) ≡ links_of old node + gained (linking new node) (net_changes nets members)

@@ -3,6 +3,7 @@ pub mod Elsewhere
 pub mod ImageTree
 pub mod Keeps
 pub mod Laws
+pub mod LinkChanges
 pub mod Mount
 pub mod Renamed
 pub mod Rules

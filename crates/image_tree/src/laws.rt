@@ -1,6 +1,6 @@
 // What is proved of the definitions: each function's contract is a law.
 ghost use Rattle.image_tree.specs.Laws.{RenamedTreesHaveOneShape, StandingImagesShow, CommitsKeepStanding};
-ghost use Rattle.image_tree.specs.Laws.{RulesMakeStanding, NoFaultIsRulesKept, PlannedCommitsHoldElsewhere};
+ghost use Rattle.image_tree.specs.Laws.{RulesMakeStanding, NoFaultIsRulesKept, PlannedCommitsHoldElsewhere, NetsGiveLinks};
 
 /// A tree under other numbers is sound where the first is, and has its shape.
 pub fn renamed_trees_have_one_shape()
@@ -30,4 +30,9 @@ pub fn no_fault_is_rules_kept()
 /// A commit that was planned in one state is one in each other that agrees with it on what it concerns.
 pub fn planned_commits_hold_elsewhere()
     ensures { PlannedCommitsHoldElsewhere }
+{}
+
+/// Nets give each node's link count.
+pub fn nets_give_links()
+    ensures { NetsGiveLinks }
 {}

@@ -4,6 +4,6 @@
 mod laws;
 
 pub use laws::{
-    commits_keep_standing, no_fault_is_rules_kept, planned_commits_hold_elsewhere,
+    commits_keep_standing, nets_give_links, no_fault_is_rules_kept, planned_commits_hold_elsewhere,
     renamed_trees_have_one_shape, rules_make_standing, standing_images_show,
 };
