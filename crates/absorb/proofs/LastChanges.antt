@@ -18,8 +18,8 @@ use Rattle.sfs_tree.specs.declared.changes.Act.{Act}
 use Rattle.sfs_tree.specs.declared.changes.Act.TheVariants.{Add, Remove}
 use Rattle.sfs_tree.specs.declared.changes.Change.{Change}
 use Rattle.sfs_tree.proofs.RowsByName.{is_true, was_true}
-use Rattle.absorb.specs.Net.{with_act, rows_after, child_after}
-use Rattle.absorb.specs.Last.{last_of, lent, AreLast}
+use Rattle.absorb.specs.Net.{with_act, rows_with_changes, child_after}
+use Rattle.absorb.specs.Last.{last_change, lent, AreLast}
 
 -- what a map lends after an insertion
 pub lent-inserted : (entries : List (Bor (List ℕ) × Bor Change)) (name : Bor (List ℕ)) (change : Bor Change) → lent (insert_entry (λ x y. slice_cmp nat_cmp x.now y.now) entries name change) ≡ put name_cmp name.now change.now (lent entries)
@@ -32,7 +32,7 @@ lent-inserted (e ∷ es) name change =
     ]
 
 -- the last change of a name, once one more has come
-last_of-push : (name : List ℕ) (changes : List Change) (change : Change) → last_of name (changes ++ change ∷ []) ≡ cond (bytes_eq name change.name) (Some change) (last_of name changes)
+last_of-push : (name : List ℕ) (changes : List Change) (change : Change) → last_change name (changes ++ change ∷ []) ≡ cond (bytes_eq name change.name) (Some change) (last_change name changes)
 last_of-push name changes change = ap (find (λ c. bytes_eq name c.name)) (reverse-append changes (change ∷ []))
 
 -- one more change, put under its name, is the last of it
@@ -42,7 +42,7 @@ AreLast-push changes last change h = record {
   found = λ name.
       find-put name_cmp nat_list_cmp_total name change.name change last
       ∙ ap (cond (eq_by_cmp name_cmp name change.name) (Some change)) (h.found name)
-      ∙ ap (λ b. cond b (Some change) (last_of name changes)) (is_eq-slice_cmp name change.name)
+      ∙ ap (λ b. cond b (Some change) (last_change name changes)) (is_eq-slice_cmp name change.name)
       ∙ sym (last_of-push name changes change);
 }
 
@@ -63,17 +63,17 @@ joined change true before child = refl
 joined change false before child = refl
 
 -- the same of changes from the last to the first
-get-from_back : (back : List Change) (rows : FinMap name_cmp ℕ) (name : List ℕ) → get (rows_after rows (reverse back)) name ≡ left_by (find (λ c. bytes_eq name c.name) back) (get rows name)
+get-from_back : (back : List Change) (rows : FinMap name_cmp ℕ) (name : List ℕ) → get (rows_with_changes rows (reverse back)) name ≡ left_by (find (λ c. bytes_eq name c.name) back) (get rows name)
 get-from_back [] rows name = refl
 get-from_back (change ∷ back) rows name =
-    ap (λ l. get (rows_after rows l) name) (reverse-append (change ∷ []) back)
+    ap (λ l. get (rows_with_changes rows l) name) (reverse-append (change ∷ []) back)
     ∙ ap (λ m. get m name) (fold-append (λ (m : FinMap name_cmp ℕ) (c : Change). with_act c.act m c.name c.child.0) rows (reverse back) (change ∷ []))
-    ∙ get-with_act change.act (rows_after rows (reverse back)) change.name change.child name
+    ∙ get-with_act change.act (rows_with_changes rows (reverse back)) change.name change.child name
     ∙ ap (cond (bytes_eq name change.name) (number_of (child_after change.act change.child))) (get-from_back back rows name)
     ∙ joined change (bytes_eq name change.name) (find (λ c. bytes_eq name c.name) back) (get rows name)
 
 -- after some changes a name has the child that its last change leaves it, and its old one where it has none
-pub get-rows_after : (rows : FinMap name_cmp ℕ) (changes : List Change) (name : List ℕ) → get (rows_after rows changes) name ≡ left_by (last_of name changes) (get rows name)
+pub get-rows_after : (rows : FinMap name_cmp ℕ) (changes : List Change) (name : List ℕ) → get (rows_with_changes rows changes) name ≡ left_by (last_change name changes) (get rows name)
 get-rows_after rows changes name =
-    ap (λ l. get (rows_after rows l) name) (sym (reverse-reverse changes))
+    ap (λ l. get (rows_with_changes rows l) name) (sym (reverse-reverse changes))
     ∙ get-from_back (reverse changes) rows name

@@ -23,11 +23,11 @@ use Rattle.sfs_tree.proofs.RowsByName.{is_true}
 use Rattle.sfs_tree.proofs.Search.{both_first, both_second, is_less, not_found, below_if_tied}
 use borrow.Author.Tests.{eqb-true, eq-eqb}
 use Rattle.absorb.specs.declared.nets.NetRow.{NetRow}
-use Rattle.absorb.specs.Net.{rows_after, child_after, name_of, IsNetRow, IsNet}
-use Rattle.absorb.specs.Last.{last_of, lent, lent_row, AreLast, node_of, same_node, row_of, row_by}
+use Rattle.absorb.specs.Net.{rows_with_changes, child_after, net_name, IsNetRow, IsNet}
+use Rattle.absorb.specs.Last.{last_change, lent, lent_row, AreLast, node_id_of, same_node, net_row, net_row_by}
 use Rattle.absorb.proofs.LastChanges.{left_by, get-rows_after}
 
-pub number-of_node : (o : Option ℕ) → number_of (node_of o) ≡ o
+pub number-of_node : (o : Option ℕ) → number_of (node_id_of o) ≡ o
 number-of_node (Some number) = refl
 number-of_node None = refl
 
@@ -46,7 +46,7 @@ pub not_same : (a b : Option NodeId) → option_eq same_node a b ≡ false → a
 not_same a b e is = let both = sym e ∙ ap (option_eq same_node a) (sym is) ∙ same_itself a in absurd (cc)
 
 -- what holds with a name's row and without it, as its children differ or not, holds of what the name adds
-pub by_children : (P : List NetRow → Type 0) (name : List ℕ) (before after : Option NodeId) (rest : List NetRow) → (before ≡ after → P rest) → (before ≢ after → P (record { name = name; before = before; after = after } ∷ rest)) → P (cons_option (row_of name before after) rest)
+pub by_children : (P : List NetRow → Type 0) (name : List ℕ) (before after : Option NodeId) (rest : List NetRow) → (before ≡ after → P rest) → (before ≢ after → P (record { name = name; before = before; after = after } ∷ rest)) → P (cons_option (net_row name before after) rest)
 by_children P name before after rest f g =
     elim (option_eq same_node before after) as (λ b. option_eq same_node before after ≡ b → P (cons_option (if b then None else Some (record { name = name; before = before; after = after })) rest)) [
       | true ↦ λ e. f (same_child before after e)
@@ -81,59 +81,59 @@ told_rest later e es h = record {
 
 module _ (earlier later : FinMap name_cmp ℕ) where
   abbrev rows_by : List (List ℕ × Change) → List NetRow
-  rows_by = filter_map (λ e. row_by earlier e.1)
+  rows_by = filter_map (λ e. net_row_by earlier e.1)
 
   each_row : (last : List (List ℕ × Change)) → IsTold later last → All (IsNetRow earlier later) (rows_by last)
   each_row [] h = All-nil (IsNetRow earlier later)
   each_row (e ∷ es) h =
       let rest = each_row es (told_rest later e es h) in
       let found = first_found e es in
-      by_children (All (IsNetRow earlier later)) e.1.name (node_of (get earlier e.1.name)) (child_after e.1.act e.1.child) (rows_by es) (λ _. rest) (λ differ.
+      by_children (All (IsNetRow earlier later)) e.1.name (node_id_of (get earlier e.1.name)) (child_after e.1.act e.1.child) (rows_by es) (λ _. rest) (λ differ.
       All-cons (IsNetRow earlier later) _ _ (record {
         before = number-of_node (get earlier e.1.name);
         after = sym (h.leaves e.0 e.1 found) ∙ ap (get later) (sym (h.named e.0 e.1 found));
         differs = differ;
       }) rest)
 
-  names_behind : (name : List ℕ) (last : List (List ℕ × Change)) → T (below_all name_cmp name last) → IsTold later last → AllByRecursion (λ other. name_cmp name other ≡ Less) (map name_of (rows_by last))
+  names_behind : (name : List ℕ) (last : List (List ℕ × Change)) → T (below_all name_cmp name last) → IsTold later last → AllByRecursion (λ other. name_cmp name other ≡ Less) (map net_name (rows_by last))
   names_behind name [] below h = tt
   names_behind name (e ∷ es) below h =
       let rest = names_behind name es (both_second _ _ below) (told_rest later e es h) in
-      by_children (λ rows. AllByRecursion (λ other. name_cmp name other ≡ Less) (map name_of rows)) e.1.name (node_of (get earlier e.1.name)) (child_after e.1.act e.1.child) (rows_by es) (λ _. rest) (λ _.
+      by_children (λ rows. AllByRecursion (λ other. name_cmp name other ≡ Less) (map net_name rows)) e.1.name (node_id_of (get earlier e.1.name)) (child_after e.1.act e.1.child) (rows_by es) (λ _. rest) (λ _.
       (ap (name_cmp name) (h.named e.0 e.1 (first_found e es)) ∙ is_less _ (both_first _ _ below), rest))
 
-  names_ascend : (last : List (List ℕ × Change)) → IsTold later last → IsStrictlySortedBy name_cmp (map name_of (rows_by last))
+  names_ascend : (last : List (List ℕ × Change)) → IsTold later last → IsStrictlySortedBy name_cmp (map net_name (rows_by last))
   unfolding IsStrictlySortedBy
   names_ascend [] h = tt
   names_ascend (e ∷ es) h =
       let rest = names_ascend es (told_rest later e es h) in
       let below = subst (λ name. T (below_all name_cmp name es)) (sym (h.named e.0 e.1 (first_found e es))) (both_first _ _ h.sorted) in
-      by_children (λ rows. IsStrictlySortedBy name_cmp (map name_of rows)) e.1.name (node_of (get earlier e.1.name)) (child_after e.1.act e.1.child) (rows_by es) (λ _. rest) (λ _.
+      by_children (λ rows. IsStrictlySortedBy name_cmp (map net_name rows)) e.1.name (node_id_of (get earlier e.1.name)) (child_after e.1.act e.1.child) (rows_by es) (λ _. rest) (λ _.
       (names_behind e.1.name es below (told_rest later e es h), rest))
 
   first_in : (name : List ℕ) (names : List (List ℕ)) → Contains (name ∷ names) name
   first_in name names = (0, omega arith, refl)
 
   -- a change that leaves its name another child has its row
-  has_row : (name : List ℕ) (change : Change) (last : List (List ℕ × Change)) → IsTold later last → finmap.find name_cmp name last ≡ Some change → get earlier name ≢ get later name → Contains (map name_of (rows_by last)) name
+  has_row : (name : List ℕ) (change : Change) (last : List (List ℕ × Change)) → IsTold later last → finmap.find name_cmp name last ≡ Some change → get earlier name ≢ get later name → Contains (map net_name (rows_by last)) name
   has_row name change [] h is differ = absurd (cc)
   has_row name change (e ∷ es) h is differ =
-      elim (eq_by_cmp name_cmp name e.0) as (λ b. eq_by_cmp name_cmp name e.0 ≡ b → cond b (Some e.1) (finmap.find name_cmp name es) ≡ Some change → Contains (map name_of (rows_by (e ∷ es))) name) [
+      elim (eq_by_cmp name_cmp name e.0) as (λ b. eq_by_cmp name_cmp name e.0 ≡ b → cond b (Some e.1) (finmap.find name_cmp name es) ≡ Some change → Contains (map net_name (rows_by (e ∷ es))) name) [
         | true ↦ λ t _. here (name_cmp-IsAntisymmetric name e.0 (is_equal _ t) ∙ sym (h.named e.0 e.1 (first_found e es)))
         | false ↦ λ _ rest. behind (has_row name change es (told_rest later e es h) rest differ)
       ] refl is
     where
-      here : name ≡ e.1.name → Contains (map name_of (rows_by (e ∷ es))) name
+      here : name ≡ e.1.name → Contains (map net_name (rows_by (e ∷ es))) name
       here same =
           let found = first_found e es in
-          by_children (λ rows. Contains (map name_of rows) name) e.1.name (node_of (get earlier e.1.name)) (child_after e.1.act e.1.child) (rows_by es) (λ one.
+          by_children (λ rows. Contains (map net_name rows) name) e.1.name (node_id_of (get earlier e.1.name)) (child_after e.1.act e.1.child) (rows_by es) (λ one.
           absurd (differ (ap (get earlier) same ∙ sym (number-of_node _) ∙ ap number_of one ∙ sym (h.leaves e.0 e.1 found) ∙ ap (get later) (sym (h.named e.0 e.1 found)) ∙ ap (get later) (sym same)))) (λ _.
-          subst (λ n. Contains (e.1.name ∷ map name_of (rows_by es)) n) (sym same) (first_in e.1.name _))
+          subst (λ n. Contains (e.1.name ∷ map net_name (rows_by es)) n) (sym same) (first_in e.1.name _))
 
-      behind : Contains (map name_of (rows_by es)) name → Contains (map name_of (rows_by (e ∷ es))) name
+      behind : Contains (map net_name (rows_by es)) name → Contains (map net_name (rows_by (e ∷ es))) name
       behind has =
-          by_children (λ rows. Contains (map name_of rows) name) e.1.name (node_of (get earlier e.1.name)) (child_after e.1.act e.1.child) (rows_by es) (λ _. has) (λ _.
-          Contains-append_right (e.1.name ∷ []) (map name_of (rows_by es)) name has)
+          by_children (λ rows. Contains (map net_name rows) name) e.1.name (node_id_of (get earlier e.1.name)) (child_after e.1.act e.1.child) (rows_by es) (λ _. has) (λ _.
+          Contains-append_right (e.1.name ∷ []) (map net_name (rows_by es)) name has)
 
 -- a change that is found by a test passes it
 found_passes : (test : Change → Bool) (changes : List Change) (change : Change) → find test changes ≡ Some change → test change ≡ true
@@ -144,12 +144,12 @@ found_passes test (c ∷ cs) change is =
       | false ↦ λ _ found. found_passes test cs change found
     ] refl is
 
-last_has_name : (name : List ℕ) (changes : List Change) (change : Change) → last_of name changes ≡ Some change → change.name ≡ name
+last_has_name : (name : List ℕ) (changes : List Change) (change : Change) → last_change name changes ≡ Some change → change.name ≡ name
 last_has_name name changes change is =
     sym (name_cmp-IsAntisymmetric name change.name (is_equal _ (is_eq-slice_cmp name change.name ∙ found_passes (λ c. bytes_eq name c.name) _ change is)))
 
 -- what a change that is found in the last ones leaves
-told : (earlier : FinMap name_cmp ℕ) (changes : List Change) (last : List (List ℕ × Change)) → AreLast changes last → IsTold (rows_after earlier changes) last
+told : (earlier : FinMap name_cmp ℕ) (changes : List Change) (last : List (List ℕ × Change)) → AreLast changes last → IsTold (rows_with_changes earlier changes) last
 told earlier changes last h = record {
   sorted = is_true _ h.ascending;
   named = λ name change is. last_has_name name changes change (sym (h.found name) ∙ is);
@@ -157,23 +157,23 @@ told earlier changes last h = record {
 }
 
 -- the rows that the last changes make are the net of the rows before all changes and after them
-IsNet-from_last : (earlier : FinMap name_cmp ℕ) (changes : List Change) (last : List (List ℕ × Change)) → AreLast changes last → IsNet earlier (rows_after earlier changes) (filter_map (λ e. row_by earlier e.1) last)
+IsNet-from_last : (earlier : FinMap name_cmp ℕ) (changes : List Change) (last : List (List ℕ × Change)) → AreLast changes last → IsNet earlier (rows_with_changes earlier changes) (filter_map (λ e. net_row_by earlier e.1) last)
 IsNet-from_last earlier changes last h = record {
-  ascending = names_ascend earlier (rows_after earlier changes) last (told earlier changes last h);
-  each = each_row earlier (rows_after earlier changes) last (told earlier changes last h);
+  ascending = names_ascend earlier (rows_with_changes earlier changes) last (told earlier changes last h);
+  each = each_row earlier (rows_with_changes earlier changes) last (told earlier changes last h);
   complete = λ name differ. by_last name differ (finmap.find name_cmp name last) refl;
 }
   where
-    by_last : (name : List ℕ) → get earlier name ≢ get (rows_after earlier changes) name → (o : Option Change) → finmap.find name_cmp name last ≡ o → Contains (map name_of (filter_map (λ e. row_by earlier e.1) last)) name
-    by_last name differ (Some change) is = has_row earlier (rows_after earlier changes) name change last (told earlier changes last h) is differ
+    by_last : (name : List ℕ) → get earlier name ≢ get (rows_with_changes earlier changes) name → (o : Option Change) → finmap.find name_cmp name last ≡ o → Contains (map net_name (filter_map (λ e. net_row_by earlier e.1) last)) name
+    by_last name differ (Some change) is = has_row earlier (rows_with_changes earlier changes) name change last (told earlier changes last h) is differ
     by_last name differ None is = absurd (differ (sym (get-rows_after earlier changes name ∙ ap (λ o. left_by o (get earlier name)) (sym (h.found name) ∙ is))))
 
 -- what changes that are lent make
-rows-lent : (earlier : FinMap name_cmp ℕ) (entries : List (Bor (List ℕ) × Bor Change)) → filter_map (lent_row earlier) entries ≡ filter_map (λ e. row_by earlier e.1) (lent entries)
+rows-lent : (earlier : FinMap name_cmp ℕ) (entries : List (Bor (List ℕ) × Bor Change)) → filter_map (lent_row earlier) entries ≡ filter_map (λ e. net_row_by earlier e.1) (lent entries)
 rows-lent earlier [] = refl
-rows-lent earlier (e ∷ es) = ap (cons_option (row_by earlier e.1.now)) (rows-lent earlier es)
+rows-lent earlier (e ∷ es) = ap (cons_option (net_row_by earlier e.1.now)) (rows-lent earlier es)
 
 -- the same of last changes that are lent
-pub IsNet-from_lent : (earlier : FinMap name_cmp ℕ) (changes given : List Change) (entries : List (Bor (List ℕ) × Bor Change)) (net : List NetRow) → given ≡ changes → net ≡ filter_map (lent_row earlier) entries → AreLast given (lent entries) → IsNet earlier (rows_after earlier changes) net
+pub IsNet-from_lent : (earlier : FinMap name_cmp ℕ) (changes given : List Change) (entries : List (Bor (List ℕ) × Bor Change)) (net : List NetRow) → given ≡ changes → net ≡ filter_map (lent_row earlier) entries → AreLast given (lent entries) → IsNet earlier (rows_with_changes earlier changes) net
 IsNet-from_lent earlier changes given entries net same is h =
-    subst (IsNet earlier (rows_after earlier changes)) (sym (is ∙ rows-lent earlier entries)) (IsNet-from_last earlier changes (lent entries) (subst (λ cs. AreLast cs (lent entries)) same h))
+    subst (IsNet earlier (rows_with_changes earlier changes)) (sym (is ∙ rows-lent earlier entries)) (IsNet-from_last earlier changes (lent entries) (subst (λ cs. AreLast cs (lent entries)) same h))

@@ -16,8 +16,8 @@ with_act Add rows name child = insert rows name child
 with_act Remove rows name child = remove rows name
 
 -- rows with some changes made, one after the other
-abbrev pub rows_after : FinMap name_cmp ℕ → List Change → FinMap name_cmp ℕ
-rows_after = fold (λ rows change. with_act change.act rows change.name change.child.0)
+abbrev pub rows_with_changes : FinMap name_cmp ℕ → List Change → FinMap name_cmp ℕ
+rows_with_changes = fold (λ rows change. with_act change.act rows change.name change.child.0)
 
 -- the child that a name has after its change: that of an addition, and none after a removal
 abbrev pub child_after : Act → NodeId → Option NodeId
@@ -25,8 +25,8 @@ child_after Add child = Some child
 child_after Remove child = None
 
 -- the name of a row
-abbrev pub name_of : NetRow → List ℕ
-name_of row = row.name
+abbrev pub net_name : NetRow → List ℕ
+net_name row = row.name
 
 -- A row is right where its two children are those that its name has in the earlier and in the later rows, and they differ.
 pub record IsNetRow (earlier later : FinMap name_cmp ℕ) (row : NetRow) : Type 0 where
@@ -36,6 +36,6 @@ pub record IsNetRow (earlier later : FinMap name_cmp ℕ) (row : NetRow) : Type 
 
 -- The net of a directory's earlier and later rows: the names whose child differs or is there in one of them only, ascending by their bytes, each with both children.
 pub record IsNet (earlier later : FinMap name_cmp ℕ) (net : List NetRow) : Type 0 where
-  pub ascending : IsStrictlySortedBy name_cmp (map name_of net)
+  pub ascending : IsStrictlySortedBy name_cmp (map net_name net)
   pub each : All (IsNetRow earlier later) net
-  pub complete : (name : List ℕ) → get earlier name ≢ get later name → Contains (map name_of net) name
+  pub complete : (name : List ℕ) → get earlier name ≢ get later name → Contains (map net_name net) name

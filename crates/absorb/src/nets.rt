@@ -1,7 +1,7 @@
 // The rows are made from the last change of each name, in the order of the names.
 ghost use Rattle.std.specs.Prelude.{◌≡◌, ◌++◌, IfOk, OnOk, OnErr, filter_map, option_to_list};
-ghost use Rattle.absorb.specs.Net.{IsNet, rows_after, child_after};
-ghost use Rattle.absorb.specs.Last.{lent_row, row_by};
+ghost use Rattle.absorb.specs.Net.{IsNet, rows_with_changes, child_after};
+ghost use Rattle.absorb.specs.Last.{lent_row, net_row_by};
 
 use crate::last::{ByName, last_changes};
 use sfs_base::{Name, NoMemory, NodeId, RoomyList};
@@ -25,7 +25,7 @@ pub type Net = RoomyList<NetRow>;
 /// its name away, and does nothing where there is none. With n rows and m changes it takes time in
 /// m log m + m log n, and it copies the names that the net has. Only want of memory refuses it.
 pub fn net_of(alloc: Global, rows: &NameMap, changes: &Changes) -> Result<Net, NoMemory>
-    ensures { IfOk result (λ net. IsNet rows.now (rows_after rows.now changes.now.items) net.items) }
+    ensures { IfOk result (λ net. IsNet rows.now (rows_with_changes rows.now changes.now.items) net.items) }
 {
     let last = last_changes(alloc, changes.as_slice())?;
     let net = rows_of(alloc, rows, &last)?;
@@ -45,7 +45,7 @@ fn rows_of(alloc: Global, rows: &NameMap, last: &ByName<'_>) -> Result<Vec<NetRo
 
 // Puts the row of a name's last change behind the others, where it changes the name's child.
 fn push_row(net: &mut Vec<NetRow>, rows: &NameMap, change: &Change) -> Result<(), NoMemory>
-    ensures ok { OnOk result (net.new.items ≡ net.old.items ++ option_to_list (row_by rows.now change.now)) }
+    ensures ok { OnOk result (net.new.items ≡ net.old.items ++ option_to_list (net_row_by rows.now change.now)) }
     ensures err { OnErr result (net.new.items ≡ net.old.items) }
 {
     let before = rows.get(&change.name);

@@ -10,7 +10,7 @@ use Rattle.sfs_image.specs.Bytes.{zeros, number_from, u64_bytes}
 use Rattle.sfs_image.specs.Slot.{Row as SlotRow, slot_bytes, IsSlot}
 use Rattle.sfs_image.proofs.SlotLaws.{length-slot_bytes}
 use Rattle.sfs_image.proofs.BytesLaws.{number_from-u64_bytes, zeros-is}
-use Rattle.area_pair.specs.Rows.{slot_row, numbered_row, with_inode, mentions, place_of, numbered, IsBody}
+use Rattle.area_pair.specs.Rows.{slot_row, numbered_row, with_inode, mentions, place_of, by_mention, IsBody}
 use Rattle.area_pair.specs.declared.area.Row.{Row}
 
 -- what the slot of a place holds
@@ -84,9 +84,9 @@ none_written rows = record {
   fit = λ place lt. absurd (omega arith);
 }
 
--- what the slot of a row says once it is numbered
+-- what the slot of a row says once it is by_mention
 pub numbered_slot : (rows : List Row) (place : ℕ) (row : Row) (inode : ℕ) → place < length rows → row ≡ get_or rows place row → inode ≡ place_of row.node.0 (mentions rows) + 1
-    → option_map slot_row (slice_get (numbered rows) place) ≡ Some (numbered_row inode row)
+    → option_map slot_row (slice_get (by_mention rows) place) ≡ Some (numbered_row inode row)
 numbered_slot rows place row inode lt is number =
     ap (option_map slot_row) (slice_get-map (with_inode (mentions rows)) rows place ∙ ap (option_map (with_inode (mentions rows))) (slice_get-get_or rows place row lt ∙ ap (λ (r : Row). Some r) (sym is)))
     ∙ ap (λ (n : ℕ). Some (numbered_row n row)) (sym number)
@@ -101,5 +101,5 @@ put_here at n bytes body new long is =
     ∙ ap (λ (l : List ℕ). take at body ++ (bytes ++ l)) rest
     ∙ sym (append_assoc (take at body) bytes (drop (at + length bytes) body))
 
-pub length-numbered : (rows : List Row) → length (numbered rows) ≡ length rows
+pub length-numbered : (rows : List Row) → length (by_mention rows) ≡ length rows
 length-numbered rows = simp length-map refl

@@ -9,5 +9,4 @@ mod Opening
 pub mod ReadAgain
 pub mod Sound
 mod Standing
-mod Torn
 mod Writes

@@ -4,14 +4,14 @@ use Rattle.std.proofs.lemmas.List.{drop_more}
 use Rattle.std.proofs.lemmas.Bool.Decides.{nat_tests}
 use Rattle.std.specs.List.{list_any}
 use Rattle.sfs_image.specs.Bytes.{part}
-use Rattle.area_pair.specs.Rows.{row_in, clashes, with_row, rows_of_slots, place_of}
+use Rattle.area_pair.specs.Rows.{row_in, clashes, with_area_row, rows_of_slots, place_of}
 use Rattle.area_pair.specs.declared.area.Row.{Row}
 
 pub rows_of_slots-zero : (body : List ℕ) → rows_of_slots 0 body ≡ []
 unfolding rows_of_slots
 rows_of_slots-zero body = refl
 
-pub rows_of_slots-next : (place : ℕ) (body : List ℕ) → rows_of_slots (place + 1) body ≡ with_row (rows_of_slots place body) (row_in (part (264 * place) 264 body))
+pub rows_of_slots-next : (place : ℕ) (body : List ℕ) → rows_of_slots (place + 1) body ≡ with_area_row (rows_of_slots place body) (row_in (part (264 * place) 264 body))
 unfolding rows_of_slots
 rows_of_slots-next place body = rw add-one refl
 
@@ -31,8 +31,8 @@ place_of-next n numbers i d lt is =
     passed = grind (arith, nat_tests)
 
 -- a row that clashes is left out
-pub with_row-kept : (rows seen : List Row) (row : Row) (next : Option Row) → next ≡ Some row → seen ≡ rows → list_any (λ before. clashes before row) seen ≡ true → rows ≡ with_row rows next
+pub with_row-kept : (rows seen : List Row) (row : Row) (next : Option Row) → next ≡ Some row → seen ≡ rows → list_any (λ before. clashes before row) seen ≡ true → rows ≡ with_area_row rows next
 with_row-kept rows seen row next is same meets =
-    sym (ap (λ (o : Option Row). with_row rows o) is
+    sym (ap (λ (o : Option Row). with_area_row rows o) is
     ∙ ap (λ (l : List Row). cond (list_any (λ before. clashes before row) l) rows (rows ++ row ∷ [])) (sym same)
     ∙ ap (λ (b : Bool). cond b rows (rows ++ row ∷ [])) meets)

@@ -1,4 +1,4 @@
--- Rows that keep apart are read again from their body, numbered.
+-- Rows that keep apart are read again from their body, by_mention.
 use Rattle.std.proofs.Common.{◌≡◌, ◌≢◌, ◌⊎◌, inl, inr, ⊎_elim, ℕ, zero, suc, ◌+◌, ◌*◌, ◌<◌, ◌≤◌, ◌==◌, ◌&&◌, ◌||◌, eqb, eq-eqb, cond, ltb, Bool, true, false, bytes_eq, List, [], ◌∷◌, ◌++◌, length, take, map, fold, get_or, Option, Some, None, option_map, is_some, refl, sym, ◌∙◌, ap, subst, arith, add-one}
 use Rattle.std.proofs.lemmas.Bool.{cases_eq}
 use Rattle.std.proofs.lemmas.Bool.Decides.{nat_tests}
@@ -9,7 +9,7 @@ use Rattle.std.specs.List.{list_any}
 use Rattle.sfs_image.specs.Bytes.{part}
 use Rattle.sfs_image.specs.Slot.{slot_of, slot_bytes, IsSlot}
 use Rattle.sfs_image.proofs.SlotLaws.{slot_of-slot_bytes, slot_fault-slot_bytes}
-use Rattle.area_pair.specs.Rows.{row_named, row_in, is_directory, clashes, with_row, rows_of_slots, rows_of_body, with_number, mentions, place_of, with_inode, numbered, slot_row, IsBody, KeepsApart}
+use Rattle.area_pair.specs.Rows.{row_named, row_in, is_directory_row, clashes, with_area_row, rows_of_slots, rows_of_body, with_number, mentions, place_of, with_inode, by_mention, slot_row, IsBody, KeepsApart}
 use Rattle.area_pair.specs.declared.area.Row.{Row}
 use Rattle.area_pair.proofs.Numbering.{rows_of_slots-zero, rows_of_slots-next}
 use Rattle.area_pair.proofs.BodyWritten.{length-numbered}
@@ -127,7 +127,7 @@ either false y true d implies is = sym (ap (λ (b : Bool). b && d) (implies refl
 -- numbering makes no rows clash
 numbered_apart : (nodes : List ℕ) (before row : Row) → There before.node.0 nodes → clashes before row ≡ false → clashes (with_inode nodes before) (with_inode nodes row) ≡ false
 numbered_apart nodes before row there apart =
-    either (bytes_eq before.name row.name) (before.node.0 == row.node.0) (place_of before.node.0 nodes + 1 == place_of row.node.0 nodes + 1) (is_directory before.kind || is_directory row.kind)
+    either (bytes_eq before.name row.name) (before.node.0 == row.node.0) (place_of before.node.0 nodes + 1 == place_of row.node.0 nodes + 1) (is_directory_row before.kind || is_directory_row row.kind)
     same_node apart
   where
     same_node : (place_of before.node.0 nodes + 1 == place_of row.node.0 nodes + 1) ≡ true → (before.node.0 == row.node.0) ≡ true
@@ -135,8 +135,8 @@ numbered_apart nodes before row there apart =
         let places : place_of before.node.0 nodes ≡ place_of row.node.0 nodes = grind (arith, nat_tests) in
         eq-eqb before.node.0 row.node.0 (place_of-once before.node.0 row.node.0 nodes there places)
 
--- a row of numbered rows comes from a row
-numbered_from : (rows : List Row) (k : ℕ) (row : Row) → slice_get (numbered rows) k ≡ Some row → (was : Row) × (slice_get rows k ≡ Some was) × (row ≡ with_inode (mentions rows) was)
+-- a row of by_mention rows comes from a row
+numbered_from : (rows : List Row) (k : ℕ) (row : Row) → slice_get (by_mention rows) k ≡ Some row → (was : Row) × (slice_get rows k ≡ Some was) × (row ≡ with_inode (mentions rows) was)
 numbered_from rows k row is = by_case (slice_get rows k) refl
   where
     by_case : (o : Option Row) → slice_get rows k ≡ o → (was : Row) × (slice_get rows k ≡ Some was) × (row ≡ with_inode (mentions rows) was)
@@ -172,9 +172,9 @@ slice_get-take (suc n) [] k row is = absurd (cc is)
 slice_get-take (suc n) (r ∷ rows) zero row is = (omega arith, is)
 slice_get-take (suc n) (r ∷ rows) (suc k) row is = let rest = slice_get-take n rows k row is in (omega (arith, rest.0), rest.1)
 
-module _ (rows : List Row) (count : ℕ) (body : List ℕ) (few : length rows ≤ 15) (apart : KeepsApart rows) (is_body : IsBody (numbered rows) count body) where
+module _ (rows : List Row) (count : ℕ) (body : List ℕ) (few : length rows ≤ 15) (apart : KeepsApart rows) (is_body : IsBody (by_mention rows) count body) where
   -- the inodes are 1 to 15
-  inode_in_range : (k : ℕ) (row : Row) → slice_get (numbered rows) k ≡ Some row → (0 < row.node.0) × (row.node.0 ≤ 15)
+  inode_in_range : (k : ℕ) (row : Row) → slice_get (by_mention rows) k ≡ Some row → (0 < row.node.0) × (row.node.0 ≤ 15)
   inode_in_range k row is =
       let from = numbered_from rows k row is in
       let there = row_there rows k from.0 from.1 in
@@ -182,51 +182,51 @@ module _ (rows : List Row) (count : ℕ) (body : List ℕ) (few : length rows �
       let number : row.node.0 ≡ place_of from.0.node.0 (mentions rows) + 1 = ap (λ (r : Row). r.node.0) from.2 in
       (omega arith, omega arith)
 
-  still_apart : (i j : ℕ) (before row : Row) → i < j → slice_get (numbered rows) i ≡ Some before → slice_get (numbered rows) j ≡ Some row → clashes before row ≡ false
+  still_apart : (i j : ℕ) (before row : Row) → i < j → slice_get (by_mention rows) i ≡ Some before → slice_get (by_mention rows) j ≡ Some row → clashes before row ≡ false
   still_apart i j before row lt first second =
       let a = numbered_from rows i before first in
       let b = numbered_from rows j row second in
       ap (λ (r : Row). clashes r row) a.2 ∙ ap (λ (r : Row). clashes (with_inode (mentions rows) a.0) r) b.2
       ∙ numbered_apart (mentions rows) a.0 b.0 (row_there rows i a.0 a.1) (apart i j a.0 b.0 lt a.1 b.1)
 
-  next_row : (place : ℕ) → place < 15 → rows_of_slots place body ≡ take place (numbered rows) → rows_of_slots (place + 1) body ≡ take (place + 1) (numbered rows)
-  next_row place lt so_far = by_case (slice_get (numbered rows) place) refl
+  next_row : (place : ℕ) → place < 15 → rows_of_slots place body ≡ take place (by_mention rows) → rows_of_slots (place + 1) body ≡ take (place + 1) (by_mention rows)
+  next_row place lt so_far = by_case (slice_get (by_mention rows) place) refl
     where
-      stepped : rows_of_slots (place + 1) body ≡ with_row (take place (numbered rows)) (row_in (slot_bytes (option_map slot_row (slice_get (numbered rows) place))))
-      stepped = rows_of_slots-next place body ∙ ap (λ (l : List Row). with_row l (row_in (part (264 * place) 264 body))) so_far
-          ∙ ap (λ (slot : List ℕ). with_row (take place (numbered rows)) (row_in slot)) (is_body.slots place lt)
+      stepped : rows_of_slots (place + 1) body ≡ with_area_row (take place (by_mention rows)) (row_in (slot_bytes (option_map slot_row (slice_get (by_mention rows) place))))
+      stepped = rows_of_slots-next place body ∙ ap (λ (l : List Row). with_area_row l (row_in (part (264 * place) 264 body))) so_far
+          ∙ ap (λ (slot : List ℕ). with_area_row (take place (by_mention rows)) (row_in slot)) (is_body.slots place lt)
 
-      by_case : (o : Option Row) → slice_get (numbered rows) place ≡ o → rows_of_slots (place + 1) body ≡ take (place + 1) (numbered rows)
+      by_case : (o : Option Row) → slice_get (by_mention rows) place ≡ o → rows_of_slots (place + 1) body ≡ take (place + 1) (by_mention rows)
       by_case None none =
-          let past : length (numbered rows) ≤ place = past_end (numbered rows) place none in
-          stepped ∙ ap (λ (o : Option Row). with_row (take place (numbered rows)) (row_in (slot_bytes (option_map slot_row o)))) none
-          ∙ ap (λ (o : Option Row). with_row (take place (numbered rows)) o) none_again
-          ∙ take_all place (numbered rows) past ∙ sym (take_all (place + 1) (numbered rows) (omega arith))
+          let past : length (by_mention rows) ≤ place = past_end (by_mention rows) place none in
+          stepped ∙ ap (λ (o : Option Row). with_area_row (take place (by_mention rows)) (row_in (slot_bytes (option_map slot_row o)))) none
+          ∙ ap (λ (o : Option Row). with_area_row (take place (by_mention rows)) o) none_again
+          ∙ take_all place (by_mention rows) past ∙ sym (take_all (place + 1) (by_mention rows) (omega arith))
         where
           past_end : (l : List Row) (k : ℕ) → slice_get l k ≡ None → length l ≤ k
           past_end [] k is = omega arith
           past_end (r ∷ l) zero is = absurd (cc is)
           past_end (r ∷ l) (suc k) is = omega (arith, past_end l k is)
       by_case (Some row) some =
-          let inside : place < length (numbered rows) = slice_get_within (numbered rows) place row some in
+          let inside : place < length (by_mention rows) = slice_get_within (by_mention rows) place row some in
           let range = inode_in_range place row some in
           let fits : IsSlot (Some (slot_row row)) = subst (λ (o : Option Row). IsSlot (option_map slot_row o)) some (is_body.fit place lt) in
-          let free : list_any (λ before. clashes before row) (take place (numbered rows)) ≡ false =
-          none_clash row (take place (numbered rows)) (λ k before is. let at = slice_get-take place (numbered rows) k before is in still_apart k place before row at.0 at.1 some) in
-          let same : Some (get_or (numbered rows) place row) ≡ Some row = sym (slice_get-get_or (numbered rows) place row inside) ∙ some in
-          let here : get_or (numbered rows) place row ≡ row = cc same in
-          stepped ∙ ap (λ (o : Option Row). with_row (take place (numbered rows)) (row_in (slot_bytes (option_map slot_row o)))) some
-          ∙ ap (λ (o : Option Row). with_row (take place (numbered rows)) o) (row_again row fits range.0 range.1)
-          ∙ ap (λ (b : Bool). cond b (take place (numbered rows)) (take place (numbered rows) ++ row ∷ [])) free
-          ∙ ap (λ (r : Row). take place (numbered rows) ++ r ∷ []) (sym here)
-          ∙ sym (take_more (numbered rows) place row inside)
+          let free : list_any (λ before. clashes before row) (take place (by_mention rows)) ≡ false =
+          none_clash row (take place (by_mention rows)) (λ k before is. let at = slice_get-take place (by_mention rows) k before is in still_apart k place before row at.0 at.1 some) in
+          let same : Some (get_or (by_mention rows) place row) ≡ Some row = sym (slice_get-get_or (by_mention rows) place row inside) ∙ some in
+          let here : get_or (by_mention rows) place row ≡ row = cc same in
+          stepped ∙ ap (λ (o : Option Row). with_area_row (take place (by_mention rows)) (row_in (slot_bytes (option_map slot_row o)))) some
+          ∙ ap (λ (o : Option Row). with_area_row (take place (by_mention rows)) o) (row_again row fits range.0 range.1)
+          ∙ ap (λ (b : Bool). cond b (take place (by_mention rows)) (take place (by_mention rows) ++ row ∷ [])) free
+          ∙ ap (λ (r : Row). take place (by_mention rows) ++ r ∷ []) (sym here)
+          ∙ sym (take_more (by_mention rows) place row inside)
 
-  rows_so_far : (place : ℕ) → place ≤ 15 → rows_of_slots place body ≡ take place (numbered rows)
+  rows_so_far : (place : ℕ) → place ≤ 15 → rows_of_slots place body ≡ take place (by_mention rows)
   rows_so_far zero le = rows_of_slots-zero body
   rows_so_far (suc place) le =
       let next = next_row place (omega arith) (rows_so_far place (omega arith)) in
       rw add-one at next
 
-  pub rows_again : rows_of_body body ≡ numbered rows
+  pub rows_again : rows_of_body body ≡ by_mention rows
   unfolding rows_of_body
-  rows_again = rows_so_far 15 (omega arith) ∙ take_all 15 (numbered rows) (omega (arith, length-numbered rows))
+  rows_again = rows_so_far 15 (omega arith) ∙ take_all 15 (by_mention rows) (omega (arith, length-numbered rows))

@@ -8,7 +8,7 @@ use Rattle.sfs_image.specs.Bytes.{part}
 use Rattle.sfs_image.specs.Slot.{Row as SlotRow, slot_of, slot_fault}
 use Rattle.area_pair.specs.declared.area.Row.{Row}
 use Rattle.area_pair.specs.Area.{body_of, current_of}
-use Rattle.area_pair.specs.Rows.{row_named, row_in, clashes, with_row, rows_of_slots, rows_of_body, KeepsApart, rows_of, rows_in_area}
+use Rattle.area_pair.specs.Rows.{row_named, row_in, clashes, with_area_row, rows_of_slots, rows_of_body, KeepsApart, rows_of, rows_in_area}
 use Rattle.area_pair.specs.Seen.{body_seen, rows_seen}
 use Rattle.area_pair.specs.declared.area.Area.{Area}
 use Rattle.area_pair.specs.declared.open.Seen.{Seen}
@@ -88,7 +88,7 @@ row_in_inode slot row e = elim (is_some (slot_fault slot)) as (λ b. cond b None
   | false ↦ λ f. named_inode (slot_of slot) row f
 ] e
 
-with_row_sound : (most : ℕ) (rows : List Row) (row : Option Row) → ((r : Row) → row ≡ Some r → HasInode r) → AreRootsOf most rows → AreRootsOf (suc most) (with_row rows row)
+with_row_sound : (most : ℕ) (rows : List Row) (row : Option Row) → ((r : Row) → row ≡ Some r → HasInode r) → AreRootsOf most rows → AreRootsOf (suc most) (with_area_row rows row)
 with_row_sound most rows None inode h = record { few = let a = h.few in omega arith; apart = h.apart; inodes = h.inodes }
 with_row_sound most rows (Some row) inode h =
     elim (list_any (λ before. clashes before row) rows) as (λ b. list_any (λ before. clashes before row) rows ≡ b → AreRootsOf (suc most) (cond b rows (rows ++ row ∷ []))) [

@@ -1,7 +1,7 @@
 -- For which rows an image stands, by its gates and bodies.
 use Rattle.std.proofs.Common.{◌≡◌, ℕ, ◌+◌, ◌%◌, ◌^◌, ◌<◌, eqb, eq-eqb, cond, Bool, true, false, List, [], Option, Some, None, refl, sym, ◌∙◌, ap, arith}
 use Rattle.std.proofs.lemmas.Bool.Decides.{nat_tests}
-use Rattle.area_pair.specs.Area.{other, is_open, body_of, count_of, chosen, current_of}
+use Rattle.area_pair.specs.Area.{other, is_open, body_of, area_count, chosen, current_of}
 use Rattle.area_pair.specs.Rows.{rows_in_area, rows_of, rows_of_body}
 use Rattle.area_pair.specs.Settled.{StandsFor}
 use Rattle.area_pair.specs.declared.area.Area.{Area}
@@ -12,7 +12,7 @@ use Rattle.area_pair.specs.declared.area.Row.{Row}
 pub record Lies (area : Area) (count : ℕ) (rows : List Row) (image : List ℕ) : Type 0 where
   pub is_in : is_open area image ≡ true
   pub not_in : is_open (other area) image ≡ false
-  pub count_is : count_of (body_of area image) ≡ count
+  pub count_is : area_count (body_of area image) ≡ count
   pub rows_are : rows_of_body (body_of area image) ≡ rows
 
 pub record LiesNowhere (rows : List Row) (image : List ℕ) : Type 0 where
@@ -21,7 +21,7 @@ pub record LiesNowhere (rows : List Row) (image : List ℕ) : Type 0 where
   pub rows_are : rows ≡ []
 
 abbrev counts : List ℕ → Area → ℕ
-counts image area = count_of (body_of area image)
+counts image area = area_count (body_of area image)
 
 chosen_by : (image : List ℕ) (first second : Bool) → is_open First image ≡ first → is_open Second image ≡ second → current_of image ≡ chosen first second (counts image First) (counts image Second)
 chosen_by image first second a b =
@@ -41,8 +41,8 @@ differs : (first second : ℕ) → first ≡ (second + 1) % 2 ^ 64 → second < 
 differs first second is fits = grind (arith, nat_tests)
 
 -- both gates open: the one with the next count
-pub current_both : (area : Area) (image : List ℕ) → is_open area image ≡ true → is_open (other area) image ≡ true → count_of (body_of area image) < 2 ^ 64
-    → count_of (body_of (other area) image) ≡ (count_of (body_of area image) + 1) % 2 ^ 64 → current_of image ≡ Some (other area)
+pub current_both : (area : Area) (image : List ℕ) → is_open area image ≡ true → is_open (other area) image ≡ true → area_count (body_of area image) < 2 ^ 64
+    → area_count (body_of (other area) image) ≡ (area_count (body_of area image) + 1) % 2 ^ 64 → current_of image ≡ Some (other area)
 current_both First image a b fits next =
     let test : eqb (counts image Second) ((counts image First + 1) % 2 ^ 64) ≡ true = eq-eqb _ _ next in
     chosen_by image true true a b ∙ ap (λ (t : Bool). cond t (Some Second) (Some First)) test

@@ -2,7 +2,7 @@
 use Rattle.std.proofs.Common.{◌≡◌, ◌⊎◌, inl, inr, ⊎_elim, ℕ, ◌+◌, ◌%◌, ◌^◌, ◌<◌, ◌≤◌, ◌==◌, Bool, true, false, List, [], ◌∷◌, length, slice_index, Option, Some, None, IfSome, refl, sym, ◌∙◌, ap, subst, arith}
 use Rattle.sfs_dev.specs.Ranges.{part, put, SameOutside}
 use Rattle.sfs_dev.specs.RangeLaws.{SameOutside-put, part-put}
-use Rattle.area_pair.specs.Area.{gate_at, body_at, other, is_open, body_of, count_of, current_of, next_of}
+use Rattle.area_pair.specs.Area.{gate_at, body_at, other, is_open, body_of, area_count, current_of, next_of}
 use Rattle.area_pair.specs.Rows.{rows_of, rows_of_body}
 use Rattle.area_pair.specs.Settled.{StandsFor}
 use Rattle.area_pair.specs.declared.area.Area.{Area}
@@ -47,7 +47,7 @@ body_torn (Some c) rows was image stand same =
     stands c.area c.count rows image (record {
       is_in = body_write_keeps_gate target c.area was image same ∙ old.is_in;
       not_in = body_write_keeps_gate target target was image same ∙ old.not_in;
-      count_is = ap count_of body ∙ old.count_is;
+      count_is = ap area_count body ∙ old.count_is;
       rows_are = ap rows_of_body body ∙ old.rows_are;
     })
 
@@ -55,10 +55,10 @@ body_torn (Some c) rows was image stand same =
 pub record Sealed (current : Option Current) (old new : List Row) (image : List ℕ) : Type 0 where
   pub size : 16384 ≤ length image
   pub stand : StandsFor current old image
-  pub count_is : count_of (body_of (next_of current).area image) ≡ (next_of current).count
+  pub count_is : area_count (body_of (next_of current).area image) ≡ (next_of current).count
   pub rows_are : rows_of_body (body_of (next_of current).area image) ≡ new
 
-pub sealed : (current : Option Current) (old new : List Row) (body was : List ℕ) → 16384 ≤ length was → length body ≡ 4096 → StandsFor current old was → count_of body ≡ (next_of current).count → rows_of_body body ≡ new
+pub sealed : (current : Option Current) (old new : List Row) (body was : List ℕ) → 16384 ≤ length was → length body ≡ 4096 → StandsFor current old was → area_count body ≡ (next_of current).count → rows_of_body body ≡ new
     → Sealed current old new (put (body_at (next_of current).area) body was)
 sealed current old new body was four size stand count_is rows_are =
     let area = (next_of current).area in
@@ -70,7 +70,7 @@ sealed current old new body was four size stand count_is rows_are =
     record {
       size = omega (arith, outside.size);
       stand = body_torn current old was image stand same;
-      count_is = ap count_of holds ∙ count_is;
+      count_is = ap area_count holds ∙ count_is;
       rows_are = ap rows_of_body holds ∙ rows_are;
     }
 
@@ -78,9 +78,9 @@ sealed current old new body was four size stand count_is rows_are =
 pub record Opened (current : Option Current) (new : List Row) (image : List ℕ) : Type 0 where
   pub size : 16384 ≤ length image
   pub is_in : is_open (next_of current).area image ≡ true
-  pub count_is : count_of (body_of (next_of current).area image) ≡ (next_of current).count
+  pub count_is : area_count (body_of (next_of current).area image) ≡ (next_of current).count
   pub rows_are : rows_of_body (body_of (next_of current).area image) ≡ new
-  pub before : IfSome current (λ c. (is_open c.area image ≡ true) × (count_of (body_of c.area image) ≡ c.count) × (c.count < 2 ^ 64))
+  pub before : IfSome current (λ c. (is_open c.area image ≡ true) × (area_count (body_of c.area image) ≡ c.count) × (c.count < 2 ^ 64))
   pub alone : current ≡ None → is_open Second image ≡ false
 
 -- a gate is opened, by a write that may be torn: then either the old rows stand or the new
@@ -94,7 +94,7 @@ opened_or_not None old new was image fits seal four same =
     (λ is_in. inr (record {
       size = four;
       is_in = is_in;
-      count_is = ap count_of body ∙ seal.count_is;
+      count_is = ap area_count body ∙ seal.count_is;
       rows_are = ap rows_of_body body ∙ seal.rows_are;
       before = tt;
       alone = λ _. shut;
@@ -107,12 +107,12 @@ opened_or_not (Some c) old new was image fits seal four same =
     let is_in : is_open c.area image ≡ true = subst (λ (a : Area). is_open a image ≡ is_open a was) (other-other c.area) (gate_write_keeps_gate target was image same) ∙ old_lies.is_in in
     let body = gate_write_keeps_body target target was image same in
     let old_body = gate_write_keeps_body target c.area was image same in
-    let count_kept : count_of (body_of c.area image) ≡ c.count = ap count_of old_body ∙ old_lies.count_is in
+    let count_kept : area_count (body_of c.area image) ≡ c.count = ap area_count old_body ∙ old_lies.count_is in
     ⊎_elim
     (λ is_open_now. inr (record {
       size = four;
       is_in = is_open_now;
-      count_is = ap count_of body ∙ seal.count_is;
+      count_is = ap area_count body ∙ seal.count_is;
       rows_are = ap rows_of_body body ∙ seal.rows_are;
       before = (is_in, count_kept, fits);
       alone = λ none. cc none;
@@ -144,8 +144,8 @@ opened_rows None new image now =
     let is = current_one First image now.is_in (now.alone refl) in
     (is, rows_by image (Some First) is ∙ now.rows_are)
 opened_rows (Some c) new image now =
-    let count_fits : count_of (body_of c.area image) < 2 ^ 64 = omega (arith, now.before.1, now.before.2) in
-    let next : count_of (body_of (other c.area) image) ≡ (count_of (body_of c.area image) + 1) % 2 ^ 64 = now.count_is ∙ ap (λ (n : ℕ). (n + 1) % 2 ^ 64) (sym now.before.1) in
+    let count_fits : area_count (body_of c.area image) < 2 ^ 64 = omega (arith, now.before.1, now.before.2) in
+    let next : area_count (body_of (other c.area) image) ≡ (area_count (body_of c.area image) + 1) % 2 ^ 64 = now.count_is ∙ ap (λ (n : ℕ). (n + 1) % 2 ^ 64) (sym now.before.1) in
     let is = current_both c.area image now.before.0 now.is_in count_fits next in
     (is, rows_by image (Some (other c.area)) is ∙ now.rows_are)
 
@@ -161,9 +161,9 @@ closing_torn c new was image now same =
     (λ both. (opened_rows (Some c) new image (record {
       size = size;
       is_in = is_in;
-      count_is = ap count_of body ∙ now.count_is;
+      count_is = ap area_count body ∙ now.count_is;
       rows_are = ap rows_of_body body ∙ now.rows_are;
-      before = (both, ap count_of old_body ∙ now.before.1, now.before.2);
+      before = (both, ap area_count old_body ∙ now.before.1, now.before.2);
       alone = λ none. cc none;
     })).1)
     (λ shut.
@@ -181,7 +181,7 @@ closed c new was now =
     stands target (next_of (Some c)).count new image (record {
       is_in = gate_write_keeps_gate c.area was image same ∙ now.is_in;
       not_in = ap (λ (a : Area). is_open a image) (other-other c.area) ∙ open_put c.area 0 was now.size;
-      count_is = ap count_of body ∙ now.count_is;
+      count_is = ap area_count body ∙ now.count_is;
       rows_are = ap rows_of_body body ∙ now.rows_are;
     })
 
@@ -212,15 +212,15 @@ settling_torn area was image is both same =
     rows_by image (Some area) current ∙ ap rows_of_body body ∙ sym (rows_by was (Some area) is)
 
 pub settled_by_closing : (area : Area) (was : List ℕ) → 16384 ≤ length was → current_of was ≡ Some area → is_open (other area) was ≡ true
-    → StandsFor (Some (record { area = area; count = count_of (body_of area was) })) (rows_of was) (put (gate_at (other area)) (0 ∷ []) was)
+    → StandsFor (Some (record { area = area; count = area_count (body_of area was) })) (rows_of was) (put (gate_at (other area)) (0 ∷ []) was)
 settled_by_closing area was four is both =
     let image = put (gate_at (other area)) (0 ∷ []) was in
     let same = same_by_gate (other area) 0 was four in
     let is_in : is_open area image ≡ is_open area was = subst (λ (a : Area). is_open a image ≡ is_open a was) (other-other area) (gate_write_keeps_gate (other area) was image same) in
     let body = gate_write_keeps_body (other area) area was image same in
-    stands area (count_of (body_of area was)) (rows_of was) image (record {
+    stands area (area_count (body_of area was)) (rows_of was) image (record {
       is_in = is_in ∙ both_open area was is both;
       not_in = open_put (other area) 0 was four;
-      count_is = ap count_of body;
+      count_is = ap area_count body;
       rows_are = ap rows_of_body body ∙ sym (rows_by was (Some area) is);
     })

@@ -29,8 +29,8 @@ abbrev pub body_of : Area → List ℕ → List ℕ
 body_of area image = part (body_at area) 4096 image
 
 -- the count in a body
-abbrev pub count_of : List ℕ → ℕ
-count_of body = u64_at 3960 body
+abbrev pub area_count : List ℕ → ℕ
+area_count body = u64_at 3960 body
 
 -- the area that holds the rows, by whether each gate is open and by the counts: the one that is open, or none; where both are,
 -- the one whose count is the other's plus 1 modulo 2 ^ 64, and the first where neither's is
@@ -42,7 +42,7 @@ chosen true true first second = if second == (first + 1) % 2 ^ 64 then Some Seco
 
 -- the area that holds the rows of an image
 abbrev pub current_of : List ℕ → Option Area
-current_of image = chosen (is_open First image) (is_open Second image) (count_of (body_of First image)) (count_of (body_of Second image))
+current_of image = chosen (is_open First image) (is_open Second image) (area_count (body_of First image)) (area_count (body_of Second image))
 
 -- the area of a current one, where there is one
 abbrev pub area_of : Option Current → Option Area

@@ -1,6 +1,6 @@
 -- What was read of the two areas, and what follows from it.
 use Rattle.std.specs.Prelude.{◌≡◌, ℕ, Bool, List, [], Option, Some, None, if◌then◌else◌}
-use Rattle.area_pair.specs.Area.{other, is_open, body_of, count_of, chosen}
+use Rattle.area_pair.specs.Area.{other, is_open, body_of, area_count, chosen}
 use Rattle.area_pair.specs.Rows.{rows_of_body}
 use Rattle.area_pair.specs.declared.area.Area.{Area}
 use Rattle.area_pair.specs.declared.area.Area.TheVariants.{First, Second}
@@ -27,10 +27,10 @@ open_seen seen Second = seen.second_open
 -- the current area with its count, by what was read
 abbrev pub with_count : Seen → Option Area → Option Current
 with_count seen None = None
-with_count seen (Some area) = Some (record { area = area; count = count_of (body_seen seen area) })
+with_count seen (Some area) = Some (record { area = area; count = area_count (body_seen seen area) })
 
 abbrev pub current_seen : Seen → Option Current
-current_seen seen = with_count seen (chosen seen.first_open seen.second_open (count_of seen.first) (count_of seen.second))
+current_seen seen = with_count seen (chosen seen.first_open seen.second_open (area_count seen.first) (area_count seen.second))
 
 -- the other area than the current one, where its gate is open too
 abbrev pub stale_seen : Seen → Option Area → Option Area

@@ -4,8 +4,8 @@ ghost use Rattle.std.specs.List.{list_any};
 ghost use Rattle.sfs_dev.specs.Ranges.{put};
 ghost use Rattle.sfs_image.specs.Bytes.{u64_bytes};
 ghost use Rattle.sfs_image.specs.Slot.{kind_byte as byte_of_kind, slot_bytes, IsSlot};
-ghost use Rattle.area_pair.specs.Area.{count_of};
-ghost use Rattle.area_pair.specs.Rows.{row_named, row_in, is_directory, clashes, with_row, rows_of_body, with_number, mentions, place_of, numbered, numbered_row, IsBody};
+ghost use Rattle.area_pair.specs.Area.{area_count};
+ghost use Rattle.area_pair.specs.Rows.{row_named, row_in, is_directory_row, clashes, with_area_row, rows_of_body, with_number, mentions, place_of, by_mention, numbered_row, IsBody};
 
 use crate::Row;
 use byteorder::{ByteOrder, LittleEndian};
@@ -28,7 +28,7 @@ const COUNT_AT: usize = 3960;
 
 // The count in a body.
 pub fn count_in(body: &[u8; BODY_BYTES]) -> u64
-    ensures { result ≡ count_of body.now }
+    ensures { result ≡ area_count body.now }
 {
     LittleEndian::read_u64(&body[COUNT_AT..COUNT_AT + 8])
 }
@@ -48,7 +48,7 @@ pub fn rows_in(alloc: Global, body: &[u8; BODY_BYTES]) -> Result<Vec<Row>, NoMem
 
 // Adds a row, unless it clashes with one of those that are there.
 fn add_row(rows: &mut Vec<Row>, row: Option<Row>) -> Result<(), NoMemory>
-    ensures { OnOk result (rows.new.items ≡ with_row rows.old.items row) }
+    ensures { OnOk result (rows.new.items ≡ with_area_row rows.old.items row) }
 {
     let Some(row) = row else {
         return Ok(());
@@ -101,11 +101,11 @@ fn clashes(before: &Row, row: &Row) -> bool
     ensures { result ≡ clashes before.now row.now }
 {
     before.name.bytes() == row.name.bytes()
-        || (before.node.0 == row.node.0 && (is_directory(before.kind) || is_directory(row.kind)))
+        || (before.node.0 == row.node.0 && (is_directory_row(before.kind) || is_directory_row(row.kind)))
 }
 
-fn is_directory(kind: Kind) -> bool
-    ensures { result ≡ is_directory kind }
+fn is_directory_row(kind: Kind) -> bool
+    ensures { result ≡ is_directory_row kind }
 {
     match kind {
         Kind::File => false,
@@ -116,7 +116,7 @@ fn is_directory(kind: Kind) -> bool
 // A body with these rows, each in the slot of its place, and this count.
 pub fn body_with(rows: &[Row], count: u64) -> [u8; BODY_BYTES]
     requires { length rows.now ≤ 15 }
-    ensures { IsBody (numbered rows.now) count result }
+    ensures { IsBody (by_mention rows.now) count result }
 {
     let (nodes, known) = nodes_of(rows);
     let mut body = [0; BODY_BYTES];

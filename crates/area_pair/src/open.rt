@@ -1,14 +1,14 @@
 ghost use Rattle.std.specs.Prelude.{◌≡◌, ◌≤◌, ◌^◌, ◌-◌, ◌<◌, List, ℕ, IsSome, IfOk, IfErr, OnOk, OnErr};
-ghost use Rattle.sfs_base.specs.Ends.{Rose};
+ghost use Rattle.sfs_base.specs.Ends.{HasCause};
 ghost use Rattle.sfs_dev.specs.Disk.{images, OnlyTold};
-ghost use Rattle.sfs_dev.specs.Run.{CountsOn, GoesOn, EachMoment, Rests};
+ghost use Rattle.sfs_dev.specs.Run.{CountsOn, Advances, EachMoment, Unwritten};
 ghost use Rattle.area_pair.specs.Area.{chosen, area_of};
-ghost use Rattle.area_pair.specs.Put.{IsTold, TellsAlike};
+ghost use Rattle.sfs_dev.specs.Steps.{IfTold, TellsAlike};
 ghost use Rattle.area_pair.specs.Rows.{rows_of};
 ghost use Rattle.area_pair.specs.Settled.{ReadsAs, IsSettled};
 ghost use Rattle.area_pair.specs.Sound.{AreRoots};
 ghost use Rattle.area_pair.specs.Seen.{Shows, current_seen, stale_seen, rows_seen};
-ghost use Rattle.area_pair.specs.Fault.{IsFault};
+ghost use Rattle.area_pair.specs.Fault.{HasOpenCause};
 ghost use Rattle.area_pair.specs.declared.open.OpenFault.TheVariants.{DiskFailed as Faulty, NoMemory as WantsMemory};
 
 use crate::body::{BODY_BYTES, count_in, rows_in};
@@ -59,20 +59,19 @@ impl Areas {
     pub fn open<D: Disk>(alloc: Global, disk: &mut D) -> Result<(Areas, Vec<Row>), OpenFault>
         requires { 4 ≤ (D.view disk.old).size }
 
-        ensures rows { IfOk result (λ opened. IsTold (D.view disk.old).told (λ content. opened.1.items ≡ rows_of content)) }
+        ensures rows { IfOk result (λ opened. IfTold (D.view disk.old).content (λ content. opened.1.items ≡ rows_of content)) }
         ensures sound { IfOk result (λ opened. AreRoots opened.1.items) }
         ensures read { IfOk result (λ opened. ReadsAs (D.view disk.new) opened.0 opened.1.items) }
-        ensures settled { IfOk result (λ opened. IsSome (D.view disk.old).told → OnlyTold (D.view disk.old).told (images (D.view disk.old))
+        ensures settled { IfOk result (λ opened. IsSome (D.view disk.old).content → OnlyTold (D.view disk.old).content (images (D.view disk.old))
             → IsSettled (D.view disk.new) opened.0 opened.1.items) }
 
         // Where nothing is pending at entry, a crash at any moment of the call leaves the same rows.
-        ensures moments { OnlyTold (D.view disk.old).told (images (D.view disk.old)) → CountsOn (D.view disk.new)
-            → IsTold (D.view disk.old).told (λ content. EachMoment (D.view disk.old) (D.view disk.new) (λ _ image. rows_of image ≡ rows_of content)) }
+        ensures moments { OnlyTold (D.view disk.old).content (images (D.view disk.old)) → CountsOn (D.view disk.new)
+            → IfTold (D.view disk.old).content (λ content. EachMoment (D.view disk.old) (D.view disk.new) (λ _ image. rows_of image ≡ rows_of content)) }
 
-        ensures told { TellsAlike (D.view disk.old) (D.view disk.new) }
-        ensures goes { GoesOn (D.view disk.old) (D.view disk.new) }
-        ensures cause { IfErr result (λ fault. IsFault fault (D.view disk.old).faults (D.view disk.new).faults) }
-        ensures calm { OnOk result ((D.view disk.new).faults ≡ (D.view disk.old).faults) }
+        ensures content { TellsAlike (D.view disk.old) (D.view disk.new) }
+        ensures advances { Advances (D.view disk.old) (D.view disk.new) }
+        ensures cause { HasOpenCause (D.view disk.old).faults (D.view disk.new).faults result }
     {
         let seen = look(disk)?;
         let current = current_in(&seen);
@@ -95,11 +94,10 @@ struct Seen {
 fn look<D: Disk>(disk: &mut D) -> Result<Seen, Failed>
     requires { 4 ≤ (D.view disk.old).size }
 
-    ensures ok { IfOk result (λ seen. IsTold (D.view disk.old).told (λ content. Shows seen content)) }
-    ensures rests { Rests (D.view disk.old) (D.view disk.new) }
-    ensures goes { GoesOn (D.view disk.old) (D.view disk.new) }
-    ensures cause { OnErr result (Rose (D.view disk.old).faults (D.view disk.new).faults) }
-    ensures calm { OnOk result ((D.view disk.new).faults ≡ (D.view disk.old).faults) }
+    ensures ok { IfOk result (λ seen. IfTold (D.view disk.old).content (λ content. Shows seen content)) }
+    ensures rests { Unwritten (D.view disk.old) (D.view disk.new) }
+    ensures advances { Advances (D.view disk.old) (D.view disk.new) }
+    ensures cause { HasCause (D.view disk.old).faults (D.view disk.new).faults result }
 {
     let first_open = read_gate(disk, Area::First)?;
     let second_open = read_gate(disk, Area::Second)?;

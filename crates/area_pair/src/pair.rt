@@ -6,11 +6,12 @@
 //   its gate, one byte       closed, the old rows stand; open, its count is the later one: the new do
 //   the old gate, one byte   the new rows stand, whether it is open or closed
 ghost use Rattle.std.specs.Prelude.{◌≡◌, ◌⊎◌, ◌+◌, ◌-◌, ◌*◌, ◌%◌, ◌^◌, ◌<◌, ◌≤◌, min, List, length, Some, IfSome, IfOk, IfErr, OnOk, OnErr};
-ghost use Rattle.sfs_base.specs.Ends.{Rose};
-ghost use Rattle.sfs_dev.specs.Run.{CountsOn, GoesOn, EachMoment};
+ghost use Rattle.sfs_base.specs.Ends.{HasCause};
+ghost use Rattle.area_pair.specs.Fault.{HasDoubt};
+ghost use Rattle.sfs_dev.specs.Run.{CountsOn, Advances, EachMoment};
 ghost use Rattle.area_pair.specs.Area.{area_of, next_of};
-ghost use Rattle.area_pair.specs.Put.{TellsAlike};
-ghost use Rattle.area_pair.specs.Rows.{numbered, rows_of, KeepsApart};
+ghost use Rattle.sfs_dev.specs.Steps.{TellsAlike};
+ghost use Rattle.area_pair.specs.Rows.{by_mention, rows_of, KeepsApart};
 ghost use Rattle.area_pair.specs.Settled.{ReadsAs, IsSettled, HasRowsBy};
 ghost use Rattle.area_pair.specs.declared.area.Row.{Row as OneRow};
 
@@ -44,7 +45,7 @@ impl Areas {
         Areas { current }
     }
 
-    /// Puts these rows in place of those on the disk, numbered from 1 in order of first mention of
+    /// Puts these rows in place of those on the disk, by_mention from 1 in order of first mention of
     /// their nodes. Ok is the moment of acknowledgement: the disk's `now` when the sync behind the
     /// opened gate returned. It makes six device calls, or four where no area was the current one,
     /// and takes no memory. After a doubt open the areas anew.
@@ -53,25 +54,22 @@ impl Areas {
         requires few { length rows.now ≤ 15 }
         requires apart { KeepsApart rows.now }
 
-        ensures acknowledged { IfOk result (λ moment. moment ≡ min ((D.view disk.old).now + 4) (2 ^ 64 - 1)) }
-        ensures meanwhile { IfOk result (λ moment. ((D.view disk.old).now ≤ moment) × (moment ≤ (D.view disk.new).now)) }
+        ensures acknowledged { IfOk result (λ moment. (moment ≡ min ((D.view disk.old).now + 4) (2 ^ 64 - 1)) × ((D.view disk.old).now ≤ moment) × (moment ≤ (D.view disk.new).now)) }
         ensures read { OnOk result ((old : List OneRow) → ReadsAs (D.view disk.old) self.old old
-            → ReadsAs (D.view disk.new) self.new (numbered rows.now)) }
+            → ReadsAs (D.view disk.new) self.new (by_mention rows.now)) }
         ensures settled { OnOk result ((old : List OneRow) → IsSettled (D.view disk.old) self.old old
-            → IsSettled (D.view disk.new) self.new (numbered rows.now)) }
+            → IsSettled (D.view disk.new) self.new (by_mention rows.now)) }
 
         // A crash at any moment of the call leaves the old rows or the new, and from the
         // acknowledgement on the new.
         ensures moments { IfOk result (λ moment. (old : List OneRow) → IsSettled (D.view disk.old) self.old old → CountsOn (D.view disk.new)
-            → EachMoment (D.view disk.old) (D.view disk.new) (λ k image. HasRowsBy k moment old (numbered rows.now) image)) }
+            → EachMoment (D.view disk.old) (D.view disk.new) (λ k image. HasRowsBy k moment old (by_mention rows.now) image)) }
         ensures doubt { OnErr result ((old : List OneRow) → IsSettled (D.view disk.old) self.old old → CountsOn (D.view disk.new)
-            → EachMoment (D.view disk.old) (D.view disk.new) (λ _ image. (rows_of image ≡ old) ⊎ (rows_of image ≡ numbered rows.now))) }
+            → EachMoment (D.view disk.old) (D.view disk.new) (λ _ image. (rows_of image ≡ old) ⊎ (rows_of image ≡ by_mention rows.now))) }
 
-        ensures told { TellsAlike (D.view disk.old) (D.view disk.new) }
-        ensures goes { GoesOn (D.view disk.old) (D.view disk.new) }
-        ensures faults { IfErr result (λ doubt. doubt.faults ≡ (D.view disk.new).faults) }
-        ensures cause { OnErr result (Rose (D.view disk.old).faults (D.view disk.new).faults) }
-        ensures calm { OnOk result ((D.view disk.new).faults ≡ (D.view disk.old).faults) }
+        ensures content { TellsAlike (D.view disk.old) (D.view disk.new) }
+        ensures advances { Advances (D.view disk.old) (D.view disk.new) }
+        ensures doubtful { HasDoubt (D.view disk.old).faults (D.view disk.new).faults result }
     {
         let old = self.current;
         let next = next(old);

@@ -1,15 +1,15 @@
 ghost use Rattle.std.specs.Prelude.{◌≡◌, ◌≤◌, ◌<◌, ◌↔◌, length, IsTrue};
-ghost use Rattle.area_pair.specs.Rows.{numbered, AreAlike};
+ghost use Rattle.area_pair.specs.Rows.{by_mention, AreAlike};
 
 use crate::Row;
 use crate::body::{inode_among, nodes_of};
 
-/// Whether two lists of rows are the same once each is numbered from 1 in order of first mention of
+/// Whether two lists of rows are the same once each is by_mention from 1 in order of first mention of
 /// its nodes, as a commit numbers them. Each has at most 15 rows. It takes no memory.
 pub fn same_when_numbered(rows: &[Row], others: &[Row]) -> bool
     requires few { length rows.now ≤ 15 }
     requires few_others { length others.now ≤ 15 }
-    ensures { IsTrue result ↔ numbered rows.now ≡ numbered others.now }
+    ensures { IsTrue result ↔ by_mention rows.now ≡ by_mention others.now }
 {
     if rows.len() != others.len() {
         return false;

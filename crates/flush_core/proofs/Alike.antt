@@ -11,7 +11,7 @@ use Rattle.sfs_tree.specs.History.{tree_after}
 use Rattle.flush_core.specs.Cut.{Cut, counted_rows_at_cut}
 use Rattle.flush_core.specs.Rules.{IsOneOf, IsMove, Birth, births_of}
 use Rattle.flush_core.specs.Closure.{Counts, Flush, InSpan, HasNaming, Closure, itself, other_side, ended, ancestor, birth_place, IsConcerned, member, named, IsRaised, IsReached, IsDead, AreInodesAfter}
-use Rattle.flush_core.specs.Runs.{View}
+use Rattle.flush_core.specs.Runs.{CommitView}
 use Rattle.flush_core.proofs.Views.{AreAlike}
 
 -- What makes a member by one history's entries that count does so by another's.
@@ -66,7 +66,7 @@ are_alike first history counts other other_counts cut inodes flush there back gi
 }
 
 -- views that are alike leave the same inodes
-pub inodes_alike : (first : TreeState) (flush : Flush) (view other : View) (raised : Cut) (after : ℕ → Bool) → AreAlike first flush view other → IsRaised first view.history view.counts view.cut view.inodes flush raised → AreInodesAfter first view.history view.counts view.cut view.inodes flush raised after
+pub inodes_alike : (first : TreeState) (flush : Flush) (view other : CommitView) (raised : Cut) (after : ℕ → Bool) → AreAlike first flush view other → IsRaised first view.history view.counts view.cut view.inodes flush raised → AreInodesAfter first view.history view.counts view.cut view.inodes flush raised after
     → AreInodesAfter first other.history other.counts other.cut other.inodes flush raised after
 inodes_alike first flush view other raised after alike raise sets = record {
   enters = λ node none.

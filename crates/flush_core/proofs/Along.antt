@@ -50,6 +50,10 @@ tree_at-after first (entry ∷ history) zero = refl
 tree_at-after first [] (suc t) = refl
 tree_at-after first (entry ∷ history) (suc t) = tree_at-after (tree_after_entry first entry) history t
 
+pub tree_at-first : (first : TreeState) (history : List Entry) → tree_at first history 0 ≡ first
+tree_at-first first [] = refl
+tree_at-first first (entry ∷ history) = refl
+
 pub tree_at-end : (first : TreeState) (history : List Entry) → tree_at first history (length history) ≡ tree_after first history
 tree_at-end first [] = refl
 tree_at-end first (entry ∷ history) = tree_at-end (tree_after_entry first entry) history
@@ -265,7 +269,7 @@ changes_till-more first history t legal = till_from first history 0 t legal ∙ 
 abbrev pub HasItsNodes : TreeState → TreeState → Type 0
 HasItsNodes tree last = (x : ℕ) → IsSome (get tree.nodes x) → IsSome (get last.nodes x) × (is_directory last x ≡ is_directory tree x)
 
-first_nodes : (first : TreeState) (history : List Entry) (stamp : ℕ) → IsSoundTree first → IsLegalFrom first stamp history → HasItsNodes first (tree_after first history)
+pub first_nodes : (first : TreeState) (history : List Entry) (stamp : ℕ) → IsSoundTree first → IsLegalFrom first stamp history → HasItsNodes first (tree_after first history)
 first_nodes first [] stamp is legal x some = (some, refl)
 first_nodes first (entry ∷ history) stamp is legal x some =
     let fits = calls_fit first entry.core.0 entry.call is legal.0.core in

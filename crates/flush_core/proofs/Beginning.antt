@@ -10,7 +10,7 @@ use Rattle.flush_core.specs.declared.flight.InFlight.{InFlight}
 use Rattle.flush_core.specs.NodeSets.{has_node}
 use Rattle.flush_core.specs.Rules.{IsOneOf}
 use Rattle.flush_core.specs.Closure.{Flush}
-use Rattle.flush_core.specs.Machine.{IsShared, Begins, Refuses, place_of, IsRefused, Takes}
+use Rattle.flush_core.specs.Machine.{IsShared, BeginsFlight, Refuses, reason_place, IsRefused, Accepts}
 use Rattle.flush_core.specs.Flights.{flight_as, IsTaken, IsLeastTaken}
 use Rattle.flush_core.specs.State.{KeptState, machine_of}
 
@@ -36,7 +36,7 @@ module _ (old : KeptState) (commit : ℕ) (node : NodeId) (stamp : Stamp) (runni
   no_needs : {P : Type 0} → false ≡ true → P
   no_needs e = cc
 
-  first_used : (other : Refused) → Refuses (machine_of old) (event.CutAt commit node stamp) other → 5 ≤ place_of other
+  first_used : (other : Refused) → Refuses (machine_of old) (event.CutAt commit node stamp) other → 5 ≤ reason_place other
   first_used refused.Crashed holds = no_crash holds
   first_used (refused.NotNext want) holds = absurd holds
   first_used (refused.NotLegal reply) holds = absurd holds
@@ -52,7 +52,7 @@ module _ (old : KeptState) (commit : ℕ) (node : NodeId) (stamp : Stamp) (runni
   pub used_before : IsOneOf old.used commit → IsRefused (machine_of old) (event.CutAt commit node stamp) (refused.Used commit)
   used_before one = record { holds = (one, refl); first = first_used }
 
-  module _ (unused : IsOneOf old.used commit → ⊥) (flight : InFlight) (begins : Begins (machine_of old) commit flush (flight_as flight)) (least : Option ℕ) (is_least : IsLeastTaken (map flight_as old.flights) flight.concerned least) where
+  module _ (unused : IsOneOf old.used commit → ⊥) (flight : InFlight) (begins : BeginsFlight (machine_of old) commit flush (flight_as flight)) (least : Option ℕ) (is_least : IsLeastTaken (map flight_as old.flights) flight.concerned least) where
     -- what flights share with the commit is what they concern of its nodes
     shared : (other : ℕ) → IsShared (machine_of old) flush other → (has_node flight.concerned other ≡ true) × IsTaken (map flight_as old.flights) other
     shared other is = ((begins.concerned other).1 is.concerned, record { flight = is.flight; flies = is.flies; concerned = is.theirs })
@@ -60,7 +60,7 @@ module _ (old : KeptState) (commit : ℕ) (node : NodeId) (stamp : Stamp) (runni
     share : (other : ℕ) → has_node flight.concerned other ≡ true → IsTaken (map flight_as old.flights) other → IsShared (machine_of old) flush other
     share other has taken = record { concerned = (begins.concerned other).0 has; flight = taken.flight; flies = taken.flies; theirs = taken.concerned }
 
-    first_meets : (other : Refused) → Refuses (machine_of old) (event.CutAt commit node stamp) other → 6 ≤ place_of other
+    first_meets : (other : Refused) → Refuses (machine_of old) (event.CutAt commit node stamp) other → 6 ≤ reason_place other
     first_meets refused.Crashed holds = no_crash holds
     first_meets (refused.NotNext want) holds = absurd holds
     first_meets (refused.NotLegal reply) holds = absurd holds
@@ -83,7 +83,7 @@ module _ (old : KeptState) (commit : ℕ) (node : NodeId) (stamp : Stamp) (runni
       apart : (other : ℕ) → IsShared (machine_of old) flush other → ⊥
       apart other common = let both = shared other common in is_least.none other none both.0 both.1
 
-      first_late : (other : Refused) → Refuses (machine_of old) (event.CutAt commit node stamp) other → 7 ≤ place_of other
+      first_late : (other : Refused) → Refuses (machine_of old) (event.CutAt commit node stamp) other → 7 ≤ reason_place other
       first_late refused.Crashed holds = no_crash holds
       first_late (refused.NotNext want) holds = absurd holds
       first_late (refused.NotLegal reply) holds = absurd holds
@@ -115,7 +115,7 @@ module _ (old : KeptState) (commit : ℕ) (node : NodeId) (stamp : Stamp) (runni
       none_holds low (refused.AlreadyOpened other) holds = holds
       none_holds low refused.NoMemory holds = holds
 
-      pub takes_begun : stamp.0 ≤ length old.entries → (new : KeptState) → new ≡ record old { flights = old.flights ++ flight ∷ []; used = old.used ++ commit ∷ [] } → Takes (machine_of old) (event.CutAt commit node stamp) (machine_of new)
+      pub takes_begun : stamp.0 ≤ length old.entries → (new : KeptState) → new ≡ record old { flights = old.flights ++ flight ∷ []; used = old.used ++ commit ∷ [] } → Accepts (machine_of old) (event.CutAt commit node stamp) (machine_of new)
       takes_begun low new is = record {
         free = none_holds low;
         moves = (flight_as flight, begins, ap machine_of is ∙ ap (λ l. record (machine_of old) { flights = l; used = old.used ++ commit ∷ [] }) (map-append flight_as old.flights (flight ∷ [])));

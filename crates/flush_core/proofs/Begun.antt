@@ -10,7 +10,7 @@ use Rattle.flush_core.specs.declared.event.Event.TheVariants as event
 use Rattle.flush_core.specs.declared.event.Refused.TheVariants as refused
 use Rattle.flush_core.specs.Rules.{IsOneOf}
 use Rattle.flush_core.specs.Closure.{Flush}
-use Rattle.flush_core.specs.Machine.{Flight, MachineState, IsShared, Takes}
+use Rattle.flush_core.specs.Machine.{Flight, MachineState, IsShared, Accepts}
 use Rattle.flush_core.specs.Runs.{IsRun, flush_by, IsBegun, view_of, Concerns}
 use Rattle.flush_core.proofs.Runs.{below_or}
 use Rattle.flush_core.proofs.Along.{in_left, in_right}
@@ -38,7 +38,7 @@ cut_at (event.Fail other) commit flush e = cc
 cut_at (event.Crash kept) commit flush e = cc
 
 -- a number that was used stays so
-used_step : (old : MachineState) (e : Event) (new : MachineState) (commit : ℕ) → Takes old e new → IsOneOf old.used commit → IsOneOf new.used commit
+used_step : (old : MachineState) (e : Event) (new : MachineState) (commit : ℕ) → Accepts old e new → IsOneOf old.used commit → IsOneOf new.used commit
 used_step old (event.Call entry) new commit takes used = subst (λ (s : MachineState). IsOneOf s.used commit) (sym takes.moves.1) used
 used_step old (event.CutAt other node stamp) new commit takes used = subst (λ (s : MachineState). IsOneOf s.used commit) (sym takes.moves.2) (in_left old.used (other ∷ []) commit used)
 used_step old (event.Opened other) new commit takes used = subst (λ (s : MachineState). IsOneOf s.used commit) (sym takes.moves) used
@@ -49,7 +49,7 @@ used_step old (event.Crash kept) new commit takes used =
     subst (λ (s : MachineState). IsOneOf s.used commit) (sym takes.moves.2) (subst (λ (l : List ℕ). IsOneOf l commit) (sym (ap (λ (s : MachineState). s.used) takes.moves.1.others)) used)
 
 -- no flight concerns what a commit concerns that begins
-none_shared : (old : MachineState) (commit : ℕ) (node : NodeId) (stamp : Stamp) (new : MachineState) → Takes old (event.CutAt commit node stamp) new → (bound x : ℕ) → x < bound → IsShared old (record { node = node.0; stamp = stamp.0 }) x → ⊥
+none_shared : (old : MachineState) (commit : ℕ) (node : NodeId) (stamp : Stamp) (new : MachineState) → Accepts old (event.CutAt commit node stamp) new → (bound x : ℕ) → x < bound → IsShared old (record { node = node.0; stamp = stamp.0 }) x → ⊥
 none_shared old commit node stamp new takes zero x lt shared = absurd (omega arith)
 none_shared old commit node stamp new takes (suc bound) x lt shared =
     takes.free (refused.Meets (record { 0 = x })) (
@@ -66,7 +66,7 @@ module _ (first : TreeState) (events : List Event) (states : ℕ → MachineStat
   begun_within place commit flush begun = slice_get_within events place begun.event begun.stands
 
   -- a state takes the event that begins a commit
-  pub takes_cut : (place commit : ℕ) (flush : Flush) (begun : IsBegun events place commit flush) → let cut = cut_at begun.event commit flush begun.begins in Takes (states place) (event.CutAt commit cut.node cut.stamp) (states (suc place))
+  pub takes_cut : (place commit : ℕ) (flush : Flush) (begun : IsBegun events place commit flush) → let cut = cut_at begun.event commit flush begun.begins in Accepts (states place) (event.CutAt commit cut.node cut.stamp) (states (suc place))
   takes_cut place commit flush begun =
       let cut = cut_at begun.event commit flush begun.begins in
       run.steps place (event.CutAt commit cut.node cut.stamp) (begun.stands ∙ ap Some cut.same)

@@ -17,7 +17,7 @@ use Rattle.flush_core.specs.Cut.{Cut, cut_of, IsWithin}
 use Rattle.flush_core.specs.Rules.{IsOneOf, IsChange, IsMove, IsLastPlacing, Birth, births_of, RenamesWhole, RemovalsWhole, BirthsKept, AncestorsKept}
 use Rattle.flush_core.specs.Past.{IsPast, row_change_of, birth_of}
 use Rattle.flush_core.specs.Engine.{above_of}
-use Rattle.flush_core.specs.Broken.{Holds, rule_place, IsFirstBroken, SomeIs, IsSplit, LeavesChange, IsBornLate, PlacesBelow, IsLatest, IsNext, LacksAncestor}
+use Rattle.flush_core.specs.Broken.{CutKeeps, rule_place, IsFirstBroken, SomeIs, IsSplit, LeavesChange, IsBornLate, PlacesBelow, IsLatest, IsNext, LacksAncestor}
 use Rattle.flush_core.proofs.Own.{both}
 use Rattle.flush_core.proofs.Listed.{from_map, to_map}
 use Rattle.flush_core.proofs.Runs.{below_or}
@@ -27,7 +27,7 @@ use Rattle.flush_core.proofs.Brought.{kept_change, change_kept}
 use Rattle.flush_core.proofs.Ways.{row_on_way, next_on_way}
 
 -- a rule is the first that is broken, where those before it hold
-pub first_broken : (first : TreeState) (history : List Entry) (cut : Cut) (broken : Rule) → (Holds first history cut broken → ⊥)
+pub first_broken : (first : TreeState) (history : List Entry) (cut : Cut) (broken : Rule) → (CutKeeps first history cut broken → ⊥)
     → (1 < rule_place broken → RenamesWhole first history cut) → (2 < rule_place broken → RemovalsWhole first history cut) → (3 < rule_place broken → BirthsKept first history cut) → IsFirstBroken first history cut broken
 first_broken first history cut broken breaks renames removals births = record { breaks = breaks; before = before }
   where
@@ -37,7 +37,7 @@ first_broken first history cut broken breaks renames removals births = record { 
     most rule.Births = omega arith
     most rule.Ancestors = omega arith
 
-    before : (other : Rule) → rule_place other < rule_place broken → Holds first history cut other
+    before : (other : Rule) → rule_place other < rule_place broken → CutKeeps first history cut other
     before rule.Renames lt = renames lt
     before rule.Removals lt = removals lt
     before rule.Births lt = births lt

@@ -10,11 +10,11 @@ use Rattle.flush_core.specs.declared.event.Event.TheVariants as event
 use Rattle.flush_core.specs.declared.event.Refused.{Refused}
 use Rattle.flush_core.specs.declared.event.Refused.TheVariants as refused
 use Rattle.flush_core.specs.declared.past.Past.{Past}
-use Rattle.flush_core.specs.Machine.{Refuses, place_of, IsRefused, Takes}
-use Rattle.flush_core.specs.State.{KeptState, machine_of, IsAnswered}
-use Rattle.flush_core.specs.Story.{IsReady}
+use Rattle.flush_core.specs.Machine.{Refuses, reason_place, IsRefused, Accepts}
+use Rattle.flush_core.specs.State.{KeptState, machine_of, HasDueAnswer}
+use Rattle.flush_core.specs.Story.{IsReadyPast}
 
-module _ (old : KeptState) (past : Past) (ready : IsReady old.first old.entries past) where
+module _ (old : KeptState) (past : Past) (ready : IsReadyPast old.first old.entries past) where
   abbrev tree : TreeState
   tree = tree_after old.first old.entries
 
@@ -25,13 +25,13 @@ module _ (old : KeptState) (past : Past) (ready : IsReady old.first old.entries 
     flushing_now : is_flush ≡ flushes tree entry.call
     flushing_now = flushing ∙ ap (λ (t : TreeState). flushes t entry.call) ready.is_past.tree
 
-    pub answered : MayCome tree (length old.entries) entry → IsAnswered is_flush reply entry
+    pub answered : MayCome tree (length old.entries) entry → HasDueAnswer is_flush reply entry
     answered may = record {
       reply = subst (λ b. IsDue b reply entry.reply) (sym flushing_now) (subst (λ r. IsDue (flushes tree entry.call) r entry.reply) (sym due_now) may.due);
       acknowledged = subst (λ b. IsSome entry.ack ↔ IsTrue (b && is_ok_reply entry.reply)) (sym flushing_now) may.acknowledged;
     }
 
-    pub may_come : IsAnswered is_flush reply entry → MayCome tree (length old.entries) entry
+    pub may_come : HasDueAnswer is_flush reply entry → MayCome tree (length old.entries) entry
     may_come answered = record {
       stamped = stamped;
       core = subst (λ n. entry.core.0 < n) (sym (cores_stay old.first old.entries)) core;
@@ -45,7 +45,7 @@ module _ (old : KeptState) (past : Past) (ready : IsReady old.first old.entries 
         differ : false ≡ true → ⊥
         differ e = cc
 
-    first_not_legal : (other : Refused) → Refuses (machine_of old) (event.Call entry) other → 3 ≤ place_of other
+    first_not_legal : (other : Refused) → Refuses (machine_of old) (event.Call entry) other → 3 ≤ reason_place other
     first_not_legal refused.Crashed holds = no_crash holds
     first_not_legal (refused.NotNext want) holds = absurd (holds.0 stamped)
     first_not_legal (refused.NotLegal other) holds = omega arith
@@ -58,10 +58,10 @@ module _ (old : KeptState) (past : Past) (ready : IsReady old.first old.entries 
     first_not_legal (refused.AlreadyOpened commit) holds = omega arith
     first_not_legal refused.NoMemory holds = omega arith
 
-    pub not_legal : (IsAnswered is_flush reply entry → ⊥) → IsRefused (machine_of old) (event.Call entry) (refused.NotLegal reply)
+    pub not_legal : (HasDueAnswer is_flush reply entry → ⊥) → IsRefused (machine_of old) (event.Call entry) (refused.NotLegal reply)
     not_legal differs = record { holds = (λ may. differs (answered may), due_now); first = first_not_legal }
 
-    none_holds : IsAnswered is_flush reply entry → (why : Refused) → Refuses (machine_of old) (event.Call entry) why → ⊥
+    none_holds : HasDueAnswer is_flush reply entry → (why : Refused) → Refuses (machine_of old) (event.Call entry) why → ⊥
     none_holds right refused.Crashed holds = no_crash holds
     none_holds right (refused.NotNext want) holds = holds.0 stamped
     none_holds right (refused.NotLegal other) holds = holds.0 (may_come right)
@@ -83,7 +83,7 @@ module _ (old : KeptState) (past : Past) (ready : IsReady old.first old.entries 
     none_holds right (refused.AlreadyOpened commit) holds = holds
     none_holds right refused.NoMemory holds = holds
 
-    pub takes_call : IsAnswered is_flush reply entry → (new : KeptState) → new ≡ record old { entries = old.entries ++ entry ∷ [] } → Takes (machine_of old) (event.Call entry) (machine_of new)
+    pub takes_call : HasDueAnswer is_flush reply entry → (new : KeptState) → new ≡ record old { entries = old.entries ++ entry ∷ [] } → Accepts (machine_of old) (event.Call entry) (machine_of new)
     takes_call right new is = record {
       free = none_holds right;
       moves = (may_come right, ap machine_of is);

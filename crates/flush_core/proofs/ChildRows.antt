@@ -13,7 +13,7 @@ use Rattle.std.proofs.lemmas.List.Elements.{filter-append}
 use Rattle.std.proofs.lemmas.List.Sums.{fold-append}
 use Rattle.sfs_tree.specs.declared.history.Entry.{Entry}
 use Rattle.sfs_tree.specs.declared.name_map.NameRow.{NameRow}
-use Rattle.sfs_tree.specs.NameRow.{entry_of}
+use Rattle.sfs_tree.specs.NameRow.{name_and_child}
 use Rattle.sfs_tree.specs.Order.{name_cmp}
 use Rattle.sfs_tree.specs.Tree.{TreeState, Node, names_of, is_directory_kind}
 use Rattle.sfs_tree.specs.Sound.{IsSound}
@@ -94,21 +94,21 @@ found_entry (f ∷ es) name node here =
     some_same is = cc
 
 -- the children of rows are those of their list
-pub listed_child : (rows : List NameRow) (names : FinMap name_cmp ℕ) → map entry_of rows ≡ entries names → (node : ℕ) → OfSome rows IsChildOf node → IsChild names node
+pub listed_child : (rows : List NameRow) (names : FinMap name_cmp ℕ) → map name_and_child rows ≡ entries names → (node : ℕ) → OfSome rows IsChildOf node → IsChild names node
 listed_child rows names same node (row, one, e) = (
   row.name,
   get-entries names row.name
-      ∙ found_sorted (entries names) (entries_sorted names) (entry_of row) (subst (λ l. IsOneOf l (entry_of row)) same (to_map entry_of rows row one))
+      ∙ found_sorted (entries names) (entries_sorted names) (name_and_child row) (subst (λ l. IsOneOf l (name_and_child row)) same (to_map name_and_child rows row one))
       ∙ ap (λ x. Some x) e,
 )
 
-pub child_listed : (rows : List NameRow) (names : FinMap name_cmp ℕ) → map entry_of rows ≡ entries names → (node : ℕ) → IsChild names node → OfSome rows IsChildOf node
+pub child_listed : (rows : List NameRow) (names : FinMap name_cmp ℕ) → map name_and_child rows ≡ entries names → (node : ℕ) → IsChild names node → OfSome rows IsChildOf node
 child_listed rows names same node (name, is) =
     let found = found_entry (entries names) name node (sym (get-entries names name) ∙ is) in
-    let row = from_map entry_of rows found.0 (subst (λ l. IsOneOf l found.0) (sym same) found.1) in
+    let row = from_map name_and_child rows found.0 (subst (λ l. IsOneOf l found.0) (sym same) found.1) in
     (row.0, row.1, ap (λ (e : List ℕ × ℕ). e.1) row.2 ∙ found.2)
 
-pub children_join : (rows : List NameRow) (names kept : FinMap name_cmp ℕ) (set joined : NodeSet) → map entry_of rows ≡ entries names → names ≡ kept → Joins (OfSome rows IsChildOf) set joined → Joins (IsChild kept) set joined
+pub children_join : (rows : List NameRow) (names kept : FinMap name_cmp ℕ) (set joined : NodeSet) → map name_and_child rows ≡ entries names → names ≡ kept → Joins (OfSome rows IsChildOf) set joined → Joins (IsChild kept) set joined
 children_join rows names kept set joined listed same joins node = (
   λ has. elim ((joins node).0 has) [ inl old ↦ inl old | inr some ↦ inr (subst (λ m. IsChild m node) same (listed_child rows names listed node some)) ],
   λ from. (joins node).1 (elim from [ inl old ↦ inl old | inr child ↦ inr (child_listed rows names listed node (subst (λ m. IsChild m node) (sym same) child)) ]),

@@ -21,14 +21,14 @@ use Rattle.flush_core.proofs.Along.{tree_at, run_of, sound_at, files_at}
 
 -- the changes of a move are that by which what it replaces goes, and those by which its child goes and comes
 pub data OfMove (tree : TreeState) (q : ℕ) (m : List ℕ) (c : ℕ) (x : RowChange) : Type 0 where
-  replaces : row_of tree q m ≡ Some x.child → OfMove tree q m c x
+  replaces : x.directory ≡ q → row_of tree q m ≡ Some x.child → OfMove tree q m c x
   moves : x.child ≡ c → OfMove tree q m c x
 
-of_move : (tree : TreeState) (t p : ℕ) (n : List ℕ) (q : ℕ) (m : List ℕ) (c : ℕ) (x : RowChange) → IsOneOf (changes_by tree t (Moves p n q m c)) x → OfMove tree q m c x
+pub of_move : (tree : TreeState) (t p : ℕ) (n : List ℕ) (q : ℕ) (m : List ℕ) (c : ℕ) (x : RowChange) → IsOneOf (changes_by tree t (Moves p n q m c)) x → OfMove tree q m c x
 of_move tree t p n q m c x one =
     elim (row_of tree q m) as (λ o. row_of tree q m ≡ o → IsOneOf (replaced tree t p q m o ++ removed t p n c (other_side p q) false ∷ added t q m c (other_side q p) ∷ []) x → OfMove tree q m c x) [
       | None ↦ λ _ h. two h
-      | Some there ↦ λ row h. elim h [ inl e ↦ replaces (row ∙ ap (λ (y : RowChange). Some y.child) e) | inr rest ↦ two rest ]
+      | Some there ↦ λ row h. elim h [ inl e ↦ replaces (sym (ap (λ (y : RowChange). y.directory) e)) (row ∙ ap (λ (y : RowChange). Some y.child) e) | inr rest ↦ two rest ]
     ] refl one
   where
     two : IsOneOf (removed t p n c (other_side p q) false ∷ added t q m c (other_side q p) ∷ []) x → OfMove tree q m c x
@@ -53,7 +53,7 @@ module _ (tree : TreeState) (core t : ℕ) (s : IsSound tree) where
   child_there (Adds d n c) (Some kind) f x one = same_child (λ y. IsSome (get (tree_with tree core (Adds d n c) (Some kind)).nodes y.child)) (added t d n c None) x (made_node tree core d n c kind f) one
   child_there (Removes d n c) None f x one = same_child (λ y. IsSome (get tree.nodes y.child)) (removed t d n c None (is_directory tree c)) x (s.node d n c f.row) one
   child_there (Moves p n q m c) None f x one = elim (of_move tree t p n q m c x one) [
-    | replaces row ↦ s.node q m x.child row
+    | replaces _ row ↦ s.node q m x.child row
     | moves e ↦ subst (λ (y : ℕ). IsSome (get tree.nodes y)) (sym e) (s.node p n c f.row)
   ]
   child_there (Removes d n c) (Some kind) f x one = absurd f
@@ -69,7 +69,7 @@ module _ (tree : TreeState) (core t : ℕ) (s : IsSound tree) where
   child_named (Removes d n c) None f links x one =
       inl (same_child (λ y. IsNamed tree.rows y.child) (removed t d n c None (is_directory tree c)) x (record { directory = d; name = n; row = f.row }) one)
   child_named (Moves p n q m c) None f links x one = elim (of_move tree t p n q m c x one) [
-    | replaces row ↦ inl (record { directory = q; name = m; row = row })
+    | replaces _ row ↦ inl (record { directory = q; name = m; row = row })
     | moves e ↦ inl (record { directory = p; name = n; row = f.row ∙ ap Some (sym e) })
   ]
   child_named (Removes d n c) (Some kind) f links x one = absurd f

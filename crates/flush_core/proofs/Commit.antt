@@ -17,7 +17,7 @@ use Rattle.sfs_tree.proofs.KeepsNodes.{directory_node}
 use Rattle.sfs_tree.proofs.FileHistories.{histories_keep_sound}
 use Rattle.flush_core.specs.Cut.{Cut, cut_of, IsWithin, rows_at_cut}
 use Rattle.flush_core.specs.Rules.{IsOneOf, IsChange, Birth, births_by, births_of, IsLastPlacing, IsMove, IsClosed}
-use Rattle.flush_core.specs.Closure.{every_entry, Flush, InSpan, Closure, other_side, ended, ancestor, birth_place, IsRaised, AreInodesAfter, AreBorn, IsKept}
+use Rattle.flush_core.specs.Closure.{every_entry, Flush, InSpan, Closure, other_side, ended, ancestor, birth_place, IsRaised, AreInodesAfter, AreBorn, KeepsCut}
 use Rattle.flush_core.specs.Laws.{FsyncsKeep}
 use Rattle.flush_core.proofs.Runs.{Run, Made, below_or}
 use Rattle.flush_core.proofs.Along.{tree_at, effect_at, makes_at, tree_at-after, run_of, change_in, change_of, in_either, nodes_at}
@@ -71,7 +71,7 @@ birth_at first history birth legal one =
     zero_plus : (n : ℕ) → 0 + n ≡ n
     zero_plus n = omega arith
 
-module _ (first : TreeState) (history : List Entry) (is : IsSoundTree first) (legal : IsLegal first history) (cut : Cut) (inodes : ℕ → Bool) (flush : Flush) (raised : Cut) (kept : IsKept first history cut inodes) (raise : IsRaised first history every_entry cut inodes flush raised) where
+module _ (first : TreeState) (history : List Entry) (is : IsSoundTree first) (legal : IsLegal first history) (cut : Cut) (inodes : ℕ → Bool) (flush : Flush) (raised : Cut) (kept : KeepsCut first history cut inodes) (raise : IsRaised first history every_entry cut inodes flush raised) where
   abbrev run : Run
   run = run_of first history is legal
 

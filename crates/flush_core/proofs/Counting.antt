@@ -1,7 +1,7 @@
 -- How many nodes below a number are in a set.
 use Rattle.std.proofs.Common.{◌≡◌, ◌≢◌, ℕ, zero, suc, ◌-◌, ◌<◌, ◌≤◌, Bool, true, false, cond, refl, sym, ap, ◌∙◌, nat_eq, arith}
 use borrow.Author.Tests.{eqb-true, eqb-false}
-use Rattle.flush_core.specs.NodeSets.{with_node}
+use Rattle.flush_core.specs.NodeSets.{with_member}
 
 -- how many numbers below this one are in
 pub count_below : (ℕ → Bool) → ℕ → ℕ
@@ -24,7 +24,7 @@ same_count nodes others (suc n) same =
     ∙ ap (λ k. cond (nodes n) (suc k) k) (same_count nodes others n (λ x lt. same x (omega arith)))
 
 -- one more node below the number counts one more
-pub count_more : (nodes others : ℕ → Bool) (node n : ℕ) → node < n → nodes node ≡ false → ((x : ℕ) → others x ≡ with_node node true nodes x) → count_below others n ≡ suc (count_below nodes n)
+pub count_more : (nodes others : ℕ → Bool) (node n : ℕ) → node < n → nodes node ≡ false → ((x : ℕ) → others x ≡ with_member node true nodes x) → count_below others n ≡ suc (count_below nodes n)
 unfolding count_below
 count_more nodes others node zero lt out more = absurd (omega arith)
 count_more nodes others node (suc n) lt out more =
@@ -47,7 +47,7 @@ count_more nodes others node (suc n) lt out more =
     rest false = refl
 
 -- so fewer are out
-pub one_more_less : (nodes others : ℕ → Bool) (node n : ℕ) → node < n → nodes node ≡ false → ((x : ℕ) → others x ≡ with_node node true nodes x) → n - count_below others n < n - count_below nodes n
+pub one_more_less : (nodes others : ℕ → Bool) (node n : ℕ) → node < n → nodes node ≡ false → ((x : ℕ) → others x ≡ with_member node true nodes x) → n - count_below others n < n - count_below nodes n
 one_more_less nodes others node n lt out more =
     let counted = count_more nodes others node n lt out more in
     let within = count_within others n in

@@ -14,8 +14,8 @@ use Rattle.sfs_tree.specs.Laws.{IsSoundTree}
 use Rattle.sfs_tree.proofs.RowFacts.{added_cases, removed_cases}
 use Rattle.flush_core.specs.Cut.{Cut, cut_of, is_within, with_own, rows_at_cut}
 use Rattle.flush_core.specs.Rules.{IsOneOf, Birth, births_of}
-use Rattle.flush_core.specs.Closure.{every_entry, Flush, HasNaming, Closure, itself, birth_place, IsRaised, AreInodesAfter}
-use Rattle.flush_core.specs.Covers.{IsPlaced, IsCovered, ArePlaced, IsThere}
+use Rattle.flush_core.specs.Closure.{every_entry, Flush, HasNode, HasNaming, Closure, itself, birth_place, IsRaised, AreInodesAfter}
+use Rattle.flush_core.specs.Covers.{IsPlacedByCut, IsCovered, ArePlaced}
 use Rattle.flush_core.specs.Laws.{FsyncsCover}
 use Rattle.flush_core.proofs.Runs.{below_or}
 use Rattle.flush_core.proofs.Along.{tree_at, tree_at-after, run_of, change_in}
@@ -55,7 +55,7 @@ from_rows w (c ∷ cs) d n rows x row =
       | false ↦ λ _ r. elim (from_rows w cs d n rows x r) [ inl there ↦ inl there | inr f ↦ inr (further w c cs x f) ]
     ] refl row
 
-module _ (first : TreeState) (history : List Entry) (is : IsSoundTree first) (legal : IsLegal first history) (cut : Cut) (inodes : ℕ → Bool) (flush : Flush) (raised : Cut) (placed : ArePlaced first history cut inodes) (there : IsThere first history flush) (raise : IsRaised first history every_entry cut inodes flush raised) where
+module _ (first : TreeState) (history : List Entry) (is : IsSoundTree first) (legal : IsLegal first history) (cut : Cut) (inodes : ℕ → Bool) (flush : Flush) (raised : Cut) (placed : ArePlaced first history cut inodes) (there : HasNode first history flush) (raise : IsRaised first history every_entry cut inodes flush raised) where
   low : (d : ℕ) → cut_of cut d ≤ cut_of raised d
   low d = elim (raise.other d) [
     | inl member ↦ let e = raise.member d member in let le = le-max_left (cut_of cut d) flush.stamp in omega arith
@@ -65,11 +65,11 @@ module _ (first : TreeState) (history : List Entry) (is : IsSoundTree first) (le
   member_low : (d : ℕ) → Closure first history every_entry cut inodes flush d → flush.stamp ≤ cut_of raised d
   member_low d member = let e = raise.member d member in let le = le-max_right (cut_of cut d) flush.stamp in omega arith
 
-  up : (node : ℕ) → IsPlaced first history cut node → IsPlaced first history raised node
+  up : (node : ℕ) → IsPlacedByCut first history cut node → IsPlacedByCut first history raised node
   up node p = record { change = p.change; is_change = p.is_change; places = p.places; child = p.child; within = let lt = p.within in let le = low p.change.directory in omega arith }
 
   -- the making of a node is a change that places it
-  by_birth : (birth : Birth) → IsOneOf (births_of first history) birth → birth.stamp < cut_of raised birth.directory → IsPlaced first history raised birth.node
+  by_birth : (birth : Birth) → IsOneOf (births_of first history) birth → birth.stamp < cut_of raised birth.directory → IsPlacedByCut first history raised birth.node
   by_birth birth one lt = record {
     change = added birth.stamp birth.directory born.name birth.node None;
     is_change = change_in first history birth.stamp (added birth.stamp birth.directory born.name birth.node None) legal (subst (λ (f : Effect). IsOneOf (changes_by (tree_at first history birth.stamp) birth.stamp f) (added birth.stamp birth.directory born.name birth.node None)) (sym born.adds) (inl refl));
@@ -82,7 +82,7 @@ module _ (first : TreeState) (history : List Entry) (is : IsSoundTree first) (le
       born = birth_at first history birth legal one
 
   -- the fsync's own node is placed, with an inode or without
-  own_without : (birth : Birth) → IsOneOf (births_of first history) birth → birth.node ≡ flush.node → inodes birth.node ≡ false → IsPlaced first history raised birth.node
+  own_without : (birth : Birth) → IsOneOf (births_of first history) birth → birth.node ≡ flush.node → inodes birth.node ≡ false → IsPlacedByCut first history raised birth.node
   own_without birth one same out = elim (below_or birth.stamp (cut_of raised birth.directory)) [
     | inl lt ↦ by_birth birth one lt
     | inr le ↦
@@ -107,14 +107,14 @@ module _ (first : TreeState) (history : List Entry) (is : IsSoundTree first) (le
         | inr le ↦ absurd (no_node_yet (run_of first history is legal) birth.stamp birth.directory born.name birth.node born.kind born.adds born.made flush.stamp le (subst (λ (tree : TreeState). IsSome (get tree.nodes birth.node)) (sym (tree_at-after first history flush.stamp)) (subst (λ (y : ℕ). IsSome (get (tree_after first (take flush.stamp history)).nodes y)) (sym same) there)))
       ]
 
-  own_placed : (birth : Birth) → IsOneOf (births_of first history) birth → birth.node ≡ flush.node → IsPlaced first history raised birth.node
-  own_placed birth one same = elim (inodes birth.node) as (λ b. inodes birth.node ≡ b → IsPlaced first history raised birth.node) [
+  own_placed : (birth : Birth) → IsOneOf (births_of first history) birth → birth.node ≡ flush.node → IsPlacedByCut first history raised birth.node
+  own_placed birth one same = elim (inodes birth.node) as (λ b. inodes birth.node ≡ b → IsPlacedByCut first history raised birth.node) [
     | true ↦ λ e. up birth.node (placed birth one e)
     | false ↦ λ e. own_without birth one same e
   ] refl
 
   -- a node that a row at the raised cut names is placed
-  row_placed : (birth : Birth) → IsOneOf (births_of first history) birth → (d : ℕ) (n : List ℕ) → get (rows_at_cut first history raised) (d, n) ≡ Some birth.node → IsPlaced first history raised birth.node
+  row_placed : (birth : Birth) → IsOneOf (births_of first history) birth → (d : ℕ) (n : List ℕ) → get (rows_at_cut first history raised) (d, n) ≡ Some birth.node → IsPlacedByCut first history raised birth.node
   row_placed birth one d n row = elim (from_rows (is_within raised) (changes_of first history) d n first.rows birth.node row) [
     | inl before ↦ absurd (no_node_yet (run_of first history is legal) birth.stamp birth.directory born.name birth.node born.kind born.adds born.made 0 (omega arith) (at_first history (is.sound.node d n birth.node before)))
     | inr f ↦ record { change = f.change; is_change = f.one; places = f.places; child = f.child; within = ltb-true _ _ f.passes }
@@ -129,7 +129,7 @@ module _ (first : TreeState) (history : List Entry) (is : IsSoundTree first) (le
 
   all_placed : (after : ℕ → Bool) → AreInodesAfter first history every_entry cut inodes flush raised after → ArePlaced first history raised after
   all_placed after sets birth one has =
-      elim (inodes birth.node) as (λ b. inodes birth.node ≡ b → IsPlaced first history raised birth.node) [
+      elim (inodes birth.node) as (λ b. inodes birth.node ≡ b → IsPlacedByCut first history raised birth.node) [
         | true ↦ λ e. up birth.node (placed birth one e)
         | false ↦ λ e. elim ((sets.enters birth.node e).0 has).1 [
           | inl named ↦ row_placed birth one named.directory named.name named.row
@@ -140,7 +140,7 @@ module _ (first : TreeState) (history : List Entry) (is : IsSoundTree first) (le
   own_covered : IsCovered first history raised flush
   own_covered = record {
     stamp = member_low flush.node itself;
-    placed = λ birth one same. subst (λ (y : ℕ). IsPlaced first history raised y) same (own_placed birth one same);
+    placed = λ birth one same. subst (λ (y : ℕ). IsPlacedByCut first history raised y) same (own_placed birth one same);
   }
 
   still_covered : (other : Flush) → IsCovered first history cut other → IsCovered first history raised other

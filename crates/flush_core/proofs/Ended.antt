@@ -10,7 +10,7 @@ use Rattle.flush_core.specs.declared.flight.InFlight.{InFlight}
 use Rattle.flush_core.specs.declared.raise.Raise.{Raise}
 use Rattle.flush_core.specs.NodeSets.{has_node}
 use Rattle.flush_core.specs.Closure.{every_entry, Flush, AreRaised, none, one_more}
-use Rattle.flush_core.specs.Machine.{Flight, Refuses, place_of, IsRefused, Takes, flight_of, is_flying, is_opened}
+use Rattle.flush_core.specs.Machine.{Flight, Refuses, reason_place, IsRefused, Accepts, flight_of, is_flying, is_opened}
 use Rattle.flush_core.specs.Flights.{flight_as, flush_in}
 use Rattle.flush_core.specs.State.{KeptState, machine_of, inodes_of, IsRaisedTo, kept_flushes}
 
@@ -49,7 +49,7 @@ module _ (old : KeptState) (commit : ℕ) (running : old.crashed ≡ false) (goi
   none_holds flies opened refused.NoMemory holds = holds
 
   pub takes_durable : (flush : Flush) (found : Option Flight) → flight_of (machine_of old) commit ≡ found → option_map flush_in found ≡ Some flush → is_opened (machine_of old) commit ≡ true → (raise : Raise) → IsRaisedTo old flush raise
-      → (new : KeptState) (flights : List InFlight) → map flight_as flights ≡ filter (λ (flight : Flight). not (flight.commit == commit)) (map flight_as old.flights) → new ≡ record (raised_to old raise) { flights = flights } → Takes (machine_of old) (event.Durable commit) (machine_of new)
+      → (new : KeptState) (flights : List InFlight) → map flight_as flights ≡ filter (λ (flight : Flight). not (flight.commit == commit)) (map flight_as old.flights) → new ≡ record (raised_to old raise) { flights = flights } → Accepts (machine_of old) (event.Durable commit) (machine_of new)
   takes_durable flush None is mapped opened raise raised new flights left same = no_flush mapped
     where
       no_flush : {P : Type 0} → None ≡ Some flush → P
@@ -78,7 +78,7 @@ module _ (old : KeptState) (kept : List ℕ) (spare : ℕ) (running : old.crashe
   crash_not_twice : {P : Type 0} → old.crashed ≡ true → P
   crash_not_twice crashed = no_true (sym running ∙ crashed)
 
-  first_not_flying : (other : Refused) → Refuses (machine_of old) e other → 8 ≤ place_of other
+  first_not_flying : (other : Refused) → Refuses (machine_of old) e other → 8 ≤ reason_place other
   first_not_flying refused.Crashed holds = crash_not_twice holds
   first_not_flying (refused.NotNext want) holds = absurd holds
   first_not_flying (refused.NotLegal reply) holds = absurd holds
@@ -95,7 +95,7 @@ module _ (old : KeptState) (kept : List ℕ) (spare : ℕ) (running : old.crashe
   keeps_not_flying commit found = record { holds = found; first = first_not_flying }
 
   module _ (flying : find (λ named. not (is_flying (machine_of old) named)) kept ≡ None) where
-    first_not_opened : (other : Refused) → Refuses (machine_of old) e other → 9 ≤ place_of other
+    first_not_opened : (other : Refused) → Refuses (machine_of old) e other → 9 ≤ reason_place other
     first_not_opened refused.Crashed holds = crash_not_twice holds
     first_not_opened (refused.NotNext want) holds = absurd holds
     first_not_opened (refused.NotLegal reply) holds = absurd holds
@@ -126,7 +126,7 @@ module _ (old : KeptState) (kept : List ℕ) (spare : ℕ) (running : old.crashe
       none_refuses refused.NoMemory holds = holds
 
       pub takes_crash : (raise : Raise) → AreRaised old.first old.entries every_entry old.cut (inodes_of old.first old.inodes) (kept_flushes (map flight_as old.flights) kept) raise.cut (has_node raise.inodes)
-          → (new : KeptState) → new ≡ record (raised_to old raise) { flights = []; crashed = true } → Takes (machine_of old) e (machine_of new)
+          → (new : KeptState) → new ≡ record (raised_to old raise) { flights = []; crashed = true } → Accepts (machine_of old) e (machine_of new)
       takes_crash raise raised new same = record {
         free = none_refuses;
         moves = (machine_of (raised_to old raise), record { raised = raised; others = refl }, ap machine_of same);

@@ -7,7 +7,7 @@ use Rattle.flush_core.specs.declared.event.Event.{Event}
 use Rattle.flush_core.specs.declared.event.Event.TheVariants as event
 use Rattle.flush_core.specs.Rules.{IsOneOf}
 use Rattle.flush_core.specs.Closure.{every_entry, Flush, AreRaised}
-use Rattle.flush_core.specs.Machine.{Flight, MachineState, opened_for, Begins, Takes}
+use Rattle.flush_core.specs.Machine.{Flight, MachineState, opened_for, BeginsFlight, Accepts}
 use Rattle.flush_core.specs.Runs.{IsRun, IsBegun, view_of, Concerns, durable_by}
 use Rattle.flush_core.proofs.Runs.{below_or}
 use Rattle.flush_core.proofs.Along.{in_either}
@@ -41,7 +41,7 @@ module _ (first : TreeState) where
   still : (old new : MachineState) (e : Event) → ((events : List Event) (chosen : ℕ → Bool) → durable_by events chosen e ≡ None) → (also : MachineState) → new ≡ also → old.cut ≡ also.cut → old.inodes ≡ also.inodes → CutStep first old new e
   still old new e none also same cuts inodes = stays (subst (λ (s : MachineState). old.cut ≡ s.cut) (sym same) cuts) (subst (λ (s : MachineState). old.inodes ≡ s.inodes) (sym same) inodes) none
 
-  pub cut_step : (old : MachineState) (e : Event) (new : MachineState) → old.first ≡ first → Takes old e new → CutStep first old new e
+  pub cut_step : (old : MachineState) (e : Event) (new : MachineState) → old.first ≡ first → Accepts old e new → CutStep first old new e
   cut_step old (event.Call entry) new start takes = still old new (event.Call entry) (λ events chosen. refl) _ takes.moves.1 refl refl
   cut_step old (event.CutAt commit node stamp) new start takes = still old new (event.CutAt commit node stamp) (λ events chosen. refl) _ takes.moves.2 refl refl
   cut_step old (event.Opened commit) new start takes = still old new (event.Opened commit) (λ events chosen. refl) _ takes.moves refl refl
@@ -60,13 +60,13 @@ module _ (first : TreeState) where
           differ e = let f : not true ≡ true = subst (λ (b : Bool). not b ≡ true) e passes in cc
 
 module _ (first : TreeState) (events : List Event) (states : ℕ → MachineState) (run : IsRun first events states) where
-  begins_at : (place commit : ℕ) (flush : Flush) (flight : Flight) → (states place).first ≡ first → IsBegun events place commit flush → Begins (states place) commit flush flight → BeginsAt first events states place flight
+  begins_at : (place commit : ℕ) (flush : Flush) (flight : Flight) → (states place).first ≡ first → IsBegun events place commit flush → BeginsFlight (states place) commit flush flight → BeginsAt first events states place flight
   begins_at place commit flush flight start begun begins = record {
     begun = subst (λ (f : Flush). IsBegun events place flight.commit f) (sym begins.own) (subst (λ (c : ℕ). IsBegun events place c flush) (sym begins.number) begun);
     theirs = λ node. subst (λ (f : Flush). (flight.concerned node ≡ true) ↔ Concerns first f (view_of (states place)) node) (sym begins.own) (subst (λ (f : TreeState). (flight.concerned node ≡ true) ↔ Concerns f flush (view_of (states place)) node) start (begins.concerned node));
   }
 
-  from_step : (place : ℕ) (e : Event) → slice_get events place ≡ Some e → Takes (states place) e (states (suc place)) → (states place).first ≡ first → (flight : Flight) → IsOneOf (states (suc place)).flights flight → IsAmong (states place).flights flight ⊎ BeginsAt first events states place flight
+  from_step : (place : ℕ) (e : Event) → slice_get events place ≡ Some e → Accepts (states place) e (states (suc place)) → (states place).first ≡ first → (flight : Flight) → IsOneOf (states (suc place)).flights flight → IsAmong (states place).flights flight ⊎ BeginsAt first events states place flight
   from_step place (event.Call entry) stands takes start flight one = inl (among_itself (states place).flights flight (subst (λ (s : MachineState). IsOneOf s.flights flight) takes.moves.1 one))
   from_step place (event.CutAt commit node stamp) stands takes start flight one = elim (in_either (states place).flights (takes.moves.0 ∷ []) flight (subst (λ (s : MachineState). IsOneOf s.flights flight) takes.moves.2 one)) [
     | inl old ↦ inl (among_itself (states place).flights flight old)

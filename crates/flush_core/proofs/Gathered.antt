@@ -2,7 +2,7 @@
 use Rattle.std.proofs.Common.{◌≡◌, ℕ, ◌+◌, ◌<◌, ◌≤◌, true, false, List, length, take, get_or, ◌↔◌, ◌⊎◌, inl, inr, sym, subst, ◌∙◌}
 use Rattle.std.proofs.lemmas.List.{take_all}
 use Rattle.flush_core.specs.declared.sets.NodeSet.{NodeSet}
-use Rattle.flush_core.specs.NodeSets.{has_node, with_node}
+use Rattle.flush_core.specs.NodeSets.{has_node, with_member}
 use Rattle.flush_core.specs.Engine.{OfSome, Joins}
 use Rattle.flush_core.proofs.Own.{both}
 use Rattle.flush_core.proofs.Listed.{one_more, still_one, next_one}
@@ -34,7 +34,7 @@ pub gather_all : {X : Type 0} (BringsIn : X → ℕ → Type 0) (xs : List X) (i
 gather_all BringsIn xs i start set le joins = subst (λ l. Joins (OfSome l BringsIn) start set) (take_all i xs le) joins
 
 -- a node is put in
-pub join_one : (More : ℕ → Type 0) (node : ℕ) (set joined : NodeSet) → ((x : ℕ) → has_node joined x ≡ with_node node true (has_node set) x) → More node → ((x : ℕ) → More x → node ≡ x) → Joins More set joined
+pub join_one : (More : ℕ → Type 0) (node : ℕ) (set joined : NodeSet) → ((x : ℕ) → has_node joined x ≡ with_member node true (has_node set) x) → More node → ((x : ℕ) → More x → node ≡ x) → Joins More set joined
 join_one More node set joined put is only x = (
   λ has. elim (with_cases node x (has_node set) (sym (put x) ∙ has)) [ inl e ↦ inr (subst More e is) | inr old ↦ inl old ],
   λ from. elim from [

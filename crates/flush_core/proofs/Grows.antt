@@ -1,5 +1,6 @@
 -- What the fsyncs of a history's first entries keep is kept in the whole history.
 use Rattle.std.proofs.Common.{◌≡◌, ℕ, suc, ◌<◌, ◌≤◌, Bool, true, false, List, [], ◌∷◌, take, Some, IsSome, inl, inr, refl, sym, subst, ◌∙◌, arith}
+use borrow.Author.Tests.{lt-ltb}
 use Rattle.std.specs.FinMap.{get}
 use Rattle.sfs_tree.specs.declared.history.Entry.{Entry}
 use Rattle.sfs_tree.specs.Tree.{TreeState, row_of}
@@ -7,17 +8,20 @@ use Rattle.sfs_tree.specs.Sound.{Above}
 use Rattle.sfs_tree.specs.Changes.{RowChange, changes_of}
 use Rattle.sfs_tree.specs.History.{tree_after, IsLegal}
 use Rattle.sfs_tree.specs.Laws.{IsSoundTree}
-use Rattle.flush_core.specs.Cut.{Cut, cut_of, is_within}
+use Rattle.flush_core.specs.Cut.{Cut, cut_of, is_within, rows_at_cut}
 use Rattle.flush_core.specs.Rules.{IsChange, IsLastPlacing, IsClosed}
-use Rattle.flush_core.specs.Closure.{every_entry, Flush, AreInodesAfter, AreRaised, none, one_more, IsReached, IsKept, AreBorn}
+use Rattle.flush_core.specs.Closure.{every_entry, Flush, AreInodesAfter, AreRaised, none, one_more, IsNamedIn, IsReached, KeepsCut, AreBorn}
 use Rattle.flush_core.proofs.Runs.{Run, below_or}
 use Rattle.flush_core.proofs.Along.{tree_at, tree_at-after, run_of, nodes_at}
 use Rattle.flush_core.proofs.Lives.{born_before, ended_before, no_node_yet}
 use Rattle.flush_core.proofs.Commit.{IsBornAt, birth_at, fsyncs_keep}
 use Rattle.flush_core.proofs.Covered.{from_rows}
 use Rattle.flush_core.proofs.Children.{child_node}
-use Rattle.flush_core.proofs.Prefix.{change_whole, change_prefix, birth_prefix, kind_whole}
+use Rattle.flush_core.proofs.Prefix.{change_whole, change_prefix, birth_prefix, kind_whole, counted_rows-take}
 use Rattle.flush_core.proofs.Prefixes.{made_at, move_prefix, same_tree}
+use Rattle.flush_core.proofs.Views.{below}
+use Rattle.flush_core.proofs.Recount.{counted_rows-low}
+use Rattle.flush_core.proofs.NamedKept.{named_after}
 
 -- each node with an inode is a node of the tree after the history
 abbrev pub AreNodes : TreeState → List Entry → (ℕ → Bool) → Type 0
@@ -31,7 +35,7 @@ module _ (first : TreeState) (history : List Entry) (is : IsSoundTree first) (le
   at_end : (t x : ℕ) → IsSome (get (tree_at first history t).nodes x) → IsSome (get (tree_after first history).nodes x)
   at_end t x some = (nodes_at first history t is legal x some).0
 
-  module _ (n : ℕ) (cut : Cut) (inodes : ℕ → Bool) (low : (node : ℕ) → cut_of cut node ≤ n) (nodes : AreNodes first (take n history) inodes) (kept : IsKept first (take n history) cut inodes) where
+  module _ (n : ℕ) (cut : Cut) (inodes : ℕ → Bool) (low : (node : ℕ) → cut_of cut node ≤ n) (nodes : AreNodes first (take n history) inodes) (kept : KeepsCut first (take n history) cut inodes) where
     -- what lies below the cut lies below the count
     within_low : (t d : ℕ) → t < cut_of cut d → t < n
     within_low t d lt = let le = low d in omega arith
@@ -79,7 +83,7 @@ module _ (first : TreeState) (history : List Entry) (is : IsSoundTree first) (le
         there = subst (λ (tree : TreeState). IsSome (get tree.nodes birth.node)) (sym (tree_at-after first history n)) (nodes birth.node has)
 
     -- what the fsyncs of the first entries keep is kept in the whole history
-    pub kept_whole : IsKept first history cut inodes
+    pub kept_whole : KeepsCut first history cut inodes
     kept_whole = record { closed = closed_whole; born = born_whole }
 
   -- nodes of the tree after the first entries are nodes of the tree after all
@@ -113,10 +117,15 @@ module _ (first : TreeState) (history : List Entry) (is : IsSoundTree first) (le
     | false ↦ λ e. reached_node flush raised node ((sets.enters node e).0 has).1
   ] refl
 
--- any fsyncs keep both
+-- The rows at a cut that has no stamp above a count of first entries are those by these entries.
+pub rows_at_cut-take : (first : TreeState) (history : List Entry) (n : ℕ) (cut : Cut) → IsLegal first history → ((node : ℕ) → cut_of cut node ≤ n) → rows_at_cut first (take n history) cut ≡ rows_at_cut first history cut
+rows_at_cut-take first history n cut legal low = counted_rows-take first history n cut legal ∙ counted_rows-low first history n (below n) cut (λ t lt. lt-ltb t n lt) low
+
+-- what any fsyncs keep
 pub record IsKeptWell (first : TreeState) (history : List Entry) (cut : Cut) (inodes : ℕ → Bool) : Type 0 where
-  pub kept : IsKept first history cut inodes
+  pub kept : KeepsCut first history cut inodes
   pub nodes : AreNodes first history inodes
+  pub named : (node : ℕ) → IsNamedIn (rows_at_cut first history cut) node → inodes node ≡ true
 
 pub flushes_keep : (first : TreeState) (history : List Entry) → IsSoundTree first → IsLegal first history → {cut : Cut} {inodes : ℕ → Bool} {flushes : List Flush} {raised : Cut} {after : ℕ → Bool} → AreRaised first history every_entry cut inodes flushes raised after → IsKeptWell first history cut inodes → IsKeptWell first history raised after
 flushes_keep first history is legal none was = was
@@ -125,4 +134,5 @@ flushes_keep first history is legal (one_more flushes flush before raised inodes
     record {
       kept = fsyncs_keep first history before raised inodes_before after flush is legal now.kept raise sets;
       nodes = nodes_raised first history is legal before inodes_before flush raised after sets now.nodes;
+      named = named_after first history every_entry flush before raised inodes_before is legal (λ t lt. refl) raise after sets refl now.named;
     }

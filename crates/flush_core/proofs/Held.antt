@@ -1,6 +1,5 @@
 -- What is held over a whole history in each state of a run that leads to it.
 use Rattle.std.proofs.Common.{◌≡◌, ℕ, zero, suc, ◌≤◌, Bool, true, List, [], ◌∷◌, ◌++◌, length, take, Option, Some, None, IsSome, is_some, inl, inr, refl, sym, ap, subst, ◌∙◌, nat_eq, not, arith}
-use borrow.Author.Tests.{ltb-true}
 use Rattle.std.specs.Prelude.{slice_get}
 use Rattle.std.specs.FinMap.{get, empty}
 use Rattle.sfs_tree.specs.declared.history.Entry.{Entry}
@@ -9,15 +8,14 @@ use Rattle.sfs_tree.specs.History.{tree_after, IsLegal}
 use Rattle.sfs_tree.specs.Laws.{IsSoundTree}
 use Rattle.flush_core.specs.declared.event.Event.{Event}
 use Rattle.flush_core.specs.declared.event.Event.TheVariants as event
-use Rattle.flush_core.specs.Cut.{Cut, cut_of, is_within}
+use Rattle.flush_core.specs.Cut.{Cut, cut_of}
 use Rattle.flush_core.specs.Rules.{IsOneOf}
-use Rattle.flush_core.specs.Closure.{every_entry, Flush, AreRaised, none, one_more}
-use Rattle.flush_core.specs.Machine.{Flight, MachineState, opened_for, kept_of, IsRaisedBy, Takes}
+use Rattle.flush_core.specs.Closure.{every_entry, Flush, HasLiveNode, AreRaised, none, one_more}
+use Rattle.flush_core.specs.Machine.{Flight, MachineState, opened_for, kept_of, IsRaisedBy, Accepts}
 use Rattle.flush_core.specs.Runs.{IsRun, AreAlive}
 use Rattle.flush_core.proofs.Along.{in_left, in_right, in_either}
-use Rattle.flush_core.proofs.Covered.{from_rows}
-use Rattle.flush_core.proofs.Lists.{first_kept, nothing_within}
-use Rattle.flush_core.proofs.Views.{IsLive, IsHeld}
+use Rattle.flush_core.proofs.Lists.{first_kept_well}
+use Rattle.flush_core.proofs.Views.{IsHeld}
 use Rattle.flush_core.proofs.Listed.{from_map}
 use Rattle.flush_core.proofs.RunFacts.{IsPrefix, IsSteady, in_filter, flight_found, kept_flush, cuts_stay_low, event_there, steady_at, prefix_later}
 use Rattle.flush_core.proofs.Prefix.{take_take}
@@ -27,23 +25,13 @@ use Rattle.flush_core.proofs.RaisesHold.{raises_hold}
 
 -- at the cut 0, with the nodes of the first tree, it is held
 pub first_held : (first : TreeState) (history : List Entry) → IsSoundTree first → IsLegal first history → IsHeld first history empty (λ node. is_some (get first.nodes node))
-first_held first history is legal = record {
-  kept = first_kept first history (λ node. is_some (get first.nodes node)) is legal (λ _. refl);
-  named = λ node row. elim (from_rows (is_within empty) _ row.directory row.name first.rows node row.row) [
-    | inl there ↦ some (get first.nodes node) (is.sound.node row.directory row.name node there)
-    | inr f ↦ nothing_within f.change.stamp f.change.directory (ltb-true _ _ f.passes)
-  ];
-}
-  where
-    some : (o : Option Node) → IsSome o → is_some o ≡ true
-    some (Some x) e = refl
-    some None e = cc
+first_held first history is legal = let all = first_kept_well first history is legal in record { kept = all.kept; named = all.named }
 
 -- fsyncs of the first entries keep it over the whole history
 pub flushes_hold : (first : TreeState) (history : List Entry) (n : ℕ) → IsSoundTree first → IsLegal first history → n ≤ length history → {cut : Cut} {inodes : ℕ → Bool} {flushes : List Flush} {raised : Cut} {after : ℕ → Bool} → AreRaised first (take n history) every_entry cut inodes flushes raised after
     → ((node : ℕ) → cut_of cut node ≤ n)
     → ((flush : Flush) → IsOneOf flushes flush → flush.stamp ≤ n)
-    → ((flush : Flush) → IsOneOf flushes flush → IsLive first history flush)
+    → ((flush : Flush) → IsOneOf flushes flush → HasLiveNode first history flush)
     → IsHeld first history cut inodes
     → IsHeld first history raised after
 flushes_hold first history n is legal le none low stamps live held = held
@@ -70,19 +58,19 @@ module _ (first : TreeState) (events : List Event) (states : ℕ → MachineStat
   legal_whole = (steady_at first events states run last within).legal
 
   -- what is alive after some entries of a state's history is so after those of the whole
-  pub live_whole : (place : ℕ) → place ≤ last → (flush : Flush) → flush.stamp ≤ count place → is_alive (tree_after first (take flush.stamp (states place).history)) flush.node ≡ true → IsLive first whole flush
+  pub live_whole : (place : ℕ) → place ≤ last → (flush : Flush) → flush.stamp ≤ count place → is_alive (tree_after first (take flush.stamp (states place).history)) flush.node ≡ true → HasLiveNode first whole flush
   live_whole place le flush low live =
       subst (λ (h : List Entry). is_alive (tree_after first h) flush.node ≡ true) (ap (take flush.stamp) (sym (prefix_at place le).first_part) ∙ take_take whole flush.stamp (count place) low) live
 
   abbrev AreLive : MachineState → Type 0
-  AreLive state = (flight : Flight) → IsOneOf state.flights flight → IsLive first whole flight.flush
+  AreLive state = (flight : Flight) → IsOneOf state.flights flight → HasLiveNode first whole flight.flush
 
-  live_step : (place : ℕ) (e : Event) → suc place ≤ last → slice_get events place ≡ Some e → Takes (states place) e (states (suc place)) → IsSteady first (states (suc place)) → AreLive (states place) → AreLive (states (suc place))
+  live_step : (place : ℕ) (e : Event) → suc place ≤ last → slice_get events place ≡ Some e → Accepts (states place) e (states (suc place)) → IsSteady first (states (suc place)) → AreLive (states place) → AreLive (states (suc place))
   live_step place (event.Call entry) le stands takes steady was = subst AreLive (sym takes.moves.1) was
   live_step place (event.CutAt commit node stamp) le stands takes steady was = subst AreLive (sym takes.moves.2) (λ flight one. elim (in_either (states place).flights (takes.moves.0 ∷ []) flight one) [
     | inl old ↦ was flight old
     | inr new ↦ elim new [
-      | inl same ↦ subst (λ (f : Flight). IsLive first whole f.flush) same (subst (IsLive first whole) (sym takes.moves.1.own) own)
+      | inl same ↦ subst (λ (f : Flight). HasLiveNode first whole f.flush) same (subst (HasLiveNode first whole) (sym takes.moves.1.own) own)
       | inr nothing ↦ absurd nothing
     ]
   ])
@@ -90,7 +78,7 @@ module _ (first : TreeState) (events : List Event) (states : ℕ → MachineStat
       flush : Flush
       flush = record { node = node.0; stamp = stamp.0 }
 
-      own : IsLive first whole flush
+      own : HasLiveNode first whole flush
       own = live_whole place (omega arith) flush low (alive place commit flush (record { event = event.CutAt commit node stamp; stands = stands; begins = refl }))
         where
           new_one : IsOneOf (states (suc place)).flights takes.moves.0
@@ -99,7 +87,7 @@ module _ (first : TreeState) (events : List Event) (states : ℕ → MachineStat
           low : stamp.0 ≤ count place
           low = subst (λ (s : MachineState). stamp.0 ≤ length s.history) takes.moves.2 (subst (λ (f : Flush). f.stamp ≤ count (suc place)) takes.moves.1.own (steady.stamps takes.moves.0 new_one))
   live_step place (event.Opened commit) le stands takes steady was =
-      subst AreLive (sym takes.moves) (λ flight one. let from = from_map (opened_for commit) (states place).flights flight one in subst (λ (f : Flight). IsLive first whole f.flush) from.2 (was from.0 from.1))
+      subst AreLive (sym takes.moves) (λ flight one. let from = from_map (opened_for commit) (states place).flights flight one in subst (λ (f : Flight). HasLiveNode first whole f.flush) from.2 (was from.0 from.1))
   live_step place (event.Durable commit) le stands takes steady was = subst AreLive (sym takes.moves.4) (λ flight one. was flight (in_filter (λ (f : Flight). not (nat_eq f.commit commit)) (states place).flights flight one).0)
   live_step place (event.Fail commit) le stands takes steady was = subst AreLive (sym takes.moves) was
   live_step place (event.Crash kept) le stands takes steady was = subst AreLive (sym takes.moves.2) (λ flight one. absurd one)
@@ -119,7 +107,7 @@ module _ (first : TreeState) (events : List Event) (states : ℕ → MachineStat
   flights_hold place le {flushes} {cut} {inodes} raised from held =
       let steady = steady_at first events states run place (omega arith) in
       flushes_hold first whole (count place) is legal_whole (prefix_at place le).shorter (subst (λ (h : List Entry). AreRaised first h every_entry (states place).cut (states place).inodes flushes cut inodes) (sym (prefix_at place le).first_part) raised) steady.cuts (λ flush one. let f = from flush one in subst (λ (g : Flush). g.stamp ≤ count place) f.2 (steady.stamps f.0 f.1))
-      (λ flush one. let f = from flush one in subst (IsLive first whole) f.2 (flights_live place le f.0 f.1)) held
+      (λ flush one. let f = from flush one in subst (HasLiveNode first whole) f.2 (flights_live place le f.0 f.1)) held
 
   abbrev IsHeldIn : MachineState → Type 0
   IsHeldIn state = IsHeld first whole state.cut state.inodes
@@ -128,7 +116,7 @@ module _ (first : TreeState) (events : List Event) (states : ℕ → MachineStat
   raised_held place le flushes raised by from held =
       flights_hold place le (subst (λ (f : TreeState). AreRaised f (states place).history every_entry (states place).cut (states place).inodes flushes raised.cut raised.inodes) (steady_at first events states run place (omega arith)).start by.raised) from held
 
-  held_step : (place : ℕ) (e : Event) → place ≤ last → Takes (states place) e (states (suc place)) → IsHeldIn (states place) → IsHeldIn (states (suc place))
+  held_step : (place : ℕ) (e : Event) → place ≤ last → Accepts (states place) e (states (suc place)) → IsHeldIn (states place) → IsHeldIn (states (suc place))
   held_step place (event.Call entry) le takes held = subst IsHeldIn (sym takes.moves.1) held
   held_step place (event.CutAt commit node stamp) le takes held = subst IsHeldIn (sym takes.moves.2) held
   held_step place (event.Opened commit) le takes held = subst IsHeldIn (sym takes.moves) held

@@ -62,3 +62,11 @@ pub mod Placings
 pub mod Ways
 pub mod Breaks
 pub mod Stories
+pub mod NamedKept
+pub mod WholeHistory
+pub mod Entries
+pub mod MemberKinds
+pub mod DirectoryPlaces
+pub mod KeptInodes
+pub mod BlankFiles
+pub mod NewNodes

@@ -1,5 +1,6 @@
 -- A list of fsyncs, from the cut 0 and the nodes of the first tree.
 use Rattle.std.proofs.Common.{◌≡◌, ℕ, ◌<◌, Bool, true, List, [], ◌∷◌, Option, Some, None, IsSome, is_some, inl, inr, refl, sym, ap, subst, ◌∙◌, arith}
+use borrow.Author.Tests.{ltb-true}
 use Rattle.std.specs.Option.{unwrap_or}
 use Rattle.std.specs.Ordering.{nat_cmp}
 use Rattle.std.specs.FinMap.{get, empty, get-empty}
@@ -7,16 +8,17 @@ use Rattle.sfs_tree.specs.declared.history.Entry.{Entry}
 use Rattle.sfs_tree.specs.Tree.{TreeState, Node}
 use Rattle.sfs_tree.specs.History.{IsLegal}
 use Rattle.sfs_tree.specs.Laws.{IsSoundTree}
-use Rattle.flush_core.specs.Cut.{Cut, cut_of}
+use Rattle.flush_core.specs.Cut.{Cut, cut_of, is_within, rows_at_cut}
 use Rattle.flush_core.specs.Rules.{IsClosed, IsOneOf}
-use Rattle.flush_core.specs.Covers.{ArePlaced, IsCovered, IsThere}
-use Rattle.flush_core.specs.Closure.{every_entry, Flush, AreFlushed, none, one_more, IsKept}
+use Rattle.flush_core.specs.Covers.{ArePlaced, IsCovered}
+use Rattle.flush_core.specs.Closure.{every_entry, Flush, HasNode, IsNamedIn, AreFlushed, none, one_more, KeepsCut}
 use Rattle.flush_core.specs.Laws.{ListsCover, ListsKeep}
-use Rattle.flush_core.proofs.Along.{tree_at, run_of, in_left, in_right, in_either}
-use Rattle.flush_core.proofs.Covered.{fsyncs_cover}
+use Rattle.flush_core.proofs.Along.{tree_at, run_of, in_left, in_right, in_either, first_nodes}
+use Rattle.flush_core.proofs.Covered.{from_rows, fsyncs_cover}
 use Rattle.flush_core.proofs.Closed.{closed_cuts_are_sound}
 use Rattle.flush_core.proofs.Lives.{no_node_yet}
-use Rattle.flush_core.proofs.Commit.{birth_at, fsyncs_keep}
+use Rattle.flush_core.proofs.Commit.{birth_at}
+use Rattle.flush_core.proofs.Grows.{IsKeptWell, flushes_keep}
 
 -- nothing lies below the cut 0
 pub nothing_within : {P : Type 0} (t d : ℕ) → t < cut_of empty d → P
@@ -33,7 +35,7 @@ empty_closed first history = record {
   ancestors = λ change above node holder name last move within way among row placing. nothing_within change.stamp change.directory within;
 }
 
-pub first_kept : (first : TreeState) (history : List Entry) (inodes : ℕ → Bool) → IsSoundTree first → IsLegal first history → ((node : ℕ) → inodes node ≡ is_some (get first.nodes node)) → IsKept first history empty inodes
+pub first_kept : (first : TreeState) (history : List Entry) (inodes : ℕ → Bool) → IsSoundTree first → IsLegal first history → ((node : ℕ) → inodes node ≡ is_some (get first.nodes node)) → KeepsCut first history empty inodes
 first_kept first history inodes is legal same = record {
   closed = empty_closed first history;
   born = λ birth one has kind.
@@ -49,14 +51,33 @@ first_kept first history inodes is legal same = record {
     at_first [] x some = some
     at_first (e ∷ h) x some = some
 
-all_kept : (first : TreeState) (history : List Entry) → IsSoundTree first → IsLegal first history → {flushes : List Flush} {cut : Cut} {inodes : ℕ → Bool} → AreFlushed first history every_entry flushes cut inodes → IsKept first history cut inodes
-all_kept first history is legal none = first_kept first history (λ node. is_some (get first.nodes node)) is legal (λ _. refl)
-all_kept first history is legal (one_more flushes flush cut raised inodes after before raise sets) = fsyncs_keep first history cut raised inodes after flush is legal (all_kept first history is legal before) raise sets
+-- what a row at the cut 0 names is a node of the first tree
+first_named : (first : TreeState) (history : List Entry) → IsSoundTree first → (node : ℕ) → IsNamedIn (rows_at_cut first history empty) node → is_some (get first.nodes node) ≡ true
+first_named first history is node row = elim (from_rows (is_within empty) _ row.directory row.name first.rows node row.row) [
+  | inl there ↦ some (get first.nodes node) (is.sound.node row.directory row.name node there)
+  | inr f ↦ nothing_within f.change.stamp f.change.directory (ltb-true _ _ f.passes)
+]
+  where
+    some : (o : Option Node) → IsSome o → is_some o ≡ true
+    some (Some x) e = refl
+    some None e = cc
+
+-- at the cut 0, with the nodes of the first tree, all is kept
+pub first_kept_well : (first : TreeState) (history : List Entry) → IsSoundTree first → IsLegal first history → IsKeptWell first history empty (λ node. is_some (get first.nodes node))
+first_kept_well first history is legal = record {
+  kept = first_kept first history (λ node. is_some (get first.nodes node)) is legal (λ _. refl);
+  nodes = λ node has. (first_nodes first history 0 is legal node (some (get first.nodes node) has)).0;
+  named = first_named first history is;
+}
+  where
+    some : (o : Option Node) → is_some o ≡ true → IsSome o
+    some (Some x) e = refl
+    some None e = cc
 
 pub lists_keep : ListsKeep
 lists_keep first history flushes cut inodes is legal flushed =
-    let kept = all_kept first history is legal flushed in
-    record { kept = kept; sound = closed_cuts_are_sound first history cut is legal kept.closed }
+    let all = flushes_keep first history is legal flushed (first_kept_well first history is legal) in
+    record { kept = all.kept; sound = closed_cuts_are_sound first history cut is legal all.kept.closed; named = all.named }
 
 first_placed : (first : TreeState) (history : List Entry) (inodes : ℕ → Bool) → IsSoundTree first → IsLegal first history → ((node : ℕ) → inodes node ≡ is_some (get first.nodes node)) → ArePlaced first history empty inodes
 first_placed first history inodes is legal same birth one has =
@@ -76,7 +97,7 @@ record AreCovered (first : TreeState) (history : List Entry) (flushes : List Flu
   placed : ArePlaced first history cut inodes
   each : (flush : Flush) → IsOneOf flushes flush → IsCovered first history cut flush
 
-all_covered : (first : TreeState) (history : List Entry) → IsSoundTree first → IsLegal first history → {flushes : List Flush} {cut : Cut} {inodes : ℕ → Bool} → AreFlushed first history every_entry flushes cut inodes → ((flush : Flush) → IsOneOf flushes flush → IsThere first history flush) → AreCovered first history flushes cut inodes
+all_covered : (first : TreeState) (history : List Entry) → IsSoundTree first → IsLegal first history → {flushes : List Flush} {cut : Cut} {inodes : ℕ → Bool} → AreFlushed first history every_entry flushes cut inodes → ((flush : Flush) → IsOneOf flushes flush → HasNode first history flush) → AreCovered first history flushes cut inodes
 all_covered first history is legal none there = record { placed = first_placed first history (λ node. is_some (get first.nodes node)) is legal (λ _. refl); each = λ flush one. absurd one }
 all_covered first history is legal (one_more flushes flush cut raised inodes after before raise sets) there =
     let was = all_covered first history is legal before (λ other one. there other (in_left flushes (flush ∷ []) other one)) in

@@ -1,7 +1,7 @@
 -- The places of marks, gathered one by one.
 use Rattle.std.proofs.Common.{◌≡◌, ◌≢◌, ℕ, zero, suc, ◌+◌, ◌<◌, ◌≤◌, ◌↔◌, Bool, true, false, cond, List, [], ◌∷◌, ◌++◌, length, get_or, ◌⊎◌, inl, inr, refl, sym, ap, subst, ◌∙◌, nat_eq, arith}
 use borrow.Author.Tests.{eqb-true, eqb-false, eq-eqb}
-use Rattle.flush_core.specs.NodeSets.{with_node}
+use Rattle.flush_core.specs.NodeSets.{with_member}
 use Rattle.flush_core.specs.Rules.{IsOneOf}
 use Rattle.flush_core.proofs.Along.{in_left, in_right, in_either}
 use Rattle.flush_core.proofs.Own.{both}
@@ -38,19 +38,19 @@ marked_skip marks place list below mark node = (
 )
 
 -- nodes of which one is put in
-pub with_in : (node : ℕ) (is_in : Bool) (nodes : ℕ → Bool) → with_node node is_in nodes node ≡ is_in
+pub with_in : (node : ℕ) (is_in : Bool) (nodes : ℕ → Bool) → with_member node is_in nodes node ≡ is_in
 with_in node is_in nodes = ap (λ b. cond b is_in (nodes node)) (eq-eqb node node refl)
 
-pub with_other : (node x : ℕ) (is_in : Bool) (nodes : ℕ → Bool) → x ≢ node → with_node node is_in nodes x ≡ nodes x
+pub with_other : (node x : ℕ) (is_in : Bool) (nodes : ℕ → Bool) → x ≢ node → with_member node is_in nodes x ≡ nodes x
 with_other node x is_in nodes differ = elim (nat_eq x node) as (λ b. nat_eq x node ≡ b → cond b is_in (nodes x) ≡ nodes x) [
   | true ↦ λ e. absurd (differ (eqb-true _ _ e))
   | false ↦ λ _. refl
 ] refl
 
-pub with_kept : (node x : ℕ) (nodes : ℕ → Bool) → nodes x ≡ true → with_node node true nodes x ≡ true
+pub with_kept : (node x : ℕ) (nodes : ℕ → Bool) → nodes x ≡ true → with_member node true nodes x ≡ true
 with_kept node x nodes is = elim (nat_eq x node) as (λ b. cond b true (nodes x) ≡ true) [ true ↦ refl | false ↦ is ]
 
-pub with_cases : (node x : ℕ) (nodes : ℕ → Bool) → with_node node true nodes x ≡ true → (node ≡ x) ⊎ (nodes x ≡ true)
+pub with_cases : (node x : ℕ) (nodes : ℕ → Bool) → with_member node true nodes x ≡ true → (node ≡ x) ⊎ (nodes x ≡ true)
 with_cases node x nodes = elim (nat_eq x node) as (λ b. nat_eq x node ≡ b → cond b true (nodes x) ≡ true → (node ≡ x) ⊎ (nodes x ≡ true)) [
   | true ↦ λ e _. inl (sym (eqb-true _ _ e))
   | false ↦ λ _ is. inr is

@@ -2,7 +2,7 @@
 use Rattle.std.proofs.Common.{◌≡◌, ℕ, ◌<◌, ◌≤◌, Bool, true, false, cond, List, [], ◌∷◌, ◌++◌, take, Some, None, IsSome, inl, inr, refl, sym, ap, subst, ◌∙◌, nat_eq, arith}
 use Rattle.std.specs.FinMap.{get}
 use Rattle.sfs_tree.specs.declared.history.Entry.{Entry}
-use Rattle.sfs_tree.specs.Tree.{TreeState, row_of}
+use Rattle.sfs_tree.specs.Tree.{TreeState, row_of, is_directory}
 use Rattle.sfs_tree.specs.Effect.{Effect, Stays, Adds, Removes, Moves, Edits}
 use Rattle.sfs_tree.specs.Changes.{RowChange, added, removed, other_side, replaced, changes_by}
 use Rattle.sfs_tree.specs.Sound.{Above, at_root, below, IsSound}
@@ -12,13 +12,12 @@ use Rattle.sfs_tree.proofs.KeepsNodes.{directory_node}
 use Rattle.flush_core.specs.Cut.{Cut}
 use Rattle.flush_core.specs.Rules.{IsOneOf, IsChange, Birth, births_of}
 use Rattle.flush_core.specs.Closure as closure
-use Rattle.flush_core.specs.Closure.{Counts, Flush, Closure, IsConcerned}
+use Rattle.flush_core.specs.Closure.{Counts, Flush, HasLiveNode, Closure, IsConcerned}
 use Rattle.flush_core.proofs.Own.{goes_in, comes_in}
 use Rattle.flush_core.proofs.Runs.{Run, Made, below_or}
 use Rattle.flush_core.proofs.Along.{tree_at, effect_at, tree_at-after, run_of, sound_at}
 use Rattle.flush_core.proofs.Lives.{live_at, later, no_node_yet}
 use Rattle.flush_core.proofs.Commit.{IsBornAt, birth_at}
-use Rattle.flush_core.proofs.Views.{IsLive}
 use Rattle.flush_core.proofs.Children.{child_node}
 use Rattle.flush_core.proofs.Prefixes.{made_at, live_node}
 
@@ -30,11 +29,11 @@ other_is a b o e = elim (nat_eq a b) as (λ t. cond t None (Some b) ≡ Some o �
     some_is q = cc
 
 -- a change with this directory
-abbrev HasOwn : TreeState → ℕ → Effect → ℕ → Type 0
+abbrev pub HasOwn : TreeState → ℕ → Effect → ℕ → Type 0
 HasOwn tree t effect d = (y : RowChange) × IsOneOf (changes_by tree t effect) y × (y.directory ≡ d)
 
 -- the other directory of a rename has a change, too
-other_changes : (tree : TreeState) (t : ℕ) (effect : Effect) (x : RowChange) (o : ℕ) → IsOneOf (changes_by tree t effect) x → x.other ≡ Some o → HasOwn tree t effect o
+pub other_changes : (tree : TreeState) (t : ℕ) (effect : Effect) (x : RowChange) (o : ℕ) → IsOneOf (changes_by tree t effect) x → x.other ≡ Some o → HasOwn tree t effect o
 other_changes tree t Stays x o one two = absurd one
 other_changes tree t (Edits file edit) x o one two = absurd one
 other_changes tree t (Adds d n c) x o one two = elim one [ inl e ↦ absurd (none (ap (λ (y : RowChange). y.other) e ∙ two)) | inr none ↦ absurd none ]
@@ -63,12 +62,12 @@ other_changes tree t (Moves p n q m c) x o one two =
       | inr rest ↦ elim rest [ inl e ↦ first (ap (λ (y : RowChange). y.other) e ∙ two) | inr none ↦ absurd none ]
     ]
 
--- the directories above another are nodes
-above_node : (tree : TreeState) → IsSound tree → {d : ℕ} {above : List ℕ} → Above tree d above → (a : ℕ) → IsOneOf above a → IsSome (get tree.nodes a)
-above_node tree s at_root a one = absurd one
-above_node tree s (below d holder name above row rest) a one = elim one [
-  | inl e ↦ subst (λ (y : ℕ). IsSome (get tree.nodes y)) e (directory_node tree holder (s.holds holder name d row).0)
-  | inr more ↦ above_node tree s rest a more
+-- those above another are directories
+pub above_directory : (tree : TreeState) → IsSound tree → {d : ℕ} {above : List ℕ} → Above tree d above → (a : ℕ) → IsOneOf above a → is_directory tree a ≡ true
+above_directory tree s at_root a one = absurd one
+above_directory tree s (below d holder name above row rest) a one = elim one [
+  | inl e ↦ subst (λ (y : ℕ). is_directory tree y ≡ true) e (s.holds holder name d row).0
+  | inr more ↦ above_directory tree s rest a more
 ]
 
 module _ (first : TreeState) (history : List Entry) (is : IsSoundTree first) (legal : IsLegal first history) where
@@ -79,7 +78,7 @@ module _ (first : TreeState) (history : List Entry) (is : IsSoundTree first) (le
   own_node : (x : RowChange) (t : ℕ) → Made run t x → (u : ℕ) → t ≤ u → IsSome (get (tree_at first history u).nodes x.directory)
   own_node x t one u le = later run t u x.directory le (directory_node (tree_at first history t) x.directory (live_at run t x one).kind)
 
-  module _ (counts : Counts) (cut : Cut) (inodes : ℕ → Bool) (flush : Flush) (live : IsLive first history flush) where
+  module _ (counts : Counts) (cut : Cut) (inodes : ℕ → Bool) (flush : Flush) (live : HasLiveNode first history flush) where
     abbrev IsThen : ℕ → Type 0
     IsThen node = IsSome (get (tree_at first history flush.stamp).nodes node)
 
@@ -90,7 +89,7 @@ module _ (first : TreeState) (history : List Entry) (is : IsSoundTree first) (le
 
     above_then : (change : RowChange) (above : List ℕ) (node : ℕ) → change.stamp < flush.stamp → Above (tree_after first (take change.stamp history)) change.directory above → IsOneOf above node → IsThen node
     above_then change above node lt way among =
-        later run change.stamp flush.stamp node (omega arith) (above_node (tree_at first history change.stamp) (sound_at first history 0 change.stamp is legal) (subst (λ (tree : TreeState). Above tree change.directory above) (sym (tree_at-after first history change.stamp)) way) node among)
+        later run change.stamp flush.stamp node (omega arith) (directory_node (tree_at first history change.stamp) node (above_directory (tree_at first history change.stamp) (sound_at first history 0 change.stamp is legal) (subst (λ (tree : TreeState). Above tree change.directory above) (sym (tree_at-after first history change.stamp)) way) node among))
 
     place_then : (birth : Birth) → IsOneOf (births_of first history) birth → IsThen birth.node → IsThen birth.directory
     place_then birth one there = elim (below_or birth.stamp flush.stamp) [

@@ -28,7 +28,7 @@ use Rattle.flush_core.proofs.Views.{below, NamesDecideRows}
 
 module _ (tree : TreeState) (core t : ℕ) (s : IsSound tree) where
   -- a row before an effect is there after it, or a change of its directory names its child
-  row_went : (effect : Effect) (makes : Option Kind) → Fits tree core effect makes → (h : ℕ) (k : List ℕ) (a : ℕ) → row_of tree h k ≡ Some a → (row_of (tree_with tree core effect makes) h k ≡ Some a) ⊎ HasChange tree core t s effect h a
+  pub row_went : (effect : Effect) (makes : Option Kind) → Fits tree core effect makes → (h : ℕ) (k : List ℕ) (a : ℕ) → row_of tree h k ≡ Some a → (row_of (tree_with tree core effect makes) h k ≡ Some a) ⊎ HasChange tree core t s effect h a
   row_went Stays makes f h k a row = inl row
   row_went (Edits file edit) makes f h k a row = inl row
   row_went (Adds d n c) None f h k a row = elim (is_here h d k n) [

@@ -3,7 +3,7 @@ use Rattle.std.proofs.Common.{sym, ◌∙◌}
 use Rattle.std.specs.Prelude.{◌↔◌}
 use Rattle.sfs_tree.specs.Tree.{TreeState}
 use Rattle.flush_core.specs.Closure.{Flush}
-use Rattle.flush_core.specs.Runs.{View, IsOneCommit}
+use Rattle.flush_core.specs.Runs.{CommitView, IsOneCommit}
 use Rattle.flush_core.proofs.Views.{AreAlike}
 
 turned : {P Q : Type 0} → P ↔ Q → Q ↔ P
@@ -14,7 +14,7 @@ onward a b = (λ p. b.0 (a.0 p), λ r. a.1 (b.1 r))
 
 module _ (first : TreeState) (flush : Flush) where
   -- views are alike the other way round, and over a third one
-  pub alike_back : (view other : View) → AreAlike first flush view other → AreAlike first flush other view
+  pub alike_back : (view other : CommitView) → AreAlike first flush view other → AreAlike first flush other view
   alike_back view other a = record {
     cuts = sym a.cuts;
     inodes = λ node. sym (a.inodes node);
@@ -26,7 +26,7 @@ module _ (first : TreeState) (flush : Flush) where
     dead = λ raised raise node concerned. turned (a.dead raised ((a.raises raised).1 raise) node ((a.concerned node).1 concerned));
   }
 
-  pub alike_on : (view other third : View) → AreAlike first flush view other → AreAlike first flush other third → AreAlike first flush view third
+  pub alike_on : (view other third : CommitView) → AreAlike first flush view other → AreAlike first flush other third → AreAlike first flush view third
   alike_on view other third a b = record {
     cuts = a.cuts ∙ b.cuts;
     inodes = λ node. a.inodes node ∙ b.inodes node;
@@ -39,7 +39,7 @@ module _ (first : TreeState) (flush : Flush) where
   }
 
   -- so is one commit
-  commit_back : (view other : View) → IsOneCommit first flush view other → IsOneCommit first flush other view
+  commit_back : (view other : CommitView) → IsOneCommit first flush view other → IsOneCommit first flush other view
   commit_back view other c = record {
     members = λ node. turned (c.members node);
     concerned = λ node. turned (c.concerned node);
@@ -50,7 +50,7 @@ module _ (first : TreeState) (flush : Flush) where
   }
 
   -- a view that is alike to one of a commit's makes the commit
-  pub alike_then : (view other third : View) → AreAlike first flush view other → IsOneCommit first flush other third → IsOneCommit first flush view third
+  pub alike_then : (view other third : CommitView) → AreAlike first flush view other → IsOneCommit first flush other third → IsOneCommit first flush view third
   alike_then view other third a c = record {
     members = λ node. onward (a.members node) (c.members node);
     concerned = λ node. onward (a.concerned node) (c.concerned node);
@@ -77,5 +77,5 @@ module _ (first : TreeState) (flush : Flush) where
         );
   }
 
-  pub then_alike : (view other third : View) → IsOneCommit first flush view other → AreAlike first flush other third → IsOneCommit first flush view third
+  pub then_alike : (view other third : CommitView) → IsOneCommit first flush view other → AreAlike first flush other third → IsOneCommit first flush view third
   then_alike view other third c a = commit_back third view (alike_then third other view (alike_back other third a) (commit_back view other c))

@@ -130,6 +130,6 @@ pub filter_all : (w : RowChange → Bool) (cs : List RowChange) → ((x : RowCha
 filter_all w [] h = refl
 filter_all w (x ∷ cs) h = ap (λ b. cond b (x ∷ filter w cs) (filter w cs)) (h x (inl refl)) ∙ ap (λ l. x ∷ l) (filter_all w cs (λ y one. h y (inr one)))
 
-pub filter_none : (w : RowChange → Bool) (cs : List RowChange) → ((x : RowChange) → IsOneOf cs x → w x ≡ false) → filter w cs ≡ []
+pub filter_none : {X : Type 0} (w : X → Bool) (cs : List X) → ((x : X) → IsOneOf cs x → w x ≡ false) → filter w cs ≡ []
 filter_none w [] h = refl
 filter_none w (x ∷ cs) h = ap (λ b. cond b (x ∷ filter w cs) (filter w cs)) (h x (inl refl)) ∙ filter_none w cs (λ y one. h y (inr one))

@@ -1,8 +1,9 @@
 -- What a legal history's first entries have of the whole history's trees, effects, changes and births.
-use Rattle.std.proofs.Common.{◌≡◌, ℕ, zero, suc, ◌+◌, ◌<◌, ◌≤◌, Bool, false, cond, ◌&&◌, List, [], ◌∷◌, ◌++◌, take, Option, Some, IsSome, inl, inr, refl, sym, ap, subst, ◌∙◌, arith}
+use Rattle.std.proofs.Common.{◌≡◌, ℕ, zero, suc, ◌+◌, ◌<◌, ◌≤◌, Bool, false, cond, ◌&&◌, List, [], ◌∷◌, ◌++◌, length, take, Option, Some, IsSome, inl, inr, refl, sym, ap, subst, ◌∙◌, arith}
 use borrow.Author.Tests.{lt-ltb}
 use Rattle.std.specs.Prelude.{filter, fold}
 use Rattle.std.proofs.lemmas.List.Elements.{filter-append}
+use Rattle.std.proofs.Math.Seq.{take-length}
 use Rattle.std.specs.FinMap.{get}
 use Rattle.sfs_base.specs.declared.numbers.Kind.{Kind}
 use Rattle.sfs_tree.specs.declared.history.Entry.{Entry}
@@ -127,6 +128,10 @@ module _ (first : TreeState) (history : List Entry) (n : ℕ) (legal : IsLegal f
   -- a node of their tree has its kind in the whole history's
   pub kind_whole : (x : ℕ) → IsSoundTree first → IsSome (get (tree_at first history n).nodes x) → is_directory (tree_after first history) x ≡ is_directory (tree_after first (take n history)) x
   kind_whole x is some = (nodes_at first history n is legal x some).1 ∙ ap (λ (tree : TreeState). is_directory tree x) (tree_at-after first history n)
+
+-- a change of a legal history lies below its length
+pub stamp_below : (first : TreeState) (history : List Entry) (x : RowChange) → IsLegal first history → IsChange first history x → x.stamp < length history
+stamp_below first history x legal one = change_below first history (length history) legal x (subst (λ (h : List Entry). IsChange first h x) (sym (take-length history)) one)
 
 -- tests that give one answer for each of a list pass the same
 pub filter_same : (w v : RowChange → Bool) (cs : List RowChange) → ((x : RowChange) → IsOneOf cs x → w x ≡ v x) → filter w cs ≡ filter v cs

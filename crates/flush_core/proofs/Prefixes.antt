@@ -13,12 +13,12 @@ use Rattle.sfs_tree.proofs.RowFacts.{alive_named}
 use Rattle.sfs_tree.proofs.KeepsNodes.{directory_node}
 use Rattle.flush_core.specs.Cut.{Cut, counted_rows_at_cut}
 use Rattle.flush_core.specs.Rules.{IsChange, IsOneOf, Birth, births_of, IsMove}
-use Rattle.flush_core.specs.Closure.{every_entry, Flush, InSpan, HasNaming, IsNamedIn, IsReached, IsDead}
+use Rattle.flush_core.specs.Closure.{every_entry, Flush, HasLiveNode, InSpan, HasNaming, IsNamedIn, IsReached, IsDead}
 use Rattle.flush_core.proofs.Runs.{Run, Made, below_or}
 use Rattle.flush_core.proofs.Along.{tree_at, tree_at-after, run_of, change_of, sound_at}
 use Rattle.flush_core.proofs.Lives.{later, no_node_yet}
 use Rattle.flush_core.proofs.Commit.{birth_at}
-use Rattle.flush_core.proofs.Views.{IsLive, below, PrefixesCount}
+use Rattle.flush_core.proofs.Views.{below, PrefixesCount}
 use Rattle.flush_core.proofs.Prefix.{take_take, change_below, change_whole, change_prefix, birth_whole, birth_prefix, kind_whole, counted_rows-take}
 use Rattle.flush_core.proofs.Children.{child_node}
 use Rattle.flush_core.proofs.Alike.{Carries, GiveAlike, are_alike}
@@ -47,7 +47,7 @@ module _ (first : TreeState) (history : List Entry) (is : IsSoundTree first) (le
   ]
 
   -- an fsync's node is one from its stamp on
-  pub live_node : (flush : Flush) → IsLive first history flush → (u : ℕ) → flush.stamp ≤ u → IsSome (get (tree_at first history u).nodes flush.node)
+  pub live_node : (flush : Flush) → HasLiveNode first history flush → (u : ℕ) → flush.stamp ≤ u → IsSome (get (tree_at first history u).nodes flush.node)
   live_node flush live u le =
       later run flush.stamp u flush.node le (alive_node (tree_at first history flush.stamp) flush.node (sound_at first history 0 flush.stamp is legal) (subst (λ (tree : TreeState). is_alive tree flush.node ≡ true) (sym (tree_at-after first history flush.stamp)) live))
 
@@ -112,7 +112,7 @@ module _ (first : TreeState) (history : List Entry) (is : IsSoundTree first) (le
     pub same_tree : (s : ℕ) → s < n → tree_after first (take s prefix) ≡ tree_after first (take s history)
     same_tree s lt = ap (tree_after first) (take_take history s n (omega arith))
 
-    module _ (flush : Flush) (cut : Cut) (inodes : ℕ → Bool) (low : flush.stamp ≤ n) (live : IsLive first history flush) where
+    module _ (flush : Flush) (cut : Cut) (inodes : ℕ → Bool) (low : flush.stamp ≤ n) (live : HasLiveNode first history flush) where
       to_whole : Carries first prefix every_entry history (below n) cut inodes flush
       to_whole = record {
         span = λ x span. span_whole cut flush.stamp x span;

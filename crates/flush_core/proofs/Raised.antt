@@ -13,7 +13,7 @@ use Rattle.flush_core.specs.Rules.{IsOneOf}
 use Rattle.flush_core.specs.Closure.{every_entry, Flush, IsConcerned, IsReached, IsDead, AreInodesAfter}
 use Rattle.flush_core.specs.Past.{IsPast}
 use Rattle.flush_core.specs.Stamps.{at_least}
-use Rattle.flush_core.specs.NodeSets.{has_node, with_node}
+use Rattle.flush_core.specs.NodeSets.{has_node, with_member}
 use Rattle.flush_core.specs.Engine.{RaisesThose}
 use Rattle.flush_core.specs.Members.{AreConcerned}
 use Rattle.flush_core.specs.Named.{AreNamed}
@@ -85,7 +85,7 @@ pub record AreSettled (past : Past) (raised : Cut) (inodes named : NodeSet) (own
   pub others : (node : ℕ) → (has_node after node ≢ has_node inodes node) → IsOneOf nodes node
 
 pub settle_more : (past : Past) (raised : Cut) (inodes named : NodeSet) (own : ℕ) (nodes : List ℕ) (i d v : ℕ) (has : Bool) (before after : NodeSet) → i < length nodes → v ≡ get_or nodes i d → AreSettled past raised inodes named own (take i nodes) before
-    → Settles past raised inodes named own v has → ((x : ℕ) → has_node after x ≡ with_node v has (has_node before) x) → AreSettled past raised inodes named own (take (i + 1) nodes) after
+    → Settles past raised inodes named own v has → ((x : ℕ) → has_node after x ≡ with_member v has (has_node before) x) → AreSettled past raised inodes named own (take (i + 1) nodes) after
 settle_more past raised inodes named own nodes i d v has before after lt is so_far settles step = record {
   settled = λ x in_list. elim (same_or_not x v) [
     | inl e ↦ subst (λ y. Settles past raised inodes named own y (has_node after y)) e (subst (Settles past raised inodes named own v) (sym (step v ∙ with_in v has (has_node before))) settles)

@@ -1,143 +1,30 @@
 -- What fsyncs keep over the whole history: what the tree at the cut names has an inode.
-use Rattle.std.proofs.Common.{◌≡◌, ℕ, zero, suc, ◌<◌, ◌≤◌, Bool, true, false, List, length, Some, ◌⊎◌, inl, inr, refl, sym, ap, subst, ◌∙◌, arith}
+use Rattle.std.proofs.Common.{◌≡◌, ℕ, ◌<◌, ◌≤◌, Bool, true, List, refl, sym, arith}
 use borrow.Author.Tests.{lt-ltb}
-use Rattle.std.specs.Prelude.{max}
-use Rattle.std.proofs.Math.Nat.{le-max_left, max-le}
-use Rattle.std.specs.FinMap.{FinMap, get}
 use Rattle.sfs_tree.specs.declared.history.Entry.{Entry}
-use Rattle.sfs_tree.specs.Order.{key_cmp}
-use Rattle.sfs_tree.specs.Tree.{TreeState, row_of}
-use Rattle.sfs_tree.specs.Changes.{RowChange}
+use Rattle.sfs_tree.specs.Tree.{TreeState}
 use Rattle.sfs_tree.specs.History.{IsLegal}
 use Rattle.sfs_tree.specs.Laws.{IsSoundTree}
 use Rattle.flush_core.specs.Cut.{Cut, cut_of, rows_at_cut, counted_rows_at_cut}
-use Rattle.flush_core.specs.Closure.{every_entry, Flush, Closure, IsConcerned, named, IsNamedIn, IsRaised, AreInodesAfter, IsKept}
-use Rattle.flush_core.proofs.Own.{stamp_of}
-use Rattle.flush_core.proofs.Runs.{Run, Made, Seen, below_or}
-use Rattle.flush_core.proofs.Seen.{ahead, behind}
-use Rattle.flush_core.proofs.Along.{tree_at, effect_at, run_of, change_in}
-use Rattle.flush_core.proofs.Closed.{seen_of, seen_end}
+use Rattle.flush_core.specs.Closure.{every_entry, Flush, HasLiveNode, IsRaised, AreInodesAfter, KeepsCut}
 use Rattle.flush_core.proofs.Commit.{fsyncs_keep}
-use Rattle.flush_core.proofs.Views.{below, IsLive, IsHeld, RaisesHold}
+use Rattle.flush_core.proofs.Views.{below, IsHeld, RaisesHold}
 use Rattle.flush_core.proofs.RunFacts.{raised_low}
-use Rattle.flush_core.proofs.Children.{row_came}
 use Rattle.flush_core.proofs.Alike.{inodes_alike}
 use Rattle.flush_core.proofs.Recount.{counted_rows-low, recounts}
+use Rattle.flush_core.proofs.NamedKept.{named_after}
 
--- A change of a directory that names a node, from its cut to below its raised cut.
-pub record IsBetween (r : Run) (cut raised : ℕ → ℕ) (node : ℕ) : Type 0 where
-  pub stamp : ℕ
-  pub change : RowChange
-  pub made : Made r stamp change
-  pub child : change.child ≡ node
-  pub from : cut change.directory ≤ stamp
-  pub below : stamp < raised change.directory
-
--- a row at a raised cut is one at the cut, or such a change names its child
-pub raised_row : (r : Run) (cut raised : ℕ → ℕ) (s : Seen r cut) (now : Seen r raised) → ((d : ℕ) → cut d ≤ raised d) → (t h : ℕ) (k : List ℕ) (a : ℕ) → get (now.rows t) (h, k) ≡ Some a → (get (s.rows t) (h, k) ≡ Some a) ⊎ IsBetween r cut raised a
-raised_row r cut raised s now up zero h k a row = inl (ahead r cut s zero h k (omega arith) ∙ sym (ahead r raised now zero h k (omega arith)) ∙ row)
-raised_row r cut raised s now up (suc t) h k a row = elim (below_or t (cut h)) [
-  | inl lt ↦ inl (let le = up h in ahead r cut s (suc t) h k (omega arith) ∙ sym (ahead r raised now (suc t) h k (omega arith)) ∙ row)
-  | inr le ↦ elim (below_or t (raised h)) [
-    | inr past ↦ still le (raised_row r cut raised s now up t h k a (sym (behind r raised now t h k past) ∙ row))
-    | inl lt ↦ elim (row_came (r.tree t) (r.core t) t (r.sound t) (r.effect t) (r.makes t) h k a (sym (ap (λ (tree : TreeState). row_of tree h k) (r.next t)) ∙ sym (ahead r raised now (suc t) h k (omega arith)) ∙ row)) [
-      | inl was ↦ still le (raised_row r cut raised s now up t h k a (ahead r raised now t h k (omega arith) ∙ was))
-      | inr came ↦ inr (record {
-        stamp = t;
-        change = came.0;
-        made = came.1;
-        child = came.3;
-        from = subst (λ (d : ℕ). cut d ≤ t) (sym came.2) le;
-        below = subst (λ (d : ℕ). t < raised d) (sym came.2) lt;
-      })
-    ]
-  ]
-]
-  where
-    still : cut h ≤ t → (get (s.rows t) (h, k) ≡ Some a) ⊎ IsBetween r cut raised a → (get (s.rows (suc t)) (h, k) ≡ Some a) ⊎ IsBetween r cut raised a
-    still le was = elim was [ inl there ↦ inl (behind r cut s t h k le ∙ there) | inr between ↦ inr between ]
-
-module _ (first : TreeState) (history : List Entry) (n : ℕ) (flush : Flush) (cut raised : Cut) (inodes after : ℕ → Bool) (is : IsSoundTree first) (legal : IsLegal first history) (low : (node : ℕ) → cut_of cut node ≤ n) (stamp : flush.stamp ≤ n) (live : IsLive first history flush) (held : IsHeld first history cut inodes) (raise : IsRaised first history (below n) cut inodes flush raised) (sets : AreInodesAfter first history (below n) cut inodes flush raised after) where
-  abbrev run : Run
-  run = run_of first history is legal
-
-  abbrev IsMember : ℕ → Type 0
-  IsMember node = Closure first history (below n) cut inodes flush node
-
-  up : (d : ℕ) → cut_of cut d ≤ cut_of raised d
-  up d = elim (raise.other d) [
-    | inl own ↦ let e = raise.member d own in let le = le-max_left (cut_of cut d) flush.stamp in omega arith
-    | inr e ↦ omega arith
-  ]
-
-  -- a stamp from a cut to below the raised one is in a member's span
-  in_span : (d t : ℕ) → cut_of cut d ≤ t → t < cut_of raised d → IsMember d × (t < flush.stamp)
-  in_span d t from lt = elim (raise.other d) [
-    | inl own ↦ (own, below_stamp (raise.member d own))
-    | inr e ↦ absurd (no_less e)
-  ]
-    where
-      no_less : cut_of raised d ≡ cut_of cut d → ⊥
-      no_less e = omega arith
-
-      below_stamp : cut_of raised d ≡ max (cut_of cut d) flush.stamp → t < flush.stamp
-      below_stamp e = elim (below_or t flush.stamp) [
-        | inl less ↦ less
-        | inr more ↦ absurd (let le = max-le from more in no_less_than e le)
-      ]
-        where
-          no_less_than : cut_of raised d ≡ max (cut_of cut d) flush.stamp → max (cut_of cut d) flush.stamp ≤ t → ⊥
-          no_less_than e le = omega arith
-
-  -- the child of a change between the two cuts is concerned
-  between_concerned : (node : ℕ) → IsBetween run (cut_of cut) (cut_of raised) node → IsConcerned first history (below n) cut inodes flush node
-  between_concerned node b =
-      let there = in_span b.change.directory b.stamp b.from b.below in
-      subst (IsConcerned first history (below n) cut inodes flush) b.child (named b.change there.0 (record {
-        is_change = change_in first history b.stamp b.change legal b.made;
-        counted = lt-ltb b.change.stamp n (let lt = there.1 in let e = same in omega arith);
-        from = subst (λ (t : ℕ). cut_of cut b.change.directory ≤ t) (sym same) b.from;
-        below = subst (λ (t : ℕ). t < flush.stamp) (sym same) there.1;
-      }))
-    where
-      same : b.change.stamp ≡ b.stamp
-      same = stamp_of (tree_at first history b.stamp) b.stamp (effect_at first history b.stamp) b.change b.made
-
-  -- what a row at the raised cut names is named at the cut, or concerned
-  named_or_concerned : (node : ℕ) → IsNamedIn (rows_at_cut first history raised) node → IsNamedIn (rows_at_cut first history cut) node ⊎ IsConcerned first history (below n) cut inodes flush node
-  named_or_concerned node row = elim (raised_row run (cut_of cut) (cut_of raised) (seen_of first history is legal cut) (seen_of first history is legal raised) up (length history) row.directory row.name node (at_end raised row.directory row.name ∙ row.row)) [
-    | inl there ↦ inl (record { directory = row.directory; name = row.name; row = sym (at_end cut row.directory row.name) ∙ there })
-    | inr between ↦ inr (between_concerned node between)
-  ]
-    where
-      at_end : (c : Cut) (d : ℕ) (m : List ℕ) → get ((seen_of first history is legal c).rows (length history)) (d, m) ≡ get (rows_at_cut first history c) (d, m)
-      at_end c d m = ap (λ (rows : FinMap key_cmp ℕ). get rows (d, m)) (seen_end first history is legal c)
-
-  -- a row at the raised cut is one where the entries below the stamp count
-  counted_row : (node : ℕ) → IsNamedIn (rows_at_cut first history raised) node → IsNamedIn (counted_rows_at_cut first history (below n) raised) node
-  counted_row node row =
-      subst (λ (rows : FinMap key_cmp ℕ). IsNamedIn rows node) (sym (counted_rows-low first history n (below n) raised (λ t lt. lt-ltb t n lt) (raised_low first history (below n) cut inodes flush raised n raise low stamp))) row
-
-  -- what the tree at the raised cut names has an inode
-  named_after : (node : ℕ) → IsNamedIn (rows_at_cut first history raised) node → after node ≡ true
-  named_after node row = elim (inodes node) as (λ b. inodes node ≡ b → after node ≡ true) [
-    | true ↦ λ has. elim (after node) as (λ b. after node ≡ b → b ≡ true) [ true ↦ λ _. refl | false ↦ λ gone. absurd (((sets.leaves node has).0 gone).1.unnamed (counted_row node row)) ] refl
-    | false ↦ λ none. elim (named_or_concerned node row) [
-      | inl before ↦ absurd (both (held.named node before) none)
-      | inr concerned ↦ (sets.enters node none).1 (concerned, inl (counted_row node row))
-    ]
-  ] refl
-    where
-      both : {b : Bool} → b ≡ true → b ≡ false → ⊥
-      both t f = cc
-
-  kept_after : IsKept first history raised after
+module _ (first : TreeState) (history : List Entry) (n : ℕ) (flush : Flush) (cut raised : Cut) (inodes after : ℕ → Bool) (is : IsSoundTree first) (legal : IsLegal first history) (low : (node : ℕ) → cut_of cut node ≤ n) (stamp : flush.stamp ≤ n) (live : HasLiveNode first history flush) (held : IsHeld first history cut inodes) (raise : IsRaised first history (below n) cut inodes flush raised) (sets : AreInodesAfter first history (below n) cut inodes flush raised after) where
+  kept_after : KeepsCut first history raised after
   kept_after =
       let alike = recounts first history n (below n) every_entry flush cut inodes is legal (λ t lt. lt-ltb t n lt) (λ t lt. refl) low stamp live held in
       fsyncs_keep first history cut raised inodes after flush is legal held.kept ((alike.raises raised).0 raise) (inodes_alike first flush (record { history = history; counts = below n; cut = cut; inodes = inodes }) (record { history = history; counts = every_entry; cut = cut; inodes = inodes }) raised after alike raise sets)
 
+  same_rows : rows_at_cut first history raised ≡ counted_rows_at_cut first history (below n) raised
+  same_rows = sym (counted_rows-low first history n (below n) raised (λ t lt. lt-ltb t n lt) (raised_low first history (below n) cut inodes flush raised n raise low stamp))
+
   holds_after : IsHeld first history raised after
-  holds_after = record { kept = kept_after; named = named_after }
+  holds_after = record { kept = kept_after; named = named_after first history (below n) flush cut raised inodes is legal (λ t lt. lt-ltb t n (omega arith)) raise after sets same_rows held.named }
 
 pub raises_hold : RaisesHold
 raises_hold first history n flush cut raised inodes after is legal low stamp live held raise sets = holds_after first history n flush cut raised inodes after is legal low stamp live held raise sets

@@ -11,7 +11,7 @@ use Rattle.sfs_tree.specs.Laws.{IsSoundTree}
 use Rattle.flush_core.specs.Cut.{Cut, cut_of}
 use Rattle.flush_core.specs.Rules.{IsChange}
 use Rattle.flush_core.specs.Closure.{Flush, Closure, IsConcerned, member, named, IsRaised, AreInodesAfter}
-use Rattle.flush_core.specs.Runs.{View, IsOneCommit, Enters, Leaves}
+use Rattle.flush_core.specs.Runs.{CommitView, IsOneCommit, Enters, Leaves}
 use Rattle.flush_core.proofs.Runs.{below_or}
 use Rattle.flush_core.proofs.Views.{below, Agree}
 use Rattle.flush_core.proofs.Agree.{stamp_same, leave_same, agrees}
@@ -60,10 +60,10 @@ module _ (first : TreeState) (history : List Entry) (n : ℕ) (flush : Flush) (c
 module _ (first : TreeState) (history : List Entry) (n : ℕ) (is : IsSoundTree first) (legal : IsLegal first history) (flush : Flush) (cut other : Cut) (inodes other_inodes : ℕ → Bool) (agree : (node : ℕ) → IsConcerned first history (below n) cut inodes flush node → Agree first history n cut other inodes other_inodes node)
     (raised other_raised : Cut) (after other_after : ℕ → Bool) (raise : IsRaised first history (below n) cut inodes flush raised) (other_raise : IsRaised first history (below n) other other_inodes flush other_raised)
     (sets : AreInodesAfter first history (below n) cut inodes flush raised after) (other_sets : AreInodesAfter first history (below n) other other_inodes flush other_raised other_after) (node : ℕ) (a : Agree first history n cut other inodes other_inodes node) where
-  abbrev view : View
+  abbrev view : CommitView
   view = record { history = history; counts = below n; cut = cut; inodes = inodes }
 
-  abbrev other_view : View
+  abbrev other_view : CommitView
   other_view = record { history = history; counts = below n; cut = other; inodes = other_inodes }
 
   one_commit : IsOneCommit first flush view other_view

@@ -12,14 +12,14 @@ use Rattle.sfs_tree.specs.Laws.{IsSoundTree}
 use Rattle.sfs_tree.proofs.RowFacts.{IsNamed}
 use Rattle.flush_core.specs.Cut.{Cut, cut_of, is_within, is_counted_within, with_own, rows_at_cut, counted_rows_at_cut}
 use Rattle.flush_core.specs.Rules.{IsChange}
-use Rattle.flush_core.specs.Closure.{Counts, Flush, HasNaming, IsNamedIn, IsReached, IsDead}
+use Rattle.flush_core.specs.Closure.{Counts, Flush, HasLiveNode, HasNaming, IsNamedIn, IsReached, IsDead}
 use Rattle.flush_core.proofs.Own.{stamp_of}
 use Rattle.flush_core.proofs.Runs.{Run, Seen, below_or}
 use Rattle.flush_core.proofs.Seen.{behind}
 use Rattle.flush_core.proofs.Along.{tree_at, effect_at, run_of, change_in}
 use Rattle.flush_core.proofs.Closed.{seen_of, seen_past}
 use Rattle.flush_core.proofs.Lives.{later}
-use Rattle.flush_core.proofs.Views.{IsLive, IsHeld, Recounts}
+use Rattle.flush_core.proofs.Views.{IsHeld, Recounts}
 use Rattle.flush_core.proofs.RunFacts.{raised_low}
 use Rattle.flush_core.proofs.Children.{IsOpen, naming_since, flushed_or_open, links_named}
 use Rattle.flush_core.proofs.Prefix.{filter_same}
@@ -105,7 +105,7 @@ module _ (first : TreeState) (history : List Entry) (is : IsSoundTree first) (le
         ]
   ]
 
-  module _ (flush : Flush) (cut : Cut) (inodes : ℕ → Bool) (low : (node : ℕ) → cut_of cut node ≤ k) (stamp : flush.stamp ≤ k) (live : IsLive first history flush) (held : IsHeld first history cut inodes) where
+  module _ (flush : Flush) (cut : Cut) (inodes : ℕ → Bool) (low : (node : ℕ) → cut_of cut node ≤ k) (stamp : flush.stamp ≤ k) (live : HasLiveNode first history flush) (held : IsHeld first history cut inodes) where
     at_k : (node : ℕ) → IsSome (get (tree_at first history flush.stamp).nodes node) → IsSome (get (tree_at first history k).nodes node)
     at_k node some = later run flush.stamp k node stamp some
 

@@ -18,7 +18,7 @@ use Rattle.flush_core.specs.declared.event.Refused.TheVariants as refused
 use Rattle.flush_core.specs.Cut.{Cut, cut_of}
 use Rattle.flush_core.specs.Rules.{IsOneOf}
 use Rattle.flush_core.specs.Closure.{Counts, Flush, IsRaised, AreRaised, none, one_more}
-use Rattle.flush_core.specs.Machine.{Flight, MachineState, start_of, tree_now, flight_of, opened_for, kept_of, IsRaisedBy, Begins, Takes}
+use Rattle.flush_core.specs.Machine.{Flight, MachineState, start_of, tree_now, flight_of, opened_for, kept_of, IsRaisedBy, BeginsFlight, Accepts}
 use Rattle.flush_core.specs.Runs.{IsRun, AreApart}
 use Rattle.flush_core.proofs.Listed.{from_map}
 use Rattle.flush_core.proofs.Runs.{below_or}
@@ -154,7 +154,7 @@ module _ (first : TreeState) where
     apart = is.apart;
   }
 
-  begun_steady : (old : MachineState) (commit : ℕ) (flush : Flush) (flight : Flight) → Begins old commit flush flight → flush.stamp ≤ length old.history → (IsOneOf old.used commit → ⊥) → IsSteady first old → IsSteady first (record old { flights = old.flights ++ flight ∷ []; used = old.used ++ commit ∷ [] })
+  begun_steady : (old : MachineState) (commit : ℕ) (flush : Flush) (flight : Flight) → BeginsFlight old commit flush flight → flush.stamp ≤ length old.history → (IsOneOf old.used commit → ⊥) → IsSteady first old → IsSteady first (record old { flights = old.flights ++ flight ∷ []; used = old.used ++ commit ∷ [] })
   begun_steady old commit flush flight begins low new is = record {
     start = is.start;
     legal = is.legal;
@@ -187,7 +187,7 @@ module _ (first : TreeState) where
   }
 
   -- an event keeps it
-  steady_step : (old : MachineState) (e : Event) (new : MachineState) → Takes old e new → IsSteady first old → IsSteady first new
+  steady_step : (old : MachineState) (e : Event) (new : MachineState) → Accepts old e new → IsSteady first old → IsSteady first new
   steady_step old (event.Call entry) new takes is = subst (IsSteady first) (sym takes.moves.1) (called_steady old entry takes.moves.0 is)
   steady_step old (event.CutAt commit node stamp) new takes is =
       subst (IsSteady first) (sym takes.moves.2) (begun_steady old commit (record { node = node.0; stamp = stamp.0 }) takes.moves.0 takes.moves.1 low (λ used. takes.free (refused.Used commit) (used, refl)) is)
@@ -239,7 +239,7 @@ prefix_more : (history : List Entry) (entry : Entry) → IsPrefix history (histo
 prefix_more history entry = record { first_part = take-append_seam history (entry ∷ []); shorter = let e = length_more history entry in omega arith }
 
 -- an event leaves the history or makes it longer
-pub prefix_step : (old : MachineState) (e : Event) (new : MachineState) → Takes old e new → IsPrefix old.history new.history
+pub prefix_step : (old : MachineState) (e : Event) (new : MachineState) → Accepts old e new → IsPrefix old.history new.history
 prefix_step old (event.Call entry) new takes = subst (λ (s : MachineState). IsPrefix old.history s.history) (sym takes.moves.1) (prefix_more old.history entry)
 prefix_step old (event.CutAt commit node stamp) new takes = subst (λ (s : MachineState). IsPrefix old.history s.history) (sym takes.moves.2) (prefix_itself old.history)
 prefix_step old (event.Opened commit) new takes = subst (λ (s : MachineState). IsPrefix old.history s.history) (sym takes.moves) (prefix_itself old.history)

@@ -1,22 +1,23 @@
 -- In each state of a run the cut is closed, and directories with an inode are born.
-use Rattle.std.proofs.Common.{◌≡◌, ℕ, zero, suc, ◌≤◌, true, List, [], ◌∷◌, ◌++◌, length, take, Option, Some, None, IsSome, is_some, refl, sym, ap, subst, arith}
-use Rattle.std.specs.FinMap.{get}
+use Rattle.std.proofs.Common.{◌≡◌, ℕ, zero, suc, ◌≤◌, true, List, [], ◌∷◌, ◌++◌, length, take, sym, ap, subst, arith}
+use Rattle.std.specs.FinMap.{FinMap}
+use Rattle.sfs_tree.specs.Order.{key_cmp}
 use Rattle.std.proofs.Math.Seq.{take-append_seam}
 use Rattle.sfs_tree.specs.declared.history.Entry.{Entry}
-use Rattle.sfs_tree.specs.Tree.{TreeState, Node}
+use Rattle.sfs_tree.specs.Tree.{TreeState}
 use Rattle.sfs_tree.specs.History.{IsLegal}
 use Rattle.sfs_tree.specs.Laws.{IsSoundTree}
 use Rattle.flush_core.specs.declared.event.Event.{Event}
 use Rattle.flush_core.specs.declared.event.Event.TheVariants as event
 use Rattle.flush_core.specs.Cut.{cut_of}
-use Rattle.flush_core.specs.Closure.{every_entry, Flush, AreRaised}
-use Rattle.flush_core.specs.Machine.{MachineState, start_of, kept_of, IsRaisedBy, Takes}
+use Rattle.flush_core.specs.Closure.{every_entry, Flush, IsNamedIn, AreRaised}
+use Rattle.flush_core.specs.Machine.{MachineState, start_of, kept_of, IsRaisedBy, Accepts}
 use Rattle.flush_core.specs.Runs.{IsRun}
 use Rattle.flush_core.specs.Laws.{RunsKeep}
 use Rattle.flush_core.proofs.Closed.{closed_cuts_are_sound}
-use Rattle.flush_core.proofs.Lists.{first_kept}
+use Rattle.flush_core.proofs.Lists.{first_kept_well}
 use Rattle.flush_core.proofs.RunFacts.{IsSteady, steady_at, event_there}
-use Rattle.flush_core.proofs.Grows.{IsKeptWell, kept_whole, nodes_whole, flushes_keep}
+use Rattle.flush_core.proofs.Grows.{IsKeptWell, kept_whole, nodes_whole, flushes_keep, rows_at_cut-take}
 
 -- what is kept of a state
 abbrev pub IsKeptIn : TreeState → MachineState → Type 0
@@ -24,14 +25,7 @@ IsKeptIn first state = IsKeptWell first state.history state.cut state.inodes
 
 module _ (first : TreeState) (is : IsSoundTree first) where
   start_kept : IsKeptIn first (start_of first)
-  start_kept = record {
-    kept = first_kept first [] (λ node. is_some (get first.nodes node)) is tt (λ _. refl);
-    nodes = λ node has. some (get first.nodes node) has;
-  }
-    where
-      some : (o : Option Node) → is_some o ≡ true → IsSome o
-      some (Some x) e = refl
-      some None e = cc
+  start_kept = first_kept_well first [] is tt
 
   -- a call leaves what was kept
   call_keeps : (old : MachineState) (entry : Entry) → IsLegal first (old.history ++ entry ∷ []) → ((node : ℕ) → cut_of old.cut node ≤ length old.history) → IsKeptIn first old → IsKeptWell first (old.history ++ entry ∷ []) old.cut old.inodes
@@ -40,6 +34,7 @@ module _ (first : TreeState) (is : IsSoundTree first) where
       record {
         kept = kept_whole first (old.history ++ entry ∷ []) is legal (length old.history) old.cut old.inodes low before.nodes before.kept;
         nodes = nodes_whole first (old.history ++ entry ∷ []) is legal (length old.history) old.inodes before.nodes;
+        named = λ node row. before.named node (subst (λ (rows : FinMap key_cmp ℕ). IsNamedIn rows node) (sym (rows_at_cut-take first (old.history ++ entry ∷ []) (length old.history) old.cut legal low)) row);
       }
 
   -- so do raises
@@ -49,7 +44,7 @@ module _ (first : TreeState) (is : IsSoundTree first) where
       (flushes_keep first old.history is steady.legal (subst (λ (f : TreeState). AreRaised f old.history every_entry old.cut old.inodes flushes raised.cut raised.inodes) steady.start by.raised) was)
 
   -- an event keeps it
-  kept_step : (old : MachineState) (e : Event) (new : MachineState) → Takes old e new → IsSteady first old → IsSteady first new → IsKeptIn first old → IsKeptIn first new
+  kept_step : (old : MachineState) (e : Event) (new : MachineState) → Accepts old e new → IsSteady first old → IsSteady first new → IsKeptIn first old → IsKeptIn first new
   kept_step old (event.Call entry) new takes steady after was =
       subst (IsKeptIn first) (sym takes.moves.1) (call_keeps old entry (subst (λ (s : MachineState). IsLegal first s.history) takes.moves.1 after.legal) steady.cuts was)
   kept_step old (event.CutAt commit node stamp) new takes steady after was = subst (IsKeptIn first) (sym takes.moves.2) was
@@ -68,5 +63,5 @@ module _ (first : TreeState) (is : IsSoundTree first) where
 pub runs_keep : RunsKeep
 runs_keep first events states place flushes cut inodes is run le raised =
     let legal = (steady_at first events states run place le).legal in
-    let kept = (flushes_keep first (states place).history is legal raised (kept_at first is events states run place le)).kept in
-    record { kept = kept; sound = closed_cuts_are_sound first (states place).history cut is legal kept.closed }
+    let all = flushes_keep first (states place).history is legal raised (kept_at first is events states run place le) in
+    record { kept = all.kept; sound = closed_cuts_are_sound first (states place).history cut is legal all.kept.closed; named = all.named }

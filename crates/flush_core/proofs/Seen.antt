@@ -22,6 +22,19 @@ quiet r t d n none =
     ∙ sym (keep (λ _. false) d n (r.tree t).rows (r.tree t).rows (changes_at r t) (λ x one same. absurd (none x one same)) refl)
     ∙ skip (λ _. false) d n (r.tree t).rows (changes_at r t) (λ x one same. refl)
 
+-- what an effect places stands there after it
+pub row_added : (r : Run) (t e : ℕ) (k : List ℕ) (x : ℕ) → r.effect t ≡ Adds e k x → row_of (r.tree (suc t)) e k ≡ Some x
+row_added r t e k x adds =
+    ap (λ (tree : TreeState). row_of tree e k) (r.next t)
+    ∙ ap (λ (f : Effect). row_of (tree_with (r.tree t) (r.core t) f (r.makes t)) e k) adds
+    ∙ added_there (r.tree t).rows e k x
+
+pub row_moved : (r : Run) (t e : ℕ) (k : List ℕ) (q : ℕ) (m : List ℕ) (x : ℕ) → r.effect t ≡ Moves e k q m x → row_of (r.tree (suc t)) q m ≡ Some x
+row_moved r t e k q m x moves =
+    ap (λ (tree : TreeState). row_of tree q m) (r.next t)
+    ∙ ap (λ (f : Effect). row_of (tree_with (r.tree t) (r.core t) f (r.makes t)) q m) moves
+    ∙ added_there (remove (r.tree t).rows (e, k)) q m x
+
 module _ (r : Run) (cut : ℕ → ℕ) (s : Seen r cut) where
   -- up to its cut a directory has the rows of the tree
   pub ahead : (t d : ℕ) (n : List ℕ) → t ≤ cut d → get (s.rows t) (d, n) ≡ row_of (r.tree t) d n
@@ -123,23 +136,11 @@ module _ (r : Run) (cut : ℕ → ℕ) (s : Seen r cut) where
           | inl was ↦ onward was.0 (stays_named x settled t was.1.directory was.1.name was.0 was.1.row)
           | inr born ↦
               let lt = settled t born.directory born.name born.kind born.adds born.made in
-              record { directory = born.directory; name = born.name; row = ahead (suc t) born.directory born.name (omega arith) ∙ born_there born.directory born.name born.adds }
+              record { directory = born.directory; name = born.name; row = ahead (suc t) born.directory born.name (omega arith) ∙ row_added r t born.directory born.name x born.adds }
         ]
       where
         now : row_of (tree_with (r.tree t) (r.core t) (r.effect t) (r.makes t)) d n ≡ Some x
         now = sym (ap (λ (tree : TreeState). row_of tree d n) (r.next t)) ∙ row
-
-        born_there : (e : ℕ) (k : List ℕ) → r.effect t ≡ Adds e k x → row_of (r.tree (suc t)) e k ≡ Some x
-        born_there e k adds =
-            ap (λ (tree : TreeState). row_of tree e k) (r.next t)
-            ∙ ap (λ (f : Effect). row_of (tree_with (r.tree t) (r.core t) f (r.makes t)) e k) adds
-            ∙ added_there (r.tree t).rows e k x
-
-        moved_there : (e : ℕ) (k : List ℕ) (q : ℕ) (m : List ℕ) → r.effect t ≡ Moves e k q m x → row_of (r.tree (suc t)) q m ≡ Some x
-        moved_there e k q m moves =
-            ap (λ (tree : TreeState). row_of tree q m) (r.next t)
-            ∙ ap (λ (f : Effect). row_of (tree_with (r.tree t) (r.core t) f (r.makes t)) q m) moves
-            ∙ added_there (remove (r.tree t).rows (e, k)) q m x
 
         onward : is_directory (r.tree t) x ≡ true → IsNamed (s.rows t) x → IsNamed (s.rows (suc t)) x
         onward was named = elim (below_or t (cut named.directory)) [
@@ -149,6 +150,6 @@ module _ (r : Run) (cut : ℕ → ℕ) (s : Seen r cut) where
                 | inl stays ↦ record { directory = named.directory; name = named.name; row = ahead (suc t) named.directory named.name (omega arith) ∙ ap (λ (tree : TreeState). row_of tree named.directory named.name) (r.next t) ∙ stays }
                 | inr moves ↦
                     let less = other_end t named.directory named.name moves.to_directory moves.to_name x moves.moves lt in
-                    record { directory = moves.to_directory; name = moves.to_name; row = ahead (suc t) moves.to_directory moves.to_name (omega arith) ∙ moved_there named.directory named.name moves.to_directory moves.to_name moves.moves }
+                    record { directory = moves.to_directory; name = moves.to_name; row = ahead (suc t) moves.to_directory moves.to_name (omega arith) ∙ row_moved r t named.directory named.name moves.to_directory moves.to_name x moves.moves }
               ]
         ]

@@ -8,11 +8,11 @@ use Rattle.sfs_tree.specs.Laws.{IsSoundTree}
 use Rattle.flush_core.specs.declared.event.Event.{Event}
 use Rattle.flush_core.specs.Cut.{Cut, cut_of}
 use Rattle.flush_core.specs.Rules.{IsOneOf}
-use Rattle.flush_core.specs.Closure.{every_entry, Flush, IsConcerned, IsRaised, AreInodesAfter, AreRaised, none, one_more}
+use Rattle.flush_core.specs.Closure.{every_entry, Flush, HasLiveNode, IsConcerned, IsRaised, AreInodesAfter, AreRaised, none, one_more}
 use Rattle.flush_core.specs.Machine.{Flight, MachineState}
 use Rattle.flush_core.specs.Runs.{IsRun, IsBegun, AreAlive, AreApart, view_of, IsOneCommit}
 use Rattle.flush_core.proofs.Along.{in_left, in_right}
-use Rattle.flush_core.proofs.Views.{below, AreAlike, IsLive, IsHeld, Agree}
+use Rattle.flush_core.proofs.Views.{below, AreAlike, IsHeld, Agree}
 use Rattle.flush_core.proofs.Listed.{from_map}
 use Rattle.flush_core.proofs.RunFacts.{IsPrefix, IsSteady, prefix_later, steady_at, cuts_stay_low}
 use Rattle.flush_core.proofs.Held.{live_whole, flights_hold, held_at}
@@ -53,7 +53,7 @@ module _ (first : TreeState) (events : List Event) (states : ℕ → MachineStat
   legal_whole = (steady_at first events states run last within).legal
 
   -- an fsync does by a state's history what it does by the whole one
-  pub whole_alike : (place : ℕ) → place ≤ last → (flush : Flush) (cut : Cut) (inodes : ℕ → Bool) → flush.stamp ≤ count place → IsLive first whole flush → ((node : ℕ) → cut_of cut node ≤ count place) → IsHeld first whole cut inodes
+  pub whole_alike : (place : ℕ) → place ≤ last → (flush : Flush) (cut : Cut) (inodes : ℕ → Bool) → flush.stamp ≤ count place → HasLiveNode first whole flush → ((node : ℕ) → cut_of cut node ≤ count place) → IsHeld first whole cut inodes
       → AreAlike first flush (record { history = (states place).history; counts = every_entry; cut = cut; inodes = inodes }) (record { history = whole; counts = below all; cut = cut; inodes = inodes })
   whole_alike place le flush cut inodes low live cuts held =
       alike_on first flush (record { history = (states place).history; counts = every_entry; cut = cut; inodes = inodes }) (record { history = whole; counts = below (count place); cut = cut; inodes = inodes }) (record { history = whole; counts = below all; cut = cut; inodes = inodes })
@@ -64,7 +64,7 @@ module _ (first : TreeState) (events : List Event) (states : ℕ → MachineStat
       prefix = prefix_later first events states run place last le within
 
   -- a commit's node is alive in the whole history
-  pub live_begun : (place commit : ℕ) (flush : Flush) → place ≤ last → IsBegun events place commit flush → IsLive first whole flush
+  pub live_begun : (place commit : ℕ) (flush : Flush) → place ≤ last → IsBegun events place commit flush → HasLiveNode first whole flush
   live_begun place commit flush le begun = live_whole first events states is run alive last within place le flush (begun_low first events states run place commit flush begun) (alive place commit flush begun)
 
   -- as a commit begins, it does by the whole history what it does by its state's

@@ -24,7 +24,7 @@ use Rattle.flush_core.specs.Cut.{Cut, cut_of, tree_at_cut}
 use Rattle.flush_core.specs.Grows.{Grows}
 use Rattle.flush_core.specs.Named.{kept_rows}
 use Rattle.flush_core.specs.Past.{IsPast}
-use Rattle.flush_core.specs.Story.{StoryState, end_of, entry_of, IsStanding, IsReady}
+use Rattle.flush_core.specs.Story.{StoryState, end_of, answered_entry, IsStanding, IsReadyPast}
 use Rattle.flush_core.specs.declared.past.OwnChange.{OwnChange}
 use Rattle.flush_core.proofs.Along.{in_either}
 use Rattle.flush_core.proofs.CutRows.{directories_are_cut}
@@ -33,7 +33,7 @@ use Rattle.flush_core.proofs.Legal.{comes_at}
 use Rattle.flush_core.proofs.Own.{both}
 
 -- the tree of a past that is ready is sound, and has the first tree's cores
-module _ (first : TreeState) (entries : List Entry) (past : Past) (ready : IsReady first entries past) where
+module _ (first : TreeState) (entries : List Entry) (past : Past) (ready : IsReadyPast first entries past) where
   pub now_sound : IsSoundTree (tree_after first entries)
   now_sound = subst (λ (h : List Entry). IsSoundTree (tree_after first h)) (take_all (length entries) entries (omega arith)) (histories_keep_sound first entries (length entries) ready.sound ready.legal)
 
@@ -44,7 +44,7 @@ module _ (first : TreeState) (entries : List Entry) (past : Past) (ready : IsRea
   past_core core less = subst (λ n. core < n) (sym (ap (λ (t : TreeState). length t.made) ready.is_past.tree ∙ cores_stay first entries)) less
 
   -- with an entry that may come it is that of one call more
-  pub joined_ready : (entry : Entry) → MayCome (tree_after first entries) (length entries) entry → (new : Past) → Grows past entry new → IsReady first (entries ++ entry ∷ []) new
+  pub joined_ready : (entry : Entry) → MayCome (tree_after first entries) (length entries) entry → (new : Past) → Grows past entry new → IsReadyPast first (entries ++ entry ∷ []) new
   joined_ready entry may new grows = record {
     is_past = grown_past first entries entry ready.sound whole may.stamped may.core past new ready.is_past grows;
     sound = ready.sound;
@@ -62,12 +62,12 @@ module _ (first : TreeState) (entries : List Entry) (i : ℕ) (entry d : Entry) 
   there : length (take i entries) ≡ i
   there = length-take-le i entries (omega arith)
 
-  pub next_ready : (old new : Past) → IsReady first (take i entries) old → Grows old entry new → IsReady first (take (i + 1) entries) new
+  pub next_ready : (old new : Past) → IsReadyPast first (take i entries) old → Grows old entry new → IsReadyPast first (take (i + 1) entries) new
   next_ready old new ready grows =
-      subst (λ (l : List Entry). IsReady first l new) (sym (take_more entries i d less ∙ ap (λ (x : Entry). take i entries ++ x ∷ []) (sym is)))
+      subst (λ (l : List Entry). IsReadyPast first l new) (sym (take_more entries i d less ∙ ap (λ (x : Entry). take i entries ++ x ∷ []) (sym is)))
       (joined_ready first (take i entries) old ready entry (subst (λ s. MayCome (tree_after first (take i entries)) s entry) (sym there) next_may) new grows)
 
-  pub next_core : (past : Past) → IsReady first (take i entries) past → entry.core.0 < length past.tree.made
+  pub next_core : (past : Past) → IsReadyPast first (take i entries) past → entry.core.0 < length past.tree.made
   next_core past ready = subst (λ (t : TreeState). entry.core.0 < length t.made) (sym ready.is_past.tree) next_may.core
 
 -- an fsync of a live node is answered Ok
@@ -87,7 +87,7 @@ flush_ok tree core (call.Stat node) e = absurd (both e refl)
 flush_ok tree core (call.List directory) e = absurd (both e refl)
 
 -- a call that the table answers may come
-may_come : (tree : TreeState) (stamp : ℕ) (core : CoreId) (c : Call) → core.0 < length tree.made → MayCome tree stamp (entry_of tree stamp core c)
+may_come : (tree : TreeState) (stamp : ℕ) (core : CoreId) (c : Call) → core.0 < length tree.made → MayCome tree stamp (answered_entry tree stamp core c)
 may_come tree stamp core c within = record {
   stamped = refl;
   core = within;
@@ -107,13 +107,13 @@ may_come tree stamp core c within = record {
     known false e = (λ some. some, λ is. is)
 
 -- so may the next call of a story
-pub called : (story : StoryState) (past : Past) → IsReady story.first story.history past → (core : CoreId) (c : Call) → core.0 < length story.first.made → (entry : Entry) → entry ≡ entry_of past.tree (length story.history) core c → MayCome (end_of story) (length story.history) entry
+pub called : (story : StoryState) (past : Past) → IsReadyPast story.first story.history past → (core : CoreId) (c : Call) → core.0 < length story.first.made → (entry : Entry) → entry ≡ answered_entry past.tree (length story.history) core c → MayCome (end_of story) (length story.history) entry
 called story past ready core c within entry is =
-    subst (MayCome (end_of story) (length story.history)) (sym (is ∙ ap (λ (t : TreeState). entry_of t (length story.history) core c) ready.is_past.tree))
+    subst (MayCome (end_of story) (length story.history)) (sym (is ∙ ap (λ (t : TreeState). answered_entry t (length story.history) core c) ready.is_past.tree))
     (may_come (end_of story) (length story.history) core c (subst (λ (n : ℕ). core.0 < n) (sym (cores_stay story.first story.history)) within))
 
 -- an entry that may come joins what a story keeps
-pub still_standing : (first : TreeState) (entries : List Entry) (kept : Option Past) (entry : Entry) (new : Past) → IsStanding first entries kept → IsReadable entry.call → IsReady first (entries ++ entry ∷ []) new → IsStanding first (entries ++ entry ∷ []) (Some new)
+pub still_standing : (first : TreeState) (entries : List Entry) (kept : Option Past) (entry : Entry) (new : Past) → IsStanding first entries kept → IsReadable entry.call → IsReadyPast first (entries ++ entry ∷ []) new → IsStanding first (entries ++ entry ∷ []) (Some new)
 still_standing first entries kept entry new stands own ready = record {
   sound = stands.sound;
   legal = ready.legal;
@@ -121,7 +121,7 @@ still_standing first entries kept entry new stands own ready = record {
     | inl was ↦ stands.readable other was
     | inr next ↦ elim next [ inl e ↦ subst (λ (x : Entry). IsReadable x.call) e own | inr none ↦ absurd none ]
   ];
-  ready = λ past is. subst (IsReady first (entries ++ entry ∷ [])) (same_some is) ready;
+  ready = λ past is. subst (IsReadyPast first (entries ++ entry ∷ [])) (same_some is) ready;
 }
   where
     same_some : {a b : Past} → Some a ≡ Some b → a ≡ b

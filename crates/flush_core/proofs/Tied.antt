@@ -13,13 +13,13 @@ use Rattle.flush_core.specs.declared.event.Event.TheVariants as event
 use Rattle.flush_core.specs.declared.event.Refused.TheVariants as refused
 use Rattle.flush_core.specs.Cut.{Cut, cut_of}
 use Rattle.flush_core.specs.Rules.{IsOneOf}
-use Rattle.flush_core.specs.Closure.{Counts, every_entry, Flush, IsConcerned, IsRaised, AreInodesAfter, AreRaised, none, one_more, AreFlushed}
+use Rattle.flush_core.specs.Closure.{Counts, every_entry, Flush, HasLiveNode, IsConcerned, IsRaised, AreInodesAfter, AreRaised, none, one_more, AreFlushed}
 use Rattle.flush_core.specs.Machine.{Flight, MachineState}
 use Rattle.flush_core.specs.Runs.{IsRun, IsBegun, AreAlive, view_of, IsOneCommit, AreTied, CountEnough}
 use Rattle.flush_core.specs.Laws.{CommitsAreTied}
 use Rattle.flush_core.proofs.Runs.{below_or}
 use Rattle.flush_core.proofs.Along.{in_left, in_right}
-use Rattle.flush_core.proofs.Views.{below, AreAlike, IsLive, IsHeld, Agree}
+use Rattle.flush_core.proofs.Views.{below, AreAlike, IsHeld, Agree}
 use Rattle.flush_core.proofs.RunFacts.{IsSteady, prefix_later, steady_at, event_there, cuts_stay_low}
 use Rattle.flush_core.proofs.Lists.{nothing_within}
 use Rattle.flush_core.proofs.Held.{first_held, held_at}
@@ -85,7 +85,7 @@ module _ (first : TreeState) (events : List Event) (states : ℕ → MachineStat
   -- An fsync of a live node, at a stamp that is not above the greatest.
   record IsFit (own : Flush) : Type 0 where
     low : own.stamp ≤ most
-    live : IsLive first whole own
+    live : HasLiveNode first whole own
 
   own_fit : IsFit flush
   own_fit = record { low = le-max_left flush.stamp (greatest (tied_till place)); live = live_begun first events states is run alive (length events) within place commit flush (let less = place_within in omega arith) begun }

@@ -8,15 +8,15 @@ use Rattle.sfs_tree.specs.History.{tree_after, IsLegal}
 use Rattle.sfs_tree.specs.Laws.{IsSoundTree}
 use Rattle.flush_core.specs.Cut.{Cut, cut_of, IsWithin, rows_at_cut, counted_rows_at_cut}
 use Rattle.flush_core.specs.Rules.{IsChange}
-use Rattle.flush_core.specs.Closure.{Counts, every_entry, Flush, Closure, IsNamedIn, IsRaised, IsReached, IsDead, AreInodesAfter, IsKept}
-use Rattle.flush_core.specs.Runs.{View, Concerns, Raises, IsOneCommit}
+use Rattle.flush_core.specs.Closure.{Counts, every_entry, Flush, HasLiveNode, Closure, IsNamedIn, IsRaised, IsReached, IsDead, AreInodesAfter, KeepsCut}
+use Rattle.flush_core.specs.Runs.{CommitView, Concerns, Raises, IsOneCommit}
 
 -- the entries below a stamp count
 abbrev pub below : ℕ → Counts
 below n t = nat_lt t n
 
 -- Two views that go by the same cut and the same inodes, and in which an fsync does the same.
-pub record AreAlike (first : TreeState) (flush : Flush) (view other : View) : Type 0 where
+pub record AreAlike (first : TreeState) (flush : Flush) (view other : CommitView) : Type 0 where
   pub cuts : view.cut ≡ other.cut
   pub inodes : (node : ℕ) → view.inodes node ≡ other.inodes node
   pub members : (node : ℕ) → Closure first view.history view.counts view.cut view.inodes flush node ↔ Closure first other.history other.counts other.cut other.inodes flush node
@@ -26,33 +26,29 @@ pub record AreAlike (first : TreeState) (flush : Flush) (view other : View) : Ty
   pub reached : (raised : Cut) → Raises first flush view raised → (node : ℕ) → Concerns first flush view node → IsReached first view.history view.counts flush raised node ↔ IsReached first other.history other.counts flush raised node
   pub dead : (raised : Cut) → Raises first flush view raised → (node : ℕ) → Concerns first flush view node → IsDead first view.history view.counts raised node ↔ IsDead first other.history other.counts raised node
 
--- An fsync's node is alive at its stamp.
-abbrev pub IsLive : TreeState → List Entry → Flush → Type 0
-IsLive first history flush = is_alive (tree_after first (take flush.stamp history)) flush.node ≡ true
-
 -- what runs keep: the cut is closed, directories with an inode are born, and what the tree at the cut names has an inode
 pub record IsHeld (first : TreeState) (history : List Entry) (cut : Cut) (inodes : ℕ → Bool) : Type 0 where
-  pub kept : IsKept first history cut inodes
+  pub kept : KeepsCut first history cut inodes
   pub named : (node : ℕ) → IsNamedIn (rows_at_cut first history cut) node → inodes node ≡ true
 
 -- A prefix of a history, and the whole with the entries of the prefix counted.
 abbrev pub PrefixesCount : Type 0
 PrefixesCount = (first : TreeState) (history : List Entry) (n : ℕ) (flush : Flush) (cut : Cut) (inodes : ℕ → Bool) → IsSoundTree first → IsLegal first history → n ≤ length history
-    → flush.stamp ≤ n → IsLive first history flush
+    → flush.stamp ≤ n → HasLiveNode first history flush
     → AreAlike first flush (record { history = take n history; counts = every_entry; cut = cut; inodes = inodes }) (record { history = history; counts = below n; cut = cut; inodes = inodes })
 
 -- Two ways to count that both count all below a stamp, up to which all cuts and the fsync lie.
 abbrev pub Recounts : Type 0
 Recounts = (first : TreeState) (history : List Entry) (k : ℕ) (counts other : Counts) (flush : Flush) (cut : Cut) (inodes : ℕ → Bool) → IsSoundTree first → IsLegal first history
     → ((t : ℕ) → t < k → counts t ≡ true) → ((t : ℕ) → t < k → other t ≡ true)
-    → ((node : ℕ) → cut_of cut node ≤ k) → flush.stamp ≤ k → IsLive first history flush
+    → ((node : ℕ) → cut_of cut node ≤ k) → flush.stamp ≤ k → HasLiveNode first history flush
     → IsHeld first history cut inodes
     → AreAlike first flush (record { history = history; counts = counts; cut = cut; inodes = inodes }) (record { history = history; counts = other; cut = cut; inodes = inodes })
 
 -- what a raise keeps, over the whole history
 abbrev pub RaisesHold : Type 0
 RaisesHold = (first : TreeState) (history : List Entry) (n : ℕ) (flush : Flush) (cut raised : Cut) (inodes after : ℕ → Bool) → IsSoundTree first → IsLegal first history
-    → ((node : ℕ) → cut_of cut node ≤ n) → flush.stamp ≤ n → IsLive first history flush → IsHeld first history cut inodes
+    → ((node : ℕ) → cut_of cut node ≤ n) → flush.stamp ≤ n → HasLiveNode first history flush → IsHeld first history cut inodes
     → IsRaised first history (below n) cut inodes flush raised → AreInodesAfter first history (below n) cut inodes flush raised after → IsHeld first history raised after
 
 -- A row names a node by the changes that name it alone.

@@ -11,11 +11,11 @@ use Rattle.flush_core.specs.Engine.{above_of}
 use Rattle.flush_core.specs.Rules.{IsOneOf, RenamesWhole, RemovalsWhole, BirthsKept, AncestorsKept, IsClosed}
 
 -- A cut keeps a rule.
-abbrev pub Holds : TreeState → List Entry → Cut → Rule → Type 0
-Holds first history cut rule.Renames = RenamesWhole first history cut
-Holds first history cut rule.Removals = RemovalsWhole first history cut
-Holds first history cut rule.Births = BirthsKept first history cut
-Holds first history cut rule.Ancestors = AncestorsKept first history cut
+abbrev pub CutKeeps : TreeState → List Entry → Cut → Rule → Type 0
+CutKeeps first history cut rule.Renames = RenamesWhole first history cut
+CutKeeps first history cut rule.Removals = RemovalsWhole first history cut
+CutKeeps first history cut rule.Births = BirthsKept first history cut
+CutKeeps first history cut rule.Ancestors = AncestorsKept first history cut
 
 -- the place of a rule in the order in which they are looked at
 abbrev pub rule_place : Rule → ℕ
@@ -26,8 +26,8 @@ rule_place rule.Ancestors = 4
 
 -- The first rule that a cut breaks.
 pub record IsFirstBroken (first : TreeState) (history : List Entry) (cut : Cut) (broken : Rule) : Type 0 where
-  pub breaks : Holds first history cut broken → ⊥
-  pub before : (other : Rule) → rule_place other < rule_place broken → Holds first history cut other
+  pub breaks : CutKeeps first history cut broken → ⊥
+  pub before : (other : Rule) → rule_place other < rule_place broken → CutKeeps first history cut other
 
 -- What a search for a broken rule gives: the first one, or none where the cut is closed.
 abbrev pub FindsBroken : TreeState → List Entry → Cut → Option Rule → Type 0

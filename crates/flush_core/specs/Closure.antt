@@ -1,9 +1,9 @@
 -- What one fsync flushes, and what it makes of the cut and of the nodes that have an inode.
-use Rattle.std.specs.Prelude.{◌≡◌, ◌≢◌, ◌⊎◌, ◌↔◌, ℕ, ◌<◌, ◌≤◌, Bool, true, false, List, [], ◌∷◌, ◌++◌, Some, is_some, max, take}
+use Rattle.std.specs.Prelude.{◌≡◌, ◌≢◌, ◌⊎◌, ◌↔◌, ℕ, ◌<◌, ◌≤◌, Bool, true, false, List, [], ◌∷◌, ◌++◌, Some, IsSome, is_some, max, take}
 use Rattle.sfs_tree.specs.declared.history.Entry.{Entry}
 use Rattle.std.specs.FinMap.{FinMap, get, empty}
 use Rattle.sfs_tree.specs.Order.{key_cmp}
-use Rattle.sfs_tree.specs.Tree.{TreeState, is_directory}
+use Rattle.sfs_tree.specs.Tree.{TreeState, is_alive, is_directory}
 use Rattle.sfs_tree.specs.Sound.{Above}
 use Rattle.sfs_tree.specs.Changes.{RowChange}
 use Rattle.sfs_tree.specs.History.{tree_after}
@@ -22,6 +22,14 @@ every_entry _ = true
 pub record Flush : Type 0 where
   pub node : ℕ
   pub stamp : ℕ
+
+-- An fsync's node is there at its stamp.
+abbrev pub HasNode : TreeState → List Entry → Flush → Type 0
+HasNode first history flush = IsSome (get (tree_after first (take flush.stamp history)).nodes flush.node)
+
+-- An fsync's node is alive at its stamp.
+abbrev pub HasLiveNode : TreeState → List Entry → Flush → Type 0
+HasLiveNode first history flush = is_alive (tree_after first (take flush.stamp history)) flush.node ≡ true
 
 -- A change that counts in the span of its directory: from its cut to below the fsync's stamp.
 pub record InSpan (first : TreeState) (history : List Entry) (counts : Counts) (cut : Cut) (stamp : ℕ) (change : RowChange) : Type 0 where
@@ -91,7 +99,7 @@ abbrev pub AreBorn : TreeState → List Entry → Cut → (ℕ → Bool) → Typ
 AreBorn first history cut inodes = (birth : Birth) → IsOneOf (births_of first history) birth → inodes birth.node ≡ true → is_directory (tree_after first history) birth.node ≡ true → birth.stamp < cut_of cut birth.directory
 
 -- A cut and the nodes with an inode, as the fsyncs of a history leave them.
-pub record IsKept (first : TreeState) (history : List Entry) (cut : Cut) (inodes : ℕ → Bool) : Type 0 where
+pub record KeepsCut (first : TreeState) (history : List Entry) (cut : Cut) (inodes : ℕ → Bool) : Type 0 where
   pub closed : IsClosed first history cut
   pub born : AreBorn first history cut inodes
 

@@ -1,16 +1,14 @@
 -- When a cut covers an fsync that was answered Ok.
-use Rattle.std.specs.Prelude.{◌≡◌, ℕ, ◌≤◌, Bool, true, List, IsSome, take}
-use Rattle.std.specs.FinMap.{get}
+use Rattle.std.specs.Prelude.{◌≡◌, ℕ, ◌≤◌, Bool, true, List}
 use Rattle.sfs_tree.specs.declared.history.Entry.{Entry}
 use Rattle.sfs_tree.specs.Tree.{TreeState}
 use Rattle.sfs_tree.specs.Changes.{RowChange}
-use Rattle.sfs_tree.specs.History.{tree_after}
 use Rattle.flush_core.specs.Cut.{Cut, cut_of, IsWithin}
 use Rattle.flush_core.specs.Rules.{IsOneOf, IsChange, Birth, births_of}
 use Rattle.flush_core.specs.Closure.{Flush}
 
 -- Some change that places a node lies below its directory's cut.
-pub record IsPlaced (first : TreeState) (history : List Entry) (cut : Cut) (node : ℕ) : Type 0 where
+pub record IsPlacedByCut (first : TreeState) (history : List Entry) (cut : Cut) (node : ℕ) : Type 0 where
   pub change : RowChange
   pub is_change : IsChange first history change
   pub places : change.places ≡ true
@@ -21,18 +19,14 @@ pub record IsPlaced (first : TreeState) (history : List Entry) (cut : Cut) (node
 -- that places it lies below its directory's cut.
 pub record IsCovered (first : TreeState) (history : List Entry) (cut : Cut) (flush : Flush) : Type 0 where
   pub stamp : flush.stamp ≤ cut_of cut flush.node
-  pub placed : (birth : Birth) → IsOneOf (births_of first history) birth → birth.node ≡ flush.node → IsPlaced first history cut flush.node
+  pub placed : (birth : Birth) → IsOneOf (births_of first history) birth → birth.node ≡ flush.node → IsPlacedByCut first history cut flush.node
 
 -- Each node with an inode that was made in the history is placed by a change below its directory's cut.
 abbrev pub ArePlaced : TreeState → List Entry → Cut → (ℕ → Bool) → Type 0
-ArePlaced first history cut inodes = (birth : Birth) → IsOneOf (births_of first history) birth → inodes birth.node ≡ true → IsPlaced first history cut birth.node
-
--- An fsync's node is there at its stamp.
-abbrev pub IsThere : TreeState → List Entry → Flush → Type 0
-IsThere first history flush = IsSome (get (tree_after first (take flush.stamp history)).nodes flush.node)
+ArePlaced first history cut inodes = (birth : Birth) → IsOneOf (births_of first history) birth → inodes birth.node ≡ true → IsPlacedByCut first history cut birth.node
 
 -- What an fsync leaves: it is covered, so is what was covered before, and each node with an inode is placed.
-pub record Covers (first : TreeState) (history : List Entry) (cut raised : Cut) (after : ℕ → Bool) (flush : Flush) : Type 0 where
+pub record CoversMore (first : TreeState) (history : List Entry) (cut raised : Cut) (after : ℕ → Bool) (flush : Flush) : Type 0 where
   pub own : IsCovered first history raised flush
   pub earlier : (other : Flush) → IsCovered first history cut other → IsCovered first history raised other
   pub placed : ArePlaced first history raised after

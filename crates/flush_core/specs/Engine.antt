@@ -15,13 +15,13 @@ pub record Spans (cut : Cut) (stamp : ℕ) (change : OwnChange) : Type 0 where
   pub below : change.stamp < stamp
 
 -- A change names a node and does not lie below its directory's cut.
-pub record Names (cut : Cut) (node : ℕ) (change : OwnChange) : Type 0 where
+pub record NamesUnflushed (cut : Cut) (node : ℕ) (change : OwnChange) : Type 0 where
   pub child : change.child ≡ node
   pub unflushed : cut_of cut change.directory ≤ change.stamp
 
 -- One of some changes names a node and does not lie below its directory's cut.
 abbrev pub IsNaming : List OwnChange → Cut → ℕ → Type 0
-IsNaming changes cut node = (change : OwnChange) × IsOneOf changes change × Names cut node change
+IsNaming changes cut node = (change : OwnChange) × IsOneOf changes change × NamesUnflushed cut node change
 
 -- the directories that are kept of a change as those above
 abbrev pub above_of : OwnChange → List ℕ

@@ -1,17 +1,17 @@
 -- The laws of cuts, each of which a function of the module laws proves.
-use Rattle.std.specs.Prelude.{◌≡◌, ◌≢◌, ℕ, ◌≤◌, Bool, List, length, take, map, IsSome}
+use Rattle.std.specs.Prelude.{◌≡◌, ◌≢◌, ◌↔◌, ℕ, ◌≤◌, Bool, true, List, length, take, map, IsSome}
 use Rattle.sfs_tree.specs.declared.history.Entry.{Entry}
 use Rattle.std.specs.FinMap.{get}
-use Rattle.sfs_tree.specs.Tree.{TreeState, names_of, bytes_of}
+use Rattle.sfs_tree.specs.Tree.{TreeState, names_of, bytes_of, kind_of}
 use Rattle.sfs_tree.specs.Sound.{IsSound}
 use Rattle.sfs_tree.specs.History.{tree_after, IsLegal}
 use Rattle.sfs_tree.specs.Changes.{rows_at, bytes_at}
 use Rattle.sfs_tree.specs.Laws.{IsSoundTree}
-use Rattle.flush_core.specs.Cut.{Cut, cut_of, tree_at_cut}
+use Rattle.flush_core.specs.Cut.{Cut, cut_of, rows_at_cut, tree_at_cut}
 use Rattle.flush_core.specs.Rules.{IsClosed, IsOneOf}
-use Rattle.flush_core.specs.Covers.{ArePlaced, IsCovered, IsThere, Covers}
+use Rattle.flush_core.specs.Covers.{ArePlaced, IsCovered, CoversMore}
 use Rattle.flush_core.specs.declared.event.Event.{Event}
-use Rattle.flush_core.specs.Closure.{Counts, every_entry, Flush, IsRaised, AreInodesAfter, IsKept, AreRaised, AreFlushed}
+use Rattle.flush_core.specs.Closure.{Counts, every_entry, Flush, HasNode, IsNamedIn, IsRaised, AreInodesAfter, KeepsCut, AreRaised, AreFlushed}
 use Rattle.flush_core.specs.Machine.{Flight, MachineState}
 use Rattle.flush_core.specs.Runs.{IsRun, IsBegun, AreAlive, AreApart, Flies, view_of, IsOneCommit, AreTied, CountEnough, durable_of}
 
@@ -27,32 +27,45 @@ ClosedCutsAreSound = (first : TreeState) (history : List Entry) (cut : Cut) → 
 abbrev pub FilesAreCut : Type 0
 FilesAreCut = (first : TreeState) (history : List Entry) (cut : Cut) (node : ℕ) → IsSome (get (tree_after first history).nodes node) → bytes_of (tree_at_cut first history cut) node ≡ bytes_at first history node (cut_of cut node)
 
+-- A tree has the nodes of another one with their kinds, and counts new nodes as that one does.
+pub record HasKindsOf (tree other : TreeState) : Type 0 where
+  pub nodes : (node : ℕ) → IsSome (get tree.nodes node) ↔ IsSome (get other.nodes node)
+  pub kinds : (node : ℕ) → kind_of tree node ≡ kind_of other node
+  pub first : tree.first ≡ other.first
+  pub share : tree.share ≡ other.share
+  pub made : tree.made ≡ other.made
+
+-- So has the tree at a cut of the tree after the history.
+abbrev pub CutsKeepKinds : Type 0
+CutsKeepKinds = (first : TreeState) (history : List Entry) (cut : Cut) → HasKindsOf (tree_at_cut first history cut) (tree_after first history)
+
 -- An fsync keeps the cut closed, and each directory with an inode has its making below its birth place's cut.
 abbrev pub FsyncsKeep : Type 0
 FsyncsKeep = (first : TreeState) (history : List Entry) (cut raised : Cut) (inodes after : ℕ → Bool) (flush : Flush) → IsSoundTree first → IsLegal first history
-    → IsKept first history cut inodes → IsRaised first history every_entry cut inodes flush raised → AreInodesAfter first history every_entry cut inodes flush raised after → IsKept first history raised after
+    → KeepsCut first history cut inodes → IsRaised first history every_entry cut inodes flush raised → AreInodesAfter first history every_entry cut inodes flush raised after → KeepsCut first history raised after
 
--- After any list of fsyncs the cut is closed, each directory with an inode has its making below its birth place's cut, and the tree
--- at the cut is sound.
+-- The cut is closed, each directory with an inode has its making below its birth place's cut, the tree at the cut is sound, and
+-- what a row at the cut names has an inode.
 pub record KeepsAll (first : TreeState) (history : List Entry) (cut : Cut) (inodes : ℕ → Bool) : Type 0 where
-  pub kept : IsKept first history cut inodes
+  pub kept : KeepsCut first history cut inodes
   pub sound : IsSound (tree_at_cut first history cut)
+  pub named : (node : ℕ) → IsNamedIn (rows_at_cut first history cut) node → inodes node ≡ true
 
+-- So it is after any list of fsyncs.
 abbrev pub ListsKeep : Type 0
 ListsKeep = (first : TreeState) (history : List Entry) (flushes : List Flush) (cut : Cut) (inodes : ℕ → Bool) → IsSoundTree first → IsLegal first history → AreFlushed first history every_entry flushes cut inodes → KeepsAll first history cut inodes
 
 -- An fsync of a node that is there covers itself and leaves covered what was, where each node with an inode is placed; and each is again.
 abbrev pub FsyncsCover : Type 0
 FsyncsCover = (first : TreeState) (history : List Entry) (cut raised : Cut) (inodes after : ℕ → Bool) (flush : Flush) → IsSoundTree first → IsLegal first history
-    → ArePlaced first history cut inodes → IsThere first history flush → IsRaised first history every_entry cut inodes flush raised → AreInodesAfter first history every_entry cut inodes flush raised after → Covers first history cut raised after flush
+    → ArePlaced first history cut inodes → HasNode first history flush → IsRaised first history every_entry cut inodes flush raised → AreInodesAfter first history every_entry cut inodes flush raised after → CoversMore first history cut raised after flush
 
 -- After a list of fsyncs of nodes that are there, each of them is covered.
 abbrev pub ListsCover : Type 0
 ListsCover = (first : TreeState) (history : List Entry) (flushes : List Flush) (cut : Cut) (inodes : ℕ → Bool) → IsSoundTree first → IsLegal first history → AreFlushed first history every_entry flushes cut inodes
-    → ((flush : Flush) → IsOneOf flushes flush → IsThere first history flush) → (flush : Flush) → IsOneOf flushes flush → IsCovered first history cut flush
+    → ((flush : Flush) → IsOneOf flushes flush → HasNode first history flush) → (flush : Flush) → IsOneOf flushes flush → IsCovered first history cut flush
 
--- In each state of a run the cut is closed, each directory with an inode has its making below its birth place's cut, and the tree at
--- the cut is sound; and so they are when any fsyncs have raised the cut, as those of any flights.
+-- So it is in each state of a run, and when any fsyncs have raised its cut, as those of any flights.
 abbrev pub RunsKeep : Type 0
 RunsKeep = (first : TreeState) (events : List Event) (states : ℕ → MachineState) (place : ℕ) (flushes : List Flush) (cut : Cut) (inodes : ℕ → Bool)
     → IsSoundTree first → IsRun first events states → place ≤ length events

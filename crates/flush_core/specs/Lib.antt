@@ -7,6 +7,8 @@ pub mod Grows
 pub mod Engine
 pub mod Inodes
 pub mod Laws
+pub mod LawsGrowth
+pub mod LawsInodes
 pub mod Machine
 pub mod Members
 pub mod Named

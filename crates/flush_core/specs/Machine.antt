@@ -87,9 +87,9 @@ goes_on (event.Durable commit) = true
 goes_on _ = false
 
 -- What an event may be told with: a call's core is one of the first tree's, and a read asks for at most 65,536 bytes.
-abbrev pub IsTold : MachineState → Event → Type 0
-IsTold state (event.Call entry) = (entry.core.0 < length state.first.made) × IsReadable entry.call
-IsTold _ _ = Unit {0}
+abbrev pub MayBeTold : MachineState → Event → Type 0
+MayBeTold state (event.Call entry) = (entry.core.0 < length state.first.made) × IsReadable entry.call
+MayBeTold _ _ = Unit {0}
 
 -- A node that a commit would concern, and that a flight concerns.
 pub record IsShared (state : MachineState) (flush : Flush) (node : ℕ) : Type 0 where
@@ -116,26 +116,26 @@ Refuses state (event.Opened opened) (refused.AlreadyOpened commit) = (is_opened 
 Refuses _ _ _ = ⊥
 
 -- the place of a reason in the order in which they are looked for
-abbrev pub place_of : Refused → ℕ
-place_of refused.Crashed = 1
-place_of (refused.NotNext want) = 2
-place_of (refused.NotLegal reply) = 3
-place_of (refused.Stopped commit) = 4
-place_of (refused.Used commit) = 5
-place_of (refused.Meets node) = 6
-place_of (refused.Late stamp) = 7
-place_of (refused.NotFlying commit) = 8
-place_of (refused.NotOpened commit) = 9
-place_of (refused.AlreadyOpened commit) = 10
-place_of refused.NoMemory = 11
+abbrev pub reason_place : Refused → ℕ
+reason_place refused.Crashed = 1
+reason_place (refused.NotNext want) = 2
+reason_place (refused.NotLegal reply) = 3
+reason_place (refused.Stopped commit) = 4
+reason_place (refused.Used commit) = 5
+reason_place (refused.Meets node) = 6
+reason_place (refused.Late stamp) = 7
+reason_place (refused.NotFlying commit) = 8
+reason_place (refused.NotOpened commit) = 9
+reason_place (refused.AlreadyOpened commit) = 10
+reason_place refused.NoMemory = 11
 
 -- An event is refused for the first reason that holds.
 pub record IsRefused (state : MachineState) (e : Event) (why : Refused) : Type 0 where
   pub holds : Refuses state e why
-  pub first : (other : Refused) → Refuses state e other → place_of why ≤ place_of other
+  pub first : (other : Refused) → Refuses state e other → reason_place why ≤ reason_place other
 
 -- A flight as it begins.
-pub record Begins (state : MachineState) (commit : ℕ) (flush : Flush) (flight : Flight) : Type 0 where
+pub record BeginsFlight (state : MachineState) (commit : ℕ) (flush : Flush) (flight : Flight) : Type 0 where
   pub number : flight.commit ≡ commit
   pub own : flight.flush ≡ flush
   pub members : (node : ℕ) → (flight.members node ≡ true) ↔ Closure state.first state.history every_entry state.cut state.inodes flush node
@@ -161,7 +161,7 @@ abbrev pub Moves : MachineState → Event → MachineState → Type 0
 Moves old (event.Call entry) new = MayCome (tree_now old) (length old.history) entry × (new ≡ record old { history = old.history ++ entry ∷ [] })
 -- a commit begins
 Moves old (event.CutAt commit node stamp) new =
-    (flight : Flight) × Begins old commit (record { node = node.0; stamp = stamp.0 }) flight
+    (flight : Flight) × BeginsFlight old commit (record { node = node.0; stamp = stamp.0 }) flight
     × (new ≡ record old { flights = old.flights ++ flight ∷ []; used = old.used ++ commit ∷ [] })
 -- its flight is marked
 Moves old (event.Opened commit) new = new ≡ record old { flights = map (opened_for commit) old.flights }
@@ -176,6 +176,6 @@ Moves old (event.Crash kept) new =
     (raised : MachineState) × IsRaisedBy old (kept_of old kept.items) raised × (new ≡ record raised { flights = []; crashed = true })
 
 -- A state takes an event: no reason to refuse it holds, and it does what it does.
-pub record Takes (old : MachineState) (e : Event) (new : MachineState) : Type 0 where
+pub record Accepts (old : MachineState) (e : Event) (new : MachineState) : Type 0 where
   pub free : (why : Refused) → Refuses old e why → ⊥
   pub moves : Moves old e new

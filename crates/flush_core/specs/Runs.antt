@@ -9,12 +9,12 @@ use Rattle.flush_core.specs.declared.event.Event.TheVariants as event
 use Rattle.flush_core.specs.Cut.{Cut, cut_of, counted_rows_at_cut}
 use Rattle.flush_core.specs.Rules.{IsOneOf}
 use Rattle.flush_core.specs.Closure.{Counts, every_entry, Flush, Closure, IsConcerned, IsRaised, IsReached, IsDead}
-use Rattle.flush_core.specs.Machine.{Flight, MachineState, start_of, is_flying, Takes}
+use Rattle.flush_core.specs.Machine.{Flight, MachineState, start_of, is_flying, Accepts}
 
 -- A run: a state before each event and one behind the last, the first that in which runs begin, and each takes its event.
 pub record IsRun (first : TreeState) (events : List Event) (states : ℕ → MachineState) : Type 0 where
   pub begins : states 0 ≡ start_of first
-  pub steps : (place : ℕ) (e : Event) → slice_get events place ≡ Some e → Takes (states place) e (states (suc place))
+  pub steps : (place : ℕ) (e : Event) → slice_get events place ≡ Some e → Accepts (states place) e (states (suc place))
 
 -- the fsync of a commit
 abbrev pub flush_by : Event → Option (ℕ × Flush)
@@ -44,35 +44,35 @@ pub record Flies (events : List Event) (states : ℕ → MachineState) (place la
   pub flying : is_flying (states later) commit ≡ true
 
 -- What an fsync goes by: the history, the entries of it that count, the cut, and which nodes have an inode.
-pub record View : Type 0 where
+pub record CommitView : Type 0 where
   pub history : List Entry
   pub counts : Counts
   pub cut : Cut
   pub inodes : ℕ → Bool
 
 -- what a state's fsyncs go by
-abbrev pub view_of : MachineState → View
+abbrev pub view_of : MachineState → CommitView
 view_of state = record { history = state.history; counts = every_entry; cut = state.cut; inodes = state.inodes }
 
 -- the nodes that an fsync concerns
-abbrev pub Concerns : TreeState → Flush → View → ℕ → Type 0
+abbrev pub Concerns : TreeState → Flush → CommitView → ℕ → Type 0
 Concerns first flush view = IsConcerned first view.history view.counts view.cut view.inodes flush
 
 -- the cut that an fsync leaves
-abbrev pub Raises : TreeState → Flush → View → Cut → Type 0
+abbrev pub Raises : TreeState → Flush → CommitView → Cut → Type 0
 Raises first flush view = IsRaised first view.history view.counts view.cut view.inodes flush
 
 -- a node gets an inode
-abbrev pub Enters : TreeState → Flush → View → Cut → ℕ → Type 0
+abbrev pub Enters : TreeState → Flush → CommitView → Cut → ℕ → Type 0
 Enters first flush view raised node = (view.inodes node ≡ false) × Concerns first flush view node × IsReached first view.history view.counts flush raised node
 
 -- a node loses its inode
-abbrev pub Leaves : TreeState → Flush → View → Cut → ℕ → Type 0
+abbrev pub Leaves : TreeState → Flush → CommitView → Cut → ℕ → Type 0
 Leaves first flush view raised node = (view.inodes node ≡ true) × Concerns first flush view node × IsDead first view.history view.counts raised node
 
 -- An fsync makes the same commit by two views: it has the same members and concerns the same nodes; at the cuts that it leaves these
 -- have the same stamps, the same rows name them, and the same of them get an inode and lose it.
-pub record IsOneCommit (first : TreeState) (flush : Flush) (view other : View) : Type 0 where
+pub record IsOneCommit (first : TreeState) (flush : Flush) (view other : CommitView) : Type 0 where
   pub members : (node : ℕ) → Closure first view.history view.counts view.cut view.inodes flush node ↔ Closure first other.history other.counts other.cut other.inodes flush node
   pub concerned : (node : ℕ) → Concerns first flush view node ↔ Concerns first flush other node
   pub stamps : (raised other_raised : Cut) → Raises first flush view raised → Raises first flush other other_raised → (node : ℕ) → Concerns first flush view node → cut_of raised node ≡ cut_of other_raised node

@@ -16,20 +16,20 @@ use Rattle.flush_core.specs.Cut.{Cut}
 use Rattle.flush_core.specs.Flights.{flight_as}
 use Rattle.flush_core.specs.NodeSets.{has_node}
 use Rattle.flush_core.specs.Closure.{every_entry, Flush, IsRaised, AreInodesAfter}
-use Rattle.flush_core.specs.Machine.{Flight, MachineState, IsRefused, Takes}
+use Rattle.flush_core.specs.Machine.{Flight, MachineState, IsRefused, Accepts}
 
 -- whether a tree has a node
-abbrev pub nodes_in : TreeState → ℕ → Bool
-nodes_in tree node = is_some (get tree.nodes node)
+abbrev pub tree_has : TreeState → ℕ → Bool
+tree_has tree node = is_some (get tree.nodes node)
 
 -- the nodes with an inode, as they are kept: those of the first tree where no others are
 abbrev pub inodes_of : TreeState → Option NodeSet → ℕ → Bool
-inodes_of first None = nodes_in first
+inodes_of first None = tree_has first
 inodes_of first (Some inodes) = has_node inodes
 
 -- An entry's reply is one that may come where this one is due, and it has a moment of acknowledgement exactly where it is an fsync
 -- of a live node that is answered Ok.
-pub record IsAnswered (is_flush : Bool) (due : Reply) (entry : Entry) : Type 0 where
+pub record HasDueAnswer (is_flush : Bool) (due : Reply) (entry : Entry) : Type 0 where
   pub reply : IsDue is_flush due entry.reply
   pub acknowledged : IsSome entry.ack ↔ IsTrue (is_flush && is_ok_reply entry.reply)
 
@@ -59,7 +59,7 @@ machine_of kept = record {
 
 -- An event was taken, or it was refused for its first reason or for want of memory and the state is as it was.
 abbrev pub Answers : KeptState → Event → Result (Unit {0}) Refused → KeptState → Type 0
-Answers old e (Ok done) new = Takes (machine_of old) e (machine_of new)
+Answers old e (Ok done) new = Accepts (machine_of old) e (machine_of new)
 Answers old e (Err why) new = ((why ≡ refused.NoMemory) ⊎ IsRefused (machine_of old) e why) × (new ≡ old)
 
 -- A cut and nodes with an inode are those that an fsync leaves of a state's.

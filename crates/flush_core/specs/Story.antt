@@ -36,8 +36,8 @@ abbrev pub ack_of : TreeState → Call → Option ℕ
 ack_of tree call = if flushes tree call then Some 0 else None
 
 -- a call as an entry, answered by the table
-abbrev pub entry_of : TreeState → ℕ → CoreId → Call → Entry
-entry_of tree stamp core call = record {
+abbrev pub answered_entry : TreeState → ℕ → CoreId → Call → Entry
+answered_entry tree stamp core call = record {
   stamp = record { 0 = stamp };
   core = core;
   call = call;
@@ -47,7 +47,7 @@ entry_of tree stamp core call = record {
 
 -- the entry of a story's next call
 abbrev pub next_entry : StoryState → CoreId → Call → Entry
-next_entry story core call = entry_of (end_of story) (length story.history) core call
+next_entry story core call = answered_entry (end_of story) (length story.history) core call
 
 -- a story with an entry more
 abbrev pub with_entry : StoryState → Entry → StoryState
@@ -62,7 +62,7 @@ abbrev pub AreReadable : List Entry → Type 0
 AreReadable entries = (entry : Entry) → IsOneOf entries entry → IsReadable entry.call
 
 -- A past of some legal calls to which a call can be added: the first tree is sound, and its nodes have numbers that were given.
-pub record IsReady (first : TreeState) (entries : List Entry) (past : Past) : Type 0 where
+pub record IsReadyPast (first : TreeState) (entries : List Entry) (past : Past) : Type 0 where
   pub is_past : IsPast first entries past
   pub sound : IsSoundTree first
   pub legal : IsLegal first entries
@@ -72,4 +72,4 @@ pub record IsStanding (first : TreeState) (entries : List Entry) (kept : Option 
   pub sound : IsSound first
   pub legal : IsLegal first entries
   pub readable : AreReadable entries
-  pub ready : (past : Past) → kept ≡ Some past → IsReady first entries past
+  pub ready : (past : Past) → kept ≡ Some past → IsReadyPast first entries past

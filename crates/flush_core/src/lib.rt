@@ -5,7 +5,7 @@ mod closure;
 mod cut;
 mod event;
 mod flight;
-mod laws;
+pub mod laws;
 mod named;
 mod past;
 mod plan;
@@ -17,10 +17,6 @@ mod story;
 
 pub use cut::Cut;
 pub use event::{CommitList, Event, Refused};
-pub use laws::{
-    closed_cuts_are_sound, commits_are_tied, directories_are_cut, files_are_cut, flights_stay,
-    fsyncs_cover, fsyncs_keep, lists_cover, lists_keep, runs_keep,
-};
 pub use rules::Rule;
 pub use state::State;
 pub use story::Story;

@@ -9,7 +9,7 @@ ghost use Rattle.flush_core.specs.Engine.{IsNaming, RaisesThose, RaisesMembers};
 ghost use Rattle.flush_core.specs.Inodes.{GetsInode, LosesInode, Settles};
 ghost use Rattle.flush_core.specs.Members.{AreConcerned};
 ghost use Rattle.flush_core.specs.Named.{AreNamed};
-ghost use Rattle.flush_core.specs.NodeSets.{has_node, with_node};
+ghost use Rattle.flush_core.specs.NodeSets.{has_node, with_member};
 ghost use Rattle.flush_core.specs.Past.{IsPast};
 ghost use Rattle.flush_core.specs.Rules.{IsOneOf};
 
@@ -98,7 +98,7 @@ fn inodes_after(
 
 // Puts the node in or takes it out.
 fn put(nodes: &mut NodeSet, node: u32, is_in: bool) -> Result<(), NoMemory>
-    ensures { OnOk result ((other : ℕ) → has_node nodes.new other ≡ with_node node is_in (has_node nodes.old) other) }
+    ensures { OnOk result ((other : ℕ) → has_node nodes.new other ≡ with_member node is_in (has_node nodes.old) other) }
 {
     if is_in {
         nodes.insert(node)?;

@@ -12,7 +12,7 @@ pub(crate) struct NodeSet {
 }
 
 impl NodeSet {
-    ghost use Rattle.flush_core.specs.NodeSets.{has_node, with_node};
+    ghost use Rattle.flush_core.specs.NodeSets.{has_node, with_member};
     ghost use Rattle.flush_core.specs.Rules.{IsOneOf};
 
     /// The set without a node. It takes no memory.
@@ -33,7 +33,7 @@ impl NodeSet {
 
     /// Puts the node in.
     pub(crate) fn insert(&mut self, node: u32) -> Result<(), NoMemory>
-        ensures ok { OnOk result ((other : ℕ) → has_node self.new other ≡ with_node node true (has_node self.old) other) }
+        ensures ok { OnOk result ((other : ℕ) → has_node self.new other ≡ with_member node true (has_node self.old) other) }
         ensures err { OnErr result ((other : ℕ) → has_node self.new other ≡ has_node self.old other) }
     {
         make_room(&mut self.has, node as usize)?;
@@ -43,7 +43,7 @@ impl NodeSet {
 
     /// Takes the node out. It takes no memory.
     pub(crate) fn remove(&mut self, node: u32)
-        ensures { (other : ℕ) → has_node self.new other ≡ with_node node false (has_node self.old) other }
+        ensures { (other : ℕ) → has_node self.new other ≡ with_member node false (has_node self.old) other }
     {
         if (node as usize) < self.has.len() {
             put(&mut self.has, node as usize, false);

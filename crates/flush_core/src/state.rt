@@ -53,7 +53,7 @@ impl Model for State {
 }
 
 impl State {
-    ghost use Rattle.flush_core.specs.Machine.{start_of, IsTold, IsRefused, Takes};
+    ghost use Rattle.flush_core.specs.Machine.{start_of, MayBeTold, IsRefused, Accepts};
     ghost use Rattle.flush_core.specs.State.{machine_of};
 
     /// The state in which a run begins: no calls, the cut 0, an inode for each node of the tree, which
@@ -94,8 +94,8 @@ impl State {
     /// Tells it an event. A call's core is one of the first tree's, and a read asks for at most 65,536
     /// bytes. A refusal names the first reason that holds, or want of memory, and changes nothing.
     pub fn step(&mut self, event: &Event) -> Result<(), Refused>
-        requires told { IsTold (machine_of self.old) event.now }
-        ensures ok { OnOk result (Takes (machine_of self.old) event.now (machine_of self.new)) }
+        requires told { MayBeTold (machine_of self.old) event.now }
+        ensures ok { OnOk result (Accepts (machine_of self.old) event.now (machine_of self.new)) }
         ensures err { IfErr result (λ why. (why ≡ Refused.NoMemory) ⊎ IsRefused (machine_of self.old) event.now why) }
         ensures stays { OnErr result (self.new ≡ self.old) }
     {

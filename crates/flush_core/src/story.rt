@@ -112,7 +112,7 @@ impl Story {
 
 impl Story {
     ghost use Rattle.sfs_tree.specs.History.{MayCome};
-    ghost use Rattle.flush_core.specs.Story.{end_of, with_entry, IsReady};
+    ghost use Rattle.flush_core.specs.Story.{end_of, with_entry, IsReadyPast};
 
     // How many calls there are.
     pub(crate) fn len(&self) -> u64
@@ -130,7 +130,7 @@ impl Story {
 
     // The past of the calls, which is not kept any more.
     pub(crate) fn take_past(&mut self) -> Result<Past, NoMemory>
-        ensures past { IfOk result (λ past. IsReady self.old.first self.old.history past) }
+        ensures past { IfOk result (λ past. IsReadyPast self.old.first self.old.history past) }
         ensures same { self.new ≡ self.old }
     {
         match self.past.take() {
@@ -141,7 +141,7 @@ impl Story {
 
     // Keeps the past of the calls again.
     pub(crate) fn keep_past(&mut self, past: Past)
-        requires { IsReady self.old.first self.old.history past }
+        requires { IsReadyPast self.old.first self.old.history past }
         ensures { self.new ≡ self.old }
     {
         self.past = Some(past);
@@ -151,7 +151,7 @@ impl Story {
     pub(crate) fn join(&mut self, entry: Entry, past: Past) -> Result<(), NoMemory>
         requires may { MayCome (end_of self.old) (length self.old.history) entry }
         requires readable { IsReadable entry.call }
-        requires past { IsReady self.old.first (with_entry self.old entry).history past }
+        requires past { IsReadyPast self.old.first (with_entry self.old entry).history past }
         ensures ok { OnOk result (self.new ≡ with_entry self.old entry) }
         ensures err { OnErr result (self.new ≡ self.old) }
     {
@@ -161,14 +161,14 @@ impl Story {
     }
 }
 
-ghost use Rattle.flush_core.specs.Story.{ack_of, entry_of, AreReadable, IsReady};
+ghost use Rattle.flush_core.specs.Story.{ack_of, answered_entry, AreReadable, IsReadyPast};
 
 // The past of some calls, made anew.
 fn replayed(alloc: Global, first: &Tree, entries: &[Entry]) -> Result<Past, NoMemory>
     requires sound { IsSound first.now }
     requires legal { IsLegal first.now entries.now }
     requires readable { AreReadable entries.now }
-    ensures { IfOk result (λ past. IsReady first.now entries.now past) }
+    ensures { IfOk result (λ past. IsReadyPast first.now entries.now past) }
 {
     let mut past = Past::new(alloc, first)?;
     for entry in entries {
@@ -188,8 +188,8 @@ fn joined(
     requires core { core.0 < length past.old.tree.made }
     requires sound { IsSound past.old.tree }
     requires readable { IsReadable call.now }
-    ensures entry { IfOk result (λ entry. entry ≡ entry_of past.old.tree stamp core call.now) }
-    ensures grows { OnOk result (Grows past.old (entry_of past.old.tree stamp core call.now) past.new) }
+    ensures entry { IfOk result (λ entry. entry ≡ answered_entry past.old.tree stamp core call.now) }
+    ensures grows { OnOk result (Grows past.old (answered_entry past.old.tree stamp core call.now) past.new) }
 {
     let ack = ack_of(&past.tree, call);
     let mut entry = Entry {

@@ -8,6 +8,6 @@ abbrev pub bytes_in : List (List ℕ) → ℕ → List ℕ
 bytes_in pages size = map (byte_at pages) (range_with_len 0 size)
 
 -- a size in range, with zeros in the pages from it on
-pub record IsKept (pages : List (List ℕ)) (size : ℕ) : Type 0 where
+pub record KeepsPages (pages : List (List ℕ)) (size : ℕ) : Type 0 where
   pub within : size ≤ 8796093022208
   pub clean : (place : ℕ) → size ≤ place → byte_at pages place ≡ 0

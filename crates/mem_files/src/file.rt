@@ -29,14 +29,14 @@ impl Model for FileBytes {
 
     ghost Value = { File };
 
-    ghost use Rattle.mem_files.specs.Kept.{bytes_in, IsKept};
+    ghost use Rattle.mem_files.specs.Kept.{bytes_in, KeepsPages};
 
     ghost view = { λ file. record {
       bytes = bytes_in file.pages.items file.size;
       marks = file.marks.items;
     } };
 
-    ghost invariant = { λ file. IsKept file.pages.items file.size };
+    ghost invariant = { λ file. KeepsPages file.pages.items file.size };
 }
 
 impl FileBytes {

@@ -7,10 +7,10 @@ use Rattle.std.specs.Prelude.{filter_map}
 use Rattle.std.specs.FinMap.{entries, len-entries}
 use Rattle.sfs_tree.proofs.Joined.{key_cmp_total, length-from_entries}
 use Rattle.sfs_tree.proofs.Names.{entries-names_where}
-use Rattle.sfs_base.specs.Ends.{Rose}
+use Rattle.sfs_base.specs.Ends.{HasRisen}
 use Rattle.scalefs_run.proofs.Rooted.{length-rows_of_root}
 use Rattle.scalefs_run.specs.Shown.{shown}
-use Rattle.scalefs_run.specs.Stands.{root_shown}
+use Rattle.scalefs_run.specs.RunInvariant.{root_shown}
 use Rattle.sfs_tree.specs.Tree.{TreeState, name_row}
 use Rattle.sfs_dev.specs.Disk.{View}
 use Rattle.area_pair.specs.declared.area.Row.{Row}
@@ -19,7 +19,7 @@ use Rattle.area_pair.specs.Sound.{AreRoots}
 use Rattle.scalefs_run.specs.First.{first_tree, row_entry}
 use Rattle.scalefs_run.specs.Flushed.{rows_of_root}
 use Rattle.scalefs_run.specs.Replies.{root_rows}
-use Rattle.scalefs_run.specs.Stands.{Stands}
+use Rattle.scalefs_run.specs.RunInvariant.{RunInvariant}
 use Rattle.scalefs_run.specs.declared.flush.Store.{Store}
 use Rattle.scalefs_run.proofs.FirstSound.{first_sound}
 use Rattle.scalefs_run.proofs.Opened.{length-filter_map}
@@ -38,7 +38,7 @@ few_rows share opened sound =
     omega arith
 
 -- no call was made yet, in the first tree
-begun : (share : ℕ) (opened : List Row) (store : Store) (disk : View) (start from : ℕ) → AreRoots opened → length store.on_disk.items ≤ 15 → shown store.on_disk.items ≡ root_shown (first_tree share opened) → store.failed ≡ None → ReadsAs disk store.areas opened → disk.faults ≡ start → from ≤ disk.now → Stands start from (first_tree share opened) [] (first_tree share opened) store disk
+begun : (share : ℕ) (opened : List Row) (store : Store) (disk : View) (start from : ℕ) → AreRoots opened → length store.on_disk.items ≤ 15 → shown store.on_disk.items ≡ root_shown (first_tree share opened) → store.failed ≡ None → ReadsAs disk store.areas opened → disk.faults ≡ start → from ≤ disk.now → RunInvariant start from (first_tree share opened) [] (first_tree share opened) store disk
 begun share opened store disk start from sound few on_disk working reads faults later =
     record {
       legal = tt;
@@ -48,20 +48,20 @@ begun share opened store disk start from sound few on_disk working reads faults 
       answered = λ kept is. tt;
       halted = sym (ap is_some working);
       kept = subst (λ (o : Option ℕ). IfSome o (λ f. f ≡ disk.faults)) (sym working) tt;
-      risen = subst (λ (o : Option ℕ). IfSome o (λ _. Rose start disk.faults)) (sym working) tt;
+      risen = subst (λ (o : Option ℕ). IfSome o (λ _. HasRisen start disk.faults)) (sym working) tt;
       few = few;
       before = omega arith;
       on_disk = on_disk;
       read = λ none. (opened, reads, shown-first share opened sound.apart);
       later = omega arith;
-      dated = later;
+      acks = later;
       last = record { found = inl refl; newest = All-nil (λ (e : Entry). IfSome e.ack (λ _. e.stamp.0 ≤ 0)) };
     }
 
 -- no call was made yet
-pub stands_first : (share : ℕ) (opened : List Row) (tree : TreeState) (store : Store) (disk : View) (start from : ℕ) → AreRoots opened → tree ≡ first_tree share opened → store.on_disk.items ≡ rows_of_root tree → store.failed ≡ None → ReadsAs disk store.areas opened → disk.faults ≡ start → from ≤ disk.now → Stands start from (first_tree share opened) [] tree store disk
+pub stands_first : (share : ℕ) (opened : List Row) (tree : TreeState) (store : Store) (disk : View) (start from : ℕ) → AreRoots opened → tree ≡ first_tree share opened → store.on_disk.items ≡ rows_of_root tree → store.failed ≡ None → ReadsAs disk store.areas opened → disk.faults ≡ start → from ≤ disk.now → RunInvariant start from (first_tree share opened) [] tree store disk
 stands_first share opened tree store disk start from sound is on_disk working reads faults later =
     let here : store.on_disk.items ≡ rows_of_root (first_tree share opened) = on_disk ∙ ap rows_of_root is in
-    subst (λ (t : TreeState). Stands start from (first_tree share opened) [] t store disk) (sym is) (begun share opened store disk start from sound
+    subst (λ (t : TreeState). RunInvariant start from (first_tree share opened) [] t store disk) (sym is) (begun share opened store disk start from sound
     (let long = length-rows_of_root (first_tree share opened) in let few = few_rows share opened sound in let are = ap length here in omega arith)
     (ap shown here ∙ shown-root (first_tree share opened)) working reads faults later)

@@ -6,10 +6,10 @@ use Rattle.sfs_tree.specs.declared.history.Entry.{Entry}
 use Rattle.sfs_tree.specs.Tree.{TreeState}
 use Rattle.sfs_tree.specs.History.{IsLegal, tree_after}
 use Rattle.area_pair.specs.Rows.{rows_of}
-use Rattle.scalefs_run.specs.Crash.{StandsAtCut, IsCut, IsCovered}
+use Rattle.scalefs_run.specs.Crash.{IsAtCut, IsCut, CoversEntry}
 use Rattle.scalefs_run.specs.Replies.{is_failed_flush}
 use Rattle.scalefs_run.specs.Shown.{shown, shown_at, is_flush, last_flush}
-use Rattle.scalefs_run.specs.Stands.{FlushedLast, root_shown}
+use Rattle.scalefs_run.specs.RunInvariant.{FlushedLast, root_shown}
 use Rattle.scalefs_run.proofs.Dated.{all_one, Contains-last, HasStamp-push, stamps_fit}
 use Rattle.scalefs_run.proofs.Pushed.{shown_at-push, shown_at-end}
 
@@ -19,7 +19,7 @@ covered_earlier t k cut stamp None le h = tt
 covered_earlier t k cut stamp (Some a) le h = λ by. h (omega arith)
 
 -- an image of a later moment has what was acknowledged earlier
-pub at_cut_earlier : (Failed : Type 0) (first : TreeState) (history : List Entry) (t k : ℕ) (image : List ℕ) → t ≤ k → StandsAtCut Failed first history k image → StandsAtCut Failed first history t image
+pub at_cut_earlier : (Failed : Type 0) (first : TreeState) (history : List Entry) (t k : ℕ) (image : List ℕ) → t ≤ k → IsAtCut Failed first history k image → IsAtCut Failed first history t image
 at_cut_earlier Failed first history t k image le at = record {
   cut = at.cut;
   is_cut = at.is_cut;
@@ -43,24 +43,24 @@ module _ (first : TreeState) (history : List Entry) (entry : Entry) (legal : IsL
   longer = omega (arith, Rattle.std.proofs.lemmas.List.length-append history (entry ∷ []))
 
   -- an entry that is acknowledged later leaves an image at its cut
-  pub at_cut_grown : (Failed Later : Type 0) (k : ℕ) (image : List ℕ) → (Failed → Later) → IfSome entry.ack (λ a. k < a) → StandsAtCut Failed first history k image → StandsAtCut Later first (history ++ entry ∷ []) k image
+  pub at_cut_grown : (Failed Later : Type 0) (k : ℕ) (image : List ℕ) → (Failed → Later) → IfSome entry.ack (λ a. k < a) → IsAtCut Failed first history k image → IsAtCut Later first (history ++ entry ∷ []) k image
   at_cut_grown Failed Later k image later after at = record {
     cut = at.cut;
     is_cut = cut_grown Failed Later history entry at.cut later at.is_cut;
     within = let within = at.within in omega (arith, longer);
-    covers = All-append (IsCovered k at.cut) history (entry ∷ []) at.covers (all_one (IsCovered k at.cut) entry (not_yet k at.cut entry.stamp.0 entry.ack after));
+    covers = All-append (CoversEntry k at.cut) history (entry ∷ []) at.covers (all_one (CoversEntry k at.cut) entry (not_yet k at.cut entry.stamp.0 entry.ack after));
     shows = at.shows ∙ sym (shown_at-push first history entry at.cut legal more at.within);
   }
 
   -- an image that has the root as it is now stands at the last entry
-  pub at_cut_new : (Failed : Type 0) (k : ℕ) (image : List ℕ) → entry.stamp.0 ≡ length history → ((is_flush entry ≡ true) ⊎ (Failed × (is_failed_flush entry ≡ true))) → shown (rows_of image) ≡ root_shown (tree_after first history) → StandsAtCut Failed first (history ++ entry ∷ []) k image
+  pub at_cut_new : (Failed : Type 0) (k : ℕ) (image : List ℕ) → entry.stamp.0 ≡ length history → ((is_flush entry ≡ true) ⊎ (Failed × (is_failed_flush entry ≡ true))) → shown (rows_of image) ≡ root_shown (tree_after first history) → IsAtCut Failed first (history ++ entry ∷ []) k image
   at_cut_new Failed k image stamped reached shows = record {
     cut = length history;
     is_cut = inr (⊎_elim (λ flush. inl (entry, Contains-last history entry, flush, stamped)) (λ failed. inr (failed.0, (entry, Contains-last history entry, failed.1, stamped))) reached);
     within = longer;
-    covers = All-append (IsCovered k (length history)) history (entry ∷ [])
+    covers = All-append (CoversEntry k (length history)) history (entry ∷ [])
         (λ n d lt. let e = slice_index_or history n d in at_most e.stamp.0 e.ack (let below = stamps_fit first history legal n d lt in omega arith))
-        (all_one (IsCovered k (length history)) entry (at_most entry.stamp.0 entry.ack (omega (arith, stamped))));
+        (all_one (CoversEntry k (length history)) entry (at_most entry.stamp.0 entry.ack (omega (arith, stamped))));
     shows = shows ∙ sym (shown_at-end first history entry more);
   }
     where
@@ -69,7 +69,7 @@ module _ (first : TreeState) (history : List Entry) (entry : Entry) (legal : IsL
       at_most stamp (Some a) le = λ by. le
 
 -- an image that has the root as it was at the last flush stands there
-pub at_cut_last : (Failed : Type 0) (first : TreeState) (history : List Entry) (k : ℕ) (image : List ℕ) → FlushedLast history → last_flush history ≤ length history → shown (rows_of image) ≡ shown_at first history (last_flush history) → StandsAtCut Failed first history k image
+pub at_cut_last : (Failed : Type 0) (first : TreeState) (history : List Entry) (k : ℕ) (image : List ℕ) → FlushedLast history → last_flush history ≤ length history → shown (rows_of image) ≡ shown_at first history (last_flush history) → IsAtCut Failed first history k image
 at_cut_last Failed first history k image last within shows = record {
   cut = last_flush history;
   is_cut = ⊎_elim (λ zero. inl zero) (λ h. inr (inl h)) last.found;

@@ -5,9 +5,9 @@ use Rattle.std.proofs.lemmas.List.Elements.{All-append, All-from_recursion, Cont
 use Rattle.sfs_tree.specs.declared.history.Entry.{Entry}
 use Rattle.sfs_tree.specs.Tree.{TreeState}
 use Rattle.sfs_tree.specs.History.{IsLegal, IsLegalFrom, tree_after_entry}
-use Rattle.scalefs_run.specs.Crash.{AreDated, Rise, acks_of, HasStamp}
+use Rattle.scalefs_run.specs.Crash.{AcksRise, Rise, acks_of, HasStamp}
 use Rattle.scalefs_run.specs.Shown.{is_flush, last_flush}
-use Rattle.scalefs_run.specs.Stands.{FlushedLast}
+use Rattle.scalefs_run.specs.RunInvariant.{FlushedLast}
 use Rattle.scalefs_run.proofs.Pushed.{last_flush-push}
 
 -- what holds of an entry holds of each of a list with that one
@@ -23,7 +23,7 @@ Rise-append from mid to [] (y ∷ ys) first second le = (omega arith, second.1)
 Rise-append from mid to (x ∷ xs) ys first second le = (first.0, Rise-append x mid to xs ys first.1 second le)
 
 -- a history goes on by an entry that was acknowledged between two moments, or was not
-pub AreDated-push : (from mid to : ℕ) (history : List Entry) (entry : Entry) → AreDated from history mid → IfSome entry.ack (λ ack. (mid ≤ ack) × (ack ≤ to)) → mid ≤ to → AreDated from (history ++ entry ∷ []) to
+pub AreDated-push : (from mid to : ℕ) (history : List Entry) (entry : Entry) → AcksRise from history mid → IfSome entry.ack (λ ack. (mid ≤ ack) × (ack ≤ to)) → mid ≤ to → AcksRise from (history ++ entry ∷ []) to
 AreDated-push from mid to history entry all last le =
     subst (λ acks. Rise from acks to) (sym (filter_map-append (λ (e : Entry). e.ack) history (entry ∷ [])))
     (Rise-append from mid to (acks_of history) (acks_of (entry ∷ [])) all (one entry.ack last) le)

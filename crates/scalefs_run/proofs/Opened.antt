@@ -44,14 +44,14 @@ none_named row (x ∷ xs) h =
     ap (λ b. cond b (Some x.node.0) (find key_cmp (0, row.name) (map row_entry xs))) (row_ties row.name x.name ∙ or_first _ _ (h zero x refl))
     ∙ none_named row xs (λ k y e. h (suc k) y e)
 
-not_directory : (kind : Kind) → rows.is_directory kind ≡ false → kind ≡ File
+not_directory : (kind : Kind) → rows.is_directory_row kind ≡ false → kind ≡ File
 not_directory File e = refl
 not_directory Directory e = cc
 
 -- two rows of one node are two files' where they don't clash
 pub one_kind : (row x : Row) → clashes row x ≡ false → nat_eq row.node.0 x.node.0 ≡ true → x.kind ≡ row.kind
 one_kind row x h same =
-    let either : (rows.is_directory row.kind || rows.is_directory x.kind) ≡ false = sym (ap (λ b. b && (rows.is_directory row.kind || rows.is_directory x.kind)) same) ∙ or_second _ _ h in
+    let either : (rows.is_directory_row row.kind || rows.is_directory_row x.kind) ≡ false = sym (ap (λ b. b && (rows.is_directory_row row.kind || rows.is_directory_row x.kind)) same) ∙ or_second _ _ h in
     not_directory x.kind (or_second _ _ either) ∙ sym (not_directory row.kind (or_first _ _ either))
 
 kind_found : (row : Row) (rs : List Row) (n : Node) → row.node.0 ≢ 0 → Alone row rs → find nat_cmp row.node.0 (map node_entry rs ++ root_entry ∷ []) ≡ Some n → n ≡ record { kind = row.kind; bytes = [] }
@@ -204,5 +204,5 @@ row_found (x ∷ rs) name child e =
 pub file_before : (rs : List Row) (i j : ℕ) (x y : Row) → KeepsApart rs → i < j → slice_get rs i ≡ Some x → slice_get rs j ≡ Some y → x.node.0 ≡ y.node.0 → (x.kind ≡ File) × (y.kind ≡ File)
 file_before rs i j x y apart lt at_x at_y same =
     let apart_here : clashes x y ≡ false = apart i j x y lt at_x at_y in
-    let either : (rows.is_directory x.kind || rows.is_directory y.kind) ≡ false = sym (ap (λ b. b && (rows.is_directory x.kind || rows.is_directory y.kind)) (eq-eqb x.node.0 y.node.0 same)) ∙ or_second _ _ apart_here in
+    let either : (rows.is_directory_row x.kind || rows.is_directory_row y.kind) ≡ false = sym (ap (λ b. b && (rows.is_directory_row x.kind || rows.is_directory_row y.kind)) (eq-eqb x.node.0 y.node.0 same)) ∙ or_second _ _ apart_here in
     (not_directory x.kind (or_first _ _ either), not_directory y.kind (or_second _ _ either))

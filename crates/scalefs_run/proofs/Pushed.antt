@@ -12,7 +12,7 @@ use Rattle.sfs_tree.specs.Names.{with_kinds}
 use Rattle.sfs_tree.proofs.Histories.{rows_at-tree_after}
 use Rattle.scalefs_run.specs.Replies.{AreAnswered, IsAnsweredEntry, has_failed, is_failed_flush}
 use Rattle.scalefs_run.specs.Shown.{shown_at, last_flush, later_flush}
-use Rattle.scalefs_run.specs.Stands.{root_shown}
+use Rattle.scalefs_run.specs.RunInvariant.{root_shown}
 
 or_assoc : (a b c : Bool) → ((a || b) || c) ≡ (a || (b || c))
 or_assoc true b c = refl

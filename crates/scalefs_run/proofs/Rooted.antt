@@ -142,8 +142,8 @@ sound_apart tree sound i j before row lt at_before at_row =
     let differs : bytes_eq e.0 f.0 ≡ false = less_names e.0 f.0 (rise es i j e f (to_true _ (entries_sorted names)) lt b.1 r.1) in
     let others : e.0 ≢ f.0 = (λ same. other_names e.0 f.0 same differs) in
     ap (λ x. clashes x row) b.2 ∙ ap (clashes (row_with_kind tree e)) r.2
-    ∙ ap (λ t. t || (nat_eq e.1 f.1 && (rows.is_directory (kind_of tree e.1) || rows.is_directory (kind_of tree f.1)))) differs
-    ∙ elim (nat_eq e.1 f.1) as (λ t. nat_eq e.1 f.1 ≡ t → (t && (rows.is_directory (kind_of tree e.1) || rows.is_directory (kind_of tree f.1))) ≡ false) [
+    ∙ ap (λ t. t || (nat_eq e.1 f.1 && (rows.is_directory_row (kind_of tree e.1) || rows.is_directory_row (kind_of tree f.1)))) differs
+    ∙ elim (nat_eq e.1 f.1) as (λ t. nat_eq e.1 f.1 ≡ t → (t && (rows.is_directory_row (kind_of tree e.1) || rows.is_directory_row (kind_of tree f.1))) ≡ false) [
       | true ↦ λ t.
           let same : e.1 ≡ f.1 = eqb-true _ _ t in
           let file : kind_of tree e.1 ≡ File = single tree sound e.0 f.0 e.1 (row_at tree i e b.1) (row_at tree j f r.1 ∙ ap Some (sym same)) others in
@@ -154,8 +154,8 @@ sound_apart tree sound i j before row lt at_before at_row =
     other_names : (a b : List ℕ) → a ≡ b → bytes_eq a b ≡ false → ⊥
     other_names a b same differs = let clash : true ≡ false = sym (subst (λ n. bytes_eq a n ≡ true) same (same_bytes a)) ∙ differs in cc
 
-    either_file : (k l : Kind) → k ≡ File → l ≡ File → (rows.is_directory k || rows.is_directory l) ≡ false
-    either_file k l a b = ap (λ x. rows.is_directory x || rows.is_directory l) a ∙ ap rows.is_directory b
+    either_file : (k l : Kind) → k ≡ File → l ≡ File → (rows.is_directory_row k || rows.is_directory_row l) ≡ false
+    either_file k l a b = ap (λ x. rows.is_directory_row x || rows.is_directory_row l) a ∙ ap rows.is_directory_row b
 
 -- there are as many as the root has
 pub length-rows_of_root : (tree : TreeState) → length (rows_of_root tree) ≡ root_rows tree

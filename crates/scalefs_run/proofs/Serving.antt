@@ -1,14 +1,15 @@
 -- A run ends.
 use Rattle.std.proofs.Common.{◌≡◌, ℕ, ◌+◌, ◌<◌, ◌≤◌, true, false, List, [], length, Option, Some, None, Result, Ok, Err, is_some, IfSome, cond, nat_lt, refl, sym, ap, subst, ◌∙◌, arith}
 use Rattle.std.proofs.lemmas.List.{length-append, append-nil}
-use Rattle.sfs_base.specs.Ends.{Rose, Takes}
+use Rattle.sfs_base.specs.Ends.{HasRisen}
+use Rattle.std.specs.Io.KnownBytes.{Consumes}
 use Rattle.sfs_base.specs.Transfer.{ReadsAll}
 use Rattle.sfs_base.specs.declared.transfer.ReadAllFault.{ReadAllFault}
 use Rattle.sfs_base.specs.declared.transfer.ReadAllFault.TheVariants as source
 use Rattle.sfs_tree.specs.declared.history.Entry.{Entry}
 use Rattle.sfs_dev.specs.Disk.{View}
 use Rattle.area_pair.specs.declared.area.Row.{Row}
-use Rattle.area_pair.specs.Put.{IsTold}
+use Rattle.sfs_dev.specs.Steps.{IfTold}
 use Rattle.area_pair.specs.Rows.{rows_of}
 use Rattle.script.specs.declared.commands.Line.{Line}
 use borrow.Author.Tests.{lt-ltb, le-ltb}
@@ -26,7 +27,7 @@ use Rattle.scalefs_run.specs.Words.{nodes_of, share_of, share_in}
 use Rattle.scalefs_run.specs.First.{first_tree}
 use Rattle.scalefs_run.specs.Served.{Served, ServedScript, has_run}
 use Rattle.scalefs_run.specs.Shown.{shown}
-use Rattle.scalefs_run.specs.Stands.{StandsStill}
+use Rattle.scalefs_run.specs.RunInvariant.{KeepsInvariant}
 use Rattle.scalefs_run.specs.Safe.{Begins}
 use Rattle.scalefs_run.proofs.Rooted.{some_same, none_some}
 
@@ -35,7 +36,7 @@ abbrev pub opened_of : Option (List ℕ) → List Row
 opened_of (Some content) = rows_of content
 opened_of None = []
 
-opened_told : (told : Option (List ℕ)) → IsTold told (λ content. opened_of told ≡ rows_of content)
+opened_told : (told : Option (List ℕ)) → IfTold told (λ content. opened_of told ≡ rows_of content)
 opened_told (Some was) content e = ap rows_of (some_same e)
 opened_told None content e = absurd (none_some e)
 
@@ -43,11 +44,11 @@ never : false ≡ true → ⊥
 never e = cc
 
 -- no call was made
-pub served_none : (due : Status) (share : ℕ) (phases : List (List Line)) (Source Sink : Type 0) (before after : Option (List ℕ)) (old new : View) (status : Status) → HasStatus due Source Sink (Rose old.faults new.faults) status → HasHistory phases [] status → HasText [] before after status → has_run status [] ≡ false → Served due share phases Source Sink before after old new status []
+pub served_none : (due : Status) (share : ℕ) (phases : List (List Line)) (Source Sink : Type 0) (before after : Option (List ℕ)) (old new : View) (status : Status) → HasStatus due Source Sink (HasRisen old.faults new.faults) status → HasHistory phases [] status → HasText [] before after status → has_run status [] ≡ false → Served due share phases Source Sink before after old new status []
 served_none due share phases Source Sink before after old new status status_is calls text not_run = record {
   status_is = status_is;
-  opened = opened_of old.told;
-  told = opened_told old.told;
+  opened = opened_of old.content;
+  content = opened_told old.content;
   legal = tt;
   calls = calls;
   text = text;
@@ -57,13 +58,13 @@ served_none due share phases Source Sink before after old new status status_is c
 }
 
 -- calls were made
-pub served_run : (share : ℕ) (phases : List (List Line)) (Sink : Type 0) (before after : Option (List ℕ)) (first engine : Engine) (old mid new : View) (status : Status) → Begins share first old mid → StandsStill first engine mid new → HasStatus Done ⊥ Sink (Rose old.faults new.faults) status → HasHistory phases engine.entries.items status → HasText engine.entries.items before after status → Served Done share phases ⊥ Sink before after old new status engine.entries.items
+pub served_run : (share : ℕ) (phases : List (List Line)) (Sink : Type 0) (before after : Option (List ℕ)) (first engine : Engine) (old mid new : View) (status : Status) → Begins share first old mid → KeepsInvariant first engine mid new → HasStatus Done ⊥ Sink (HasRisen old.faults new.faults) status → HasHistory phases engine.entries.items status → HasText engine.entries.items before after status → Served Done share phases ⊥ Sink before after old new status engine.entries.items
 served_run share phases Sink before after first engine old mid new status begins still status_is calls text =
-    let stands = still old.faults old.now (first_tree share begins.opened) begins.stands in
+    let stands = still old.faults old.now (first_tree share begins.opened) begins.invariant in
     record {
       status_is = status_is;
       opened = begins.opened;
-      told = begins.told;
+      content = begins.content;
       legal = stands.legal;
       calls = calls;
       text = text;
@@ -74,7 +75,7 @@ served_run share phases Sink before after first engine old mid new status begins
           ap shown (found.1 content told).rows_are ∙ found.2;
     }
   where
-    rose_if : (failed : Option ℕ) → is_some failed ≡ true → IfSome failed (λ _. Rose old.faults new.faults) → Rose old.faults new.faults
+    rose_if : (failed : Option ℕ) → is_some failed ≡ true → IfSome failed (λ _. HasRisen old.faults new.faults) → HasRisen old.faults new.faults
     rose_if None e h = absurd (never e)
     rose_if (Some f) e h = h
 
@@ -87,7 +88,7 @@ pub served_source : (due : Status) (share : ℕ) (phases : List (List Line)) (So
 served_source due share phases Source Sink before after old new status history served = record {
   status_is = any_source status served.status_is;
   opened = served.opened;
-  told = served.told;
+  content = served.content;
   legal = served.legal;
   calls = served.calls;
   text = served.text;
@@ -96,7 +97,7 @@ served_source due share phases Source Sink before after old new status history s
   read = served.read;
 }
   where
-    any_source : (status : Status) → HasStatus due ⊥ Sink (Rose old.faults new.faults) status → HasStatus due Source Sink (Rose old.faults new.faults) status
+    any_source : (status : Status) → HasStatus due ⊥ Sink (HasRisen old.faults new.faults) status → HasStatus due Source Sink (HasRisen old.faults new.faults) status
     any_source Done h = h
     any_source (BadWords place) h = h
     any_source (BadScript line) h = h
@@ -143,10 +144,11 @@ write_reached Sink (TooManyWorkers asked have) h = absurd h
 write_reached Sink (TooLong measure) h = absurd h
 
 -- why the source could not be read, of the script that it gave
-pub read_fault : (Source : Type 0) (left rest : Option (List ℕ)) (taken : List ℕ) (fault : ReadAllFault) → Takes left taken rest → ReadsAll taken 16777216 rest (Err fault) → (fault ≡ source.ReadFault → Source) → (script : List ℕ) × IsOf left script × HasReadFault script Source (status_of_source fault)
+pub read_fault : (Source : Type 0) (left rest : Option (List ℕ)) (taken : List ℕ) (fault : ReadAllFault) → Consumes left rest taken → ReadsAll left taken 16777216 (Err fault) → (fault ≡ source.ReadFault → Source) → (script : List ℕ) × IsOf left script × HasReadFault script Source (status_of_source fault)
 read_fault Source (Some whole) rest taken source.ReadFault takes reads cause = (whole, refl, cause refl)
-read_fault Source (Some whole) rest taken source.TooLong takes reads cause =
-    let long : length whole ≡ length taken + length takes.0 = ap length takes.1 ∙ length-append taken takes.0 in
+read_fault Source (Some whole) None taken source.TooLong takes reads cause = absurd takes
+read_fault Source (Some whole) (Some behind) taken source.TooLong takes reads cause =
+    let long : length whole ≡ length taken + length behind = ap length takes ∙ length-append taken behind in
     let past = reads.0 in
     (whole, refl, omega arith)
 read_fault Source (Some whole) rest taken source.NoMemory takes reads cause = (whole, refl, tt)

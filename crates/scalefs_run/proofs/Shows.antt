@@ -17,12 +17,12 @@ use Rattle.sfs_tree.specs.Names.{with_kinds}
 use Rattle.sfs_tree.proofs.Joined.{key_cmp_total, name_cmp-IsAntisymmetric}
 use Rattle.sfs_tree.proofs.Names.{get-names_where}
 use Rattle.area_pair.specs.declared.area.Row.{Row}
-use Rattle.area_pair.specs.Rows.{KeepsApart, numbered, with_inode, mentions}
+use Rattle.area_pair.specs.Rows.{KeepsApart, by_mention, with_inode, mentions}
 use Rattle.area_pair.proofs.Sound.{apart_head, apart_tail}
 use Rattle.scalefs_run.specs.First.{first_tree, row_entry, node_entry, root_entry}
 use Rattle.scalefs_run.specs.Flushed.{row_with_kind, rows_of_root}
 use Rattle.scalefs_run.specs.Shown.{shown, name_and_kind}
-use Rattle.scalefs_run.specs.Stands.{root_shown}
+use Rattle.scalefs_run.specs.RunInvariant.{root_shown}
 use Rattle.scalefs_run.proofs.Opened.{row_ties, one_kind}
 use Rattle.scalefs_run.proofs.Rooted.{some_same, none_some}
 
@@ -40,19 +40,19 @@ kinds_given tree [] = refl
 kinds_given tree (e ∷ es) = ap (λ l. (e.0, kind_of tree e.1) ∷ l) (kinds_given tree es)
 
 -- what is brought to the disk shows what the root shows
-pub shown-numbered : (tree : TreeState) → shown (numbered (rows_of_root tree)) ≡ root_shown tree
+pub shown-numbered : (tree : TreeState) → shown (by_mention (rows_of_root tree)) ≡ root_shown tree
 shown-numbered tree = ap (λ l. from_entries {R = name_cmp} l) (numbers_apart (mentions (rows_of_root tree)) (rows_of_root tree) ∙ kinds_given tree (entries (names_of 0 tree.rows)))
 
 -- numbering rows changes nothing of what they show
-pub numbered_shown : (rows : List Row) → shown (numbered rows) ≡ shown rows
+pub numbered_shown : (rows : List Row) → shown (by_mention rows) ≡ shown rows
 numbered_shown rows = ap (λ l. from_entries {R = name_cmp} l) (numbers_apart (mentions rows) rows)
 
 -- the root's rows show what the root shows
 pub shown-root : (tree : TreeState) → shown (rows_of_root tree) ≡ root_shown tree
 shown-root tree = sym (numbered_shown (rows_of_root tree)) ∙ shown-numbered tree
 
--- rows that are the root's, once both are numbered, show what the root shows
-pub shown_there : (tree : TreeState) (rows : List Row) → numbered (rows_of_root tree) ≡ numbered rows → shown rows ≡ root_shown tree
+-- rows that are the root's, once both are by_mention, show what the root shows
+pub shown_there : (tree : TreeState) (rows : List Row) → by_mention (rows_of_root tree) ≡ by_mention rows → shown rows ≡ root_shown tree
 shown_there tree rows there = sym (numbered_shown rows) ∙ ap shown (sym there) ∙ shown-numbered tree
 
 -- the node of a row is found with the row's kind

@@ -1,7 +1,7 @@
 -- A run goes on by one call.
 use Rattle.std.proofs.Common.{Vec, Global, ◌≡◌, ◌↔◌, ℕ, ◌+◌, ◌<◌, ◌≤◌, Bool, true, false, cond, ◌||◌, ◌&&◌, List, [], ◌∷◌, ◌++◌, length, Option, Some, None, inl, inr, is_some, IsSome, IsTrue, IfSome, unwrap_or, refl, sym, ap, subst, ◌∙◌, arith}
 use Rattle.std.proofs.lemmas.List.{length-append}
-use Rattle.sfs_base.specs.Ends.{Rose}
+use Rattle.sfs_base.specs.Ends.{HasRisen}
 use Rattle.sfs_tree.specs.declared.call.Call.{Call}
 use Rattle.sfs_tree.specs.declared.call.Call.TheVariants.{Look, Make, Link, Unlink, Rmdir, Rename, Write, Read, Trunc, Stat, List as Lists, Fsync}
 use Rattle.sfs_tree.specs.declared.history.Entry.{Entry}
@@ -15,16 +15,16 @@ use Rattle.sfs_tree.specs.Verdict.{verdict, tree_after_call}
 use Rattle.sfs_tree.specs.History.{MayCome, IsLegal, IsDue, IsFsyncReply, flushes, tree_after, is_ok_reply}
 use Rattle.sfs_tree.proofs.Histories.{tree_after-push, IsLegal-push}
 use Rattle.sfs_dev.specs.Disk.{View}
-use Rattle.sfs_dev.specs.Run.{GoesOn}
+use Rattle.sfs_dev.specs.Run.{Advances}
 use Rattle.sfs_base.proofs.Causes.{Rose-earlier}
 use Rattle.area_pair.specs.declared.area.Row.{Row}
 use Rattle.area_pair.specs.declared.area.Current.{Current}
-use Rattle.area_pair.specs.Rows.{numbered}
+use Rattle.area_pair.specs.Rows.{by_mention}
 use Rattle.area_pair.specs.Settled.{ReadsAs}
 use Rattle.scalefs_run.specs.Flushed.{HasFlushed, Fails, rows_of_root}
 use Rattle.scalefs_run.specs.Replies.{IsAnswered, has_failed, is_failure, is_failed_flush, is_fsync, root_rows}
 use Rattle.scalefs_run.specs.Shown.{shown, shown_at, is_flush, last_flush}
-use Rattle.scalefs_run.specs.Stands.{Stands, root_shown}
+use Rattle.scalefs_run.specs.RunInvariant.{RunInvariant, root_shown}
 use Rattle.scalefs_run.specs.declared.flush.Store.{Store}
 use Rattle.scalefs_run.proofs.Dated.{AreDated-push, FlushedLast-still, FlushedLast-here}
 use Rattle.scalefs_run.proofs.Pushed.{or_false, AreAnswered-push, has_failed-push, last_flush-push, shown_at-push, shown_at-end}
@@ -83,14 +83,14 @@ no_ack (Some a) ok both is = absurd (let never : false ≡ true = subst IsTrue i
 longer : (history : List Entry) (entry : Entry) → length (history ++ entry ∷ []) ≡ length history + 1
 longer history entry = length-append history (entry ∷ [])
 
-module _ (start from : ℕ) (first : TreeState) (history : List Entry) (tree : TreeState) (store : Store) (disk : View) (so_far : Stands start from first history tree store disk) where
+module _ (start from : ℕ) (first : TreeState) (history : List Entry) (tree : TreeState) (store : Store) (disk : View) (so_far : RunInvariant start from first history tree store disk) where
   legal_called : (core : ℕ) (call : Call) → is_fsync call ≡ false → core < CORES → IsLegal first (history ++ called_entry (length history) tree core call ∷ [])
   legal_called core call none within =
       let cores = so_far.cores in
       IsLegal-push first history _ so_far.legal (subst (λ (t : TreeState). MayCome t (length history) (called_entry (length history) tree core call)) so_far.tree_is (called_may tree (length history) core call none (omega arith)))
 
   -- a call that is no fsync
-  pub stands_called : (core : ℕ) (call : Call) → is_fsync call ≡ false → core < CORES → Stands start from first (history ++ called_entry (length history) tree core call ∷ []) (tree_after_call tree core call) store disk
+  pub stands_called : (core : ℕ) (call : Call) → is_fsync call ≡ false → core < CORES → RunInvariant start from first (history ++ called_entry (length history) tree core call ∷ []) (tree_after_call tree core call) store disk
   stands_called core call none within =
       let entry = called_entry (length history) tree core call in
       let all = history ++ entry ∷ [] in
@@ -116,7 +116,7 @@ module _ (start from : ℕ) (first : TreeState) (history : List Entry) (tree : T
         on_disk = so_far.on_disk ∙ sym shows;
         read = λ nothing. let found = so_far.read nothing in (found.0, found.1, found.2 ∙ sym shows);
         later = so_far.later;
-        dated = AreDated-push from disk.now disk.now history entry so_far.dated tt (omega arith);
+        acks = AreDated-push from disk.now disk.now history entry so_far.acks tt (omega arith);
         last = FlushedLast-still history entry so_far.last flushes_not refl;
       }
 
@@ -158,7 +158,7 @@ module _ (start from : ℕ) (first : TreeState) (history : List Entry) (tree : T
   flushed_history core reply ack = history ++ flushed_entry (length history) core reply ack ∷ []
 
   -- an fsync after which all is as it was, and that is no flush
-  stands_refused : (core : ℕ) (reply : Reply) (ack : Option ℕ) (disk_after : View) → core < CORES → IsAnswered (is_some store.failed) (unwrap_or store.failed 0) (root_rows tree) reply → (IsSome ack ↔ IsTrue (is_ok_reply reply)) → is_ok_reply reply ≡ false → is_failure reply ≡ false → GoesOn disk disk_after → disk_after.faults ≡ disk.faults → ((current : Option Current) (rows : List Row) → ReadsAs disk current rows → ReadsAs disk_after current rows) → Stands start from first (flushed_history core reply ack) tree store disk_after
+  stands_refused : (core : ℕ) (reply : Reply) (ack : Option ℕ) (disk_after : View) → core < CORES → IsAnswered (is_some store.failed) (unwrap_or store.failed 0) (root_rows tree) reply → (IsSome ack ↔ IsTrue (is_ok_reply reply)) → is_ok_reply reply ≡ false → is_failure reply ≡ false → Advances disk disk_after → disk_after.faults ≡ disk.faults → ((current : Option Current) (rows : List Row) → ReadsAs disk current rows → ReadsAs disk_after current rows) → RunInvariant start from first (flushed_history core reply ack) tree store disk_after
   stands_refused core reply ack disk_after within answered acknowledged no_ok no_failure goes faults reads =
       let entry = flushed_entry (length history) core reply ack in
       let none_there : ack ≡ None = no_ack ack (is_ok_reply reply) acknowledged no_ok in
@@ -181,7 +181,7 @@ module _ (start from : ℕ) (first : TreeState) (history : List Entry) (tree : T
         on_disk = so_far.on_disk ∙ sym shows;
         read = λ none. let found = so_far.read none in (found.0, reads store.areas found.0 found.1, found.2 ∙ sym shows);
         later = let first_later = so_far.later in let then_later = goes.never_falls in omega arith;
-        dated = AreDated-push from disk.now disk_after.now history entry so_far.dated (subst (λ (o : Option ℕ). IfSome o (λ a. (disk.now ≤ a) × (a ≤ disk_after.now))) (sym none_there) tt) goes.later;
+        acks = AreDated-push from disk.now disk_after.now history entry so_far.acks (subst (λ (o : Option ℕ). IfSome o (λ a. (disk.now ≤ a) × (a ≤ disk_after.now))) (sym none_there) tt) goes.later;
         last = FlushedLast-still history entry so_far.last no_ok none_there;
       }
     where
@@ -189,12 +189,12 @@ module _ (start from : ℕ) (first : TreeState) (history : List Entry) (tree : T
       kept_on None h = tt
       kept_on (Some f) h = h ∙ sym faults
 
-      risen_on : (failed : Option ℕ) → IfSome failed (λ _. Rose start disk.faults) → IfSome failed (λ _. Rose start disk_after.faults)
+      risen_on : (failed : Option ℕ) → IfSome failed (λ _. HasRisen start disk.faults) → IfSome failed (λ _. HasRisen start disk_after.faults)
       risen_on None h = tt
-      risen_on (Some f) h = subst (Rose start) (sym faults) h
+      risen_on (Some f) h = subst (HasRisen start) (sym faults) h
 
   -- an fsync after which the disk shows what the root shows
-  stands_brought : (core : ℕ) (ack : Option ℕ) (after : Store) (disk_after : View) → core < CORES → IsAnswered (is_some store.failed) (unwrap_or store.failed 0) (root_rows tree) reply.Ok → (IsSome ack ↔ IsTrue true) → after.failed ≡ None → length after.on_disk.items ≤ 15 → shown after.on_disk.items ≡ root_shown tree → ((rows : List Row) × ReadsAs disk_after after.areas rows × (shown rows ≡ root_shown tree)) → GoesOn disk disk_after → IfSome ack (λ a. (disk.now ≤ a) × (a ≤ disk_after.now)) → Stands start from first (flushed_history core reply.Ok ack) tree after disk_after
+  stands_brought : (core : ℕ) (ack : Option ℕ) (after : Store) (disk_after : View) → core < CORES → IsAnswered (is_some store.failed) (unwrap_or store.failed 0) (root_rows tree) reply.Ok → (IsSome ack ↔ IsTrue true) → after.failed ≡ None → length after.on_disk.items ≤ 15 → shown after.on_disk.items ≡ root_shown tree → ((rows : List Row) × ReadsAs disk_after after.areas rows × (shown rows ≡ root_shown tree)) → Advances disk disk_after → IfSome ack (λ a. (disk.now ≤ a) × (a ≤ disk_after.now)) → RunInvariant start from first (flushed_history core reply.Ok ack) tree after disk_after
   stands_brought core ack after disk_after within answered acknowledged working few on_disk found goes between =
       let entry = flushed_entry (length history) core reply.Ok ack in
       let all = flushed_history core reply.Ok ack in
@@ -211,13 +211,13 @@ module _ (start from : ℕ) (first : TreeState) (history : List Entry) (tree : T
         answered = λ kept is. AreAnswered-push false kept first history entry (so_far.answered kept (not_failed store.failed kept was_working)) (λ fsync. answered_there kept reply.Ok (not_failed store.failed kept was_working) answered);
         halted = has_failed-push history entry ∙ or_false (has_failed history) ∙ so_far.halted ∙ was_working ∙ sym (ap is_some working);
         kept = subst (λ (o : Option ℕ). IfSome o (λ f. f ≡ disk_after.faults)) (sym working) tt;
-        risen = subst (λ (o : Option ℕ). IfSome o (λ _. Rose start disk_after.faults)) (sym working) tt;
+        risen = subst (λ (o : Option ℕ). IfSome o (λ _. HasRisen start disk_after.faults)) (sym working) tt;
         few = few;
         before = subst (λ n. n ≤ length all) (sym last) (omega arith);
         on_disk = on_disk ∙ sym shows;
         read = λ none. (found.0, found.1, found.2 ∙ sym shows);
         later = let first_later = so_far.later in let then_later = goes.never_falls in omega arith;
-        dated = AreDated-push from disk.now disk_after.now history entry so_far.dated between goes.later;
+        acks = AreDated-push from disk.now disk_after.now history entry so_far.acks between goes.later;
         last = FlushedLast-here history entry so_far.last refl so_far.before;
       }
     where
@@ -226,7 +226,7 @@ module _ (start from : ℕ) (first : TreeState) (history : List Entry) (tree : T
       not_failed (Some f) kept e = absurd (let never : true ≡ false = e in cc)
 
   -- an fsync whose commit failed
-  stands_failed : (core : ℕ) (ack : Option ℕ) (after : Store) (disk_after : View) → core < CORES → IsAnswered (is_some store.failed) (unwrap_or store.failed 0) (root_rows tree) reply.DiskFailed → (IsSome ack ↔ IsTrue false) → store.failed ≡ None → Fails (rows_of_root tree) store after disk disk_after → GoesOn disk disk_after → Stands start from first (flushed_history core reply.DiskFailed ack) tree after disk_after
+  stands_failed : (core : ℕ) (ack : Option ℕ) (after : Store) (disk_after : View) → core < CORES → IsAnswered (is_some store.failed) (unwrap_or store.failed 0) (root_rows tree) reply.DiskFailed → (IsSome ack ↔ IsTrue false) → store.failed ≡ None → Fails (rows_of_root tree) store after disk disk_after → Advances disk disk_after → RunInvariant start from first (flushed_history core reply.DiskFailed ack) tree after disk_after
   stands_failed core ack after disk_after within answered acknowledged was_working fails goes =
       let entry = flushed_entry (length history) core reply.DiskFailed ack in
       let none_there : ack ≡ None = no_ack ack false acknowledged refl in
@@ -247,13 +247,13 @@ module _ (start from : ℕ) (first : TreeState) (history : List Entry) (tree : T
         answered = λ kept is. AreAnswered-push false kept first history entry (so_far.answered kept (none kept)) (λ fsync. answered_there kept reply.DiskFailed (none kept) answered);
         halted = has_failed-push history entry ∙ or_true (has_failed history) ∙ sym (ap is_some fails.kept);
         kept = subst (λ (o : Option ℕ). IfSome o (λ f. f ≡ disk_after.faults)) (sym fails.kept) refl;
-        risen = subst (λ (o : Option ℕ). IfSome o (λ _. Rose start disk_after.faults)) (sym fails.kept) (Rose-earlier start disk.faults disk_after.faults later risen);
+        risen = subst (λ (o : Option ℕ). IfSome o (λ _. HasRisen start disk_after.faults)) (sym fails.kept) (Rose-earlier start disk.faults disk_after.faults later risen);
         few = subst (λ (v : Vec Row Global). length v.items ≤ 15) (sym fails.on_disk) so_far.few;
         before = subst (λ n. n ≤ length all) (sym last) (omega arith);
         on_disk = ap (λ (v : Vec Row Global). shown v.items) fails.on_disk ∙ so_far.on_disk ∙ sym shows;
         read = λ nothing. absurd (never_both (sym fails.kept ∙ nothing));
         later = let first_later = so_far.later in let then_later = goes.never_falls in omega arith;
-        dated = AreDated-push from disk.now disk_after.now history entry so_far.dated (subst (λ (o : Option ℕ). IfSome o (λ a. (disk.now ≤ a) × (a ≤ disk_after.now))) (sym none_there) tt) goes.later;
+        acks = AreDated-push from disk.now disk_after.now history entry so_far.acks (subst (λ (o : Option ℕ). IfSome o (λ a. (disk.now ≤ a) × (a ≤ disk_after.now))) (sym none_there) tt) goes.later;
         last = FlushedLast-still history entry so_far.last refl none_there;
       }
     where
@@ -264,33 +264,33 @@ module _ (start from : ℕ) (first : TreeState) (history : List Entry) (tree : T
       never_both : {n : ℕ} → Some n ≡ None → ⊥
       never_both e = cc
 
-  pub stands_flushed : (Same : Type 0) (core : ℕ) (reply : Reply) (ack : Option ℕ) (after : Store) (disk_after : View) → core < CORES → IsAnswered (is_some store.failed) (unwrap_or store.failed 0) (root_rows tree) reply → (IsSome ack ↔ IsTrue (is_ok_reply reply)) → HasFlushed Same tree ack store after disk disk_after reply → GoesOn disk disk_after → (Same → disk_after.faults ≡ disk.faults) → (Same → (current : Option Current) (rows : List Row) → ReadsAs disk current rows → ReadsAs disk_after current rows) → Stands start from first (flushed_history core reply ack) tree after disk_after
+  pub stands_flushed : (Same : Type 0) (core : ℕ) (reply : Reply) (ack : Option ℕ) (after : Store) (disk_after : View) → core < CORES → IsAnswered (is_some store.failed) (unwrap_or store.failed 0) (root_rows tree) reply → (IsSome ack ↔ IsTrue (is_ok_reply reply)) → HasFlushed Same tree ack store after disk disk_after reply → Advances disk disk_after → (Same → disk_after.faults ≡ disk.faults) → (Same → (current : Option Current) (rows : List Row) → ReadsAs disk current rows → ReadsAs disk_after current rows) → RunInvariant start from first (flushed_history core reply ack) tree after disk_after
   stands_flushed Same core reply.Ok ack after disk_after within answered acknowledged flushed goes faults reads =
-      elim flushed.1 as (λ _. Stands start from first (flushed_history core reply.Ok ack) tree after disk_after) [
+      elim flushed.1 as (λ _. RunInvariant start from first (flushed_history core reply.Ok ack) tree after disk_after) [
         | inl there ↦
             let found = so_far.read flushed.0 in
             stands_brought core ack after disk_after within answered acknowledged (ap (λ (s : Store). s.failed) there.store ∙ flushed.0)
             (subst (λ (s : Store). length s.on_disk.items ≤ 15) (sym there.store) so_far.few)
             (ap (λ (s : Store). shown s.on_disk.items) there.store ∙ shown_there tree store.on_disk.items there.there)
             (found.0, subst (λ (s : Store). ReadsAs disk_after s.areas found.0) (sym there.store) (reads there.still store.areas found.0 found.1), found.2 ∙ sym so_far.on_disk ∙ shown_there tree store.on_disk.items there.there) goes
-            (subst (λ (o : Option ℕ). IfSome o (λ a. (disk.now ≤ a) × (a ≤ disk_after.now))) (sym there.dated) (omega arith, goes.later))
+            (subst (λ (o : Option ℕ). IfSome o (λ a. (disk.now ≤ a) × (a ≤ disk_after.now))) (sym there.acks) (omega arith, goes.later))
         | inr brought ↦
             let commits = brought.1 in
             let found = so_far.read flushed.0 in
             stands_brought core ack after disk_after within answered acknowledged commits.working
             (let long = length-rows_of_root tree in let rows_few = answered.1 in let are = ap length commits.on_disk in omega arith)
             (ap shown commits.on_disk ∙ shown-root tree)
-            (numbered (rows_of_root tree), commits.read found.0 found.1, shown-numbered tree) goes
-            (subst (λ (o : Option ℕ). IfSome o (λ a. (disk.now ≤ a) × (a ≤ disk_after.now))) (sym commits.dated) commits.meanwhile)
+            (by_mention (rows_of_root tree), commits.read found.0 found.1, shown-numbered tree) goes
+            (subst (λ (o : Option ℕ). IfSome o (λ a. (disk.now ≤ a) × (a ≤ disk_after.now))) (sym commits.acks) commits.at_each_moment)
       ]
   stands_flushed Same core reply.DiskFailed ack after disk_after within answered acknowledged flushed goes faults reads = stands_failed core ack after disk_after within answered acknowledged flushed.0 flushed.1 goes
   stands_flushed Same core (reply.NoSpace kind need free) ack after disk_after within answered acknowledged flushed goes faults reads =
-      subst (λ (s : Store). Stands start from first (flushed_history core (reply.NoSpace kind need free) ack) tree s disk_after) (sym flushed.1)
+      subst (λ (s : Store). RunInvariant start from first (flushed_history core (reply.NoSpace kind need free) ack) tree s disk_after) (sym flushed.1)
       (stands_refused core (reply.NoSpace kind need free) ack disk_after within answered acknowledged refl refl goes (faults flushed.0) (reads flushed.0))
   stands_flushed Same core (reply.Stopped kept) ack after disk_after within answered acknowledged flushed goes faults reads =
-      subst (λ (s : Store). Stands start from first (flushed_history core (reply.Stopped kept) ack) tree s disk_after) (sym flushed.1)
+      subst (λ (s : Store). RunInvariant start from first (flushed_history core (reply.Stopped kept) ack) tree s disk_after) (sym flushed.1)
       (stands_refused core (reply.Stopped kept) ack disk_after within answered acknowledged refl refl goes (faults flushed.0) (reads flushed.0))
   stands_flushed Same core reply.NoMemory ack after disk_after within answered acknowledged flushed goes faults reads =
-      subst (λ (s : Store). Stands start from first (flushed_history core reply.NoMemory ack) tree s disk_after) (sym flushed.1)
+      subst (λ (s : Store). RunInvariant start from first (flushed_history core reply.NoMemory ack) tree s disk_after) (sym flushed.1)
       (stands_refused core reply.NoMemory ack disk_after within answered acknowledged refl refl goes (faults flushed.0) (reads flushed.0))
   stands_flushed Same core _ ack after disk_after within answered acknowledged flushed goes faults reads = absurd answered

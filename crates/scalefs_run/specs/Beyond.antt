@@ -14,5 +14,5 @@ beyond cores [] = None
 beyond cores (phase ∷ phases) = option_or (beyond_in cores phase) (beyond cores phases)
 
 -- each line's worker has a core
-abbrev pub IsWithin : ℕ → List Line → Type 0
-IsWithin cores phase = AllByRecursion (λ line. line.worker < cores) phase
+abbrev pub HaveCores : ℕ → List Line → Type 0
+HaveCores cores phase = AllByRecursion (λ line. line.worker < cores) phase

@@ -1,14 +1,14 @@
 -- What an fsync of the root does to the disk and to what is known of it.
 use Rattle.std.specs.Prelude.{◌≡◌, ◌≢◌, ◌⊎◌, ℕ, ◌+◌, ◌-◌, ◌^◌, ◌≤◌, min, List, map, Option, Some, None}
 use Rattle.std.specs.FinMap.{entries}
-use Rattle.sfs_base.specs.Ends.{Rose}
+use Rattle.sfs_base.specs.Ends.{HasRisen}
 use Rattle.sfs_tree.specs.Tree.{TreeState, names_of, kind_of}
 use Rattle.sfs_tree.specs.declared.reply.Reply.{Reply}
 use Rattle.sfs_tree.specs.declared.reply.Reply.TheVariants as reply
 use Rattle.sfs_dev.specs.Disk.{View}
 use Rattle.sfs_dev.specs.Run.{CountsOn, EachMoment}
 use Rattle.area_pair.specs.declared.area.Row.{Row}
-use Rattle.area_pair.specs.Rows.{numbered, rows_of}
+use Rattle.area_pair.specs.Rows.{by_mention, rows_of}
 use Rattle.area_pair.specs.Settled.{ReadsAs, IsSettled, HasRowsBy}
 use Rattle.scalefs_run.specs.declared.flush.Store.{Store}
 
@@ -29,18 +29,18 @@ after_four disk = min (disk.now + 4) (2 ^ 64 - 1)
 pub record Commits (rows : List Row) (ack : Option ℕ) (old new : Store) (before after : View) : Type 0 where
   pub on_disk : new.on_disk.items ≡ rows
   pub working : new.failed ≡ None
-  pub dated : ack ≡ Some (after_four before)
-  pub meanwhile : (before.now ≤ after_four before) × (after_four before ≤ after.now)
-  pub read : (found : List Row) → ReadsAs before old.areas found → ReadsAs after new.areas (numbered rows)
-  pub settled : (found : List Row) → IsSettled before old.areas found → IsSettled after new.areas (numbered rows)
-  pub moments : (found : List Row) → IsSettled before old.areas found → CountsOn after → EachMoment before after (λ k image. HasRowsBy k (after_four before) found (numbered rows) image)
+  pub acks : ack ≡ Some (after_four before)
+  pub at_each_moment : (before.now ≤ after_four before) × (after_four before ≤ after.now)
+  pub read : (found : List Row) → ReadsAs before old.areas found → ReadsAs after new.areas (by_mention rows)
+  pub settled : (found : List Row) → IsSettled before old.areas found → IsSettled after new.areas (by_mention rows)
+  pub moments : (found : List Row) → IsSettled before old.areas found → CountsOn after → EachMoment before after (λ k image. HasRowsBy k (after_four before) found (by_mention rows) image)
 
 -- The disk failed, and its count of faults is kept; an image has the old rows or these.
 pub record Fails (rows : List Row) (old new : Store) (before after : View) : Type 0 where
   pub kept : new.failed ≡ Some after.faults
-  pub risen : Rose before.faults after.faults
+  pub risen : HasRisen before.faults after.faults
   pub on_disk : new.on_disk ≡ old.on_disk
-  pub moments : (found : List Row) → IsSettled before old.areas found → CountsOn after → EachMoment before after (λ _ image. (rows_of image ≡ found) ⊎ (rows_of image ≡ numbered rows))
+  pub moments : (found : List Row) → IsSettled before old.areas found → CountsOn after → EachMoment before after (λ _ image. (rows_of image ≡ found) ⊎ (rows_of image ≡ by_mention rows))
 
 -- what a commit did, by its reply and its moment of acknowledgement
 abbrev pub HasCommitted : List Row → Option ℕ → Store → Store → View → View → Reply → Type 0
@@ -52,14 +52,14 @@ HasCommitted rows ack old new before after _ = ⊥
 pub record IsThere (Same : Type 0) (rows : List Row) (ack : Option ℕ) (old new : Store) (before : View) : Type 0 where
   pub still : Same
   pub store : new ≡ old
-  pub there : numbered rows ≡ numbered old.on_disk.items
-  pub dated : ack ≡ Some before.now
+  pub there : by_mention rows ≡ by_mention old.on_disk.items
+  pub acks : ack ≡ Some before.now
 
 -- What bringing rows to the disk did, by its reply: where it is Ok, they were there already, or they were not and are brought to it.
 -- `Same` says that the disk is as it was, without one device call.
 abbrev pub HasBrought : Type 0 → List Row → Option ℕ → Store → Store → View → View → Reply → Type 0
 HasBrought Same rows ack old new before after reply.Ok =
-    IsThere Same rows ack old new before ⊎ ((numbered rows ≢ numbered old.on_disk.items) × Commits rows ack old new before after)
+    IsThere Same rows ack old new before ⊎ ((by_mention rows ≢ by_mention old.on_disk.items) × Commits rows ack old new before after)
 HasBrought Same rows ack old new before after reply.DiskFailed = Fails rows old new before after
 HasBrought Same rows ack old new before after _ = ⊥
 

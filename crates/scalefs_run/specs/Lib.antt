@@ -6,8 +6,8 @@ pub mod Flushed
 pub mod Made
 pub mod Outcome
 pub mod Replies
+pub mod RunInvariant
 pub mod Safe
 pub mod Served
 pub mod Shown
-pub mod Stands
 pub mod Words

@@ -3,8 +3,8 @@ use Rattle.std.specs.Prelude.{◌≡◌, ℕ, ◌<◌, ◌≤◌, List, [], ◌+
 use Rattle.std.specs.List.{AllByRecursion}
 use Rattle.sfs_tree.specs.declared.history.Entry.{Entry}
 use Rattle.script.specs.declared.commands.Line.{Line}
-use Rattle.script.specs.Walks.{Standing, standing_after, next_call, commands_of}
-use Rattle.script.specs.Follows.{Makes, Ends, entries_of, replies_of}
+use Rattle.script.specs.Walks.{Position, position_after, next_call, commands_of}
+use Rattle.script.specs.Follows.{Makes, MakesAll, core_entries, replies_of}
 
 -- A history grows by entries of which this holds.
 pub record Grown (old new : List Entry) (Holds : List Entry → Type 0) : Type 0 where
@@ -23,11 +23,11 @@ pub record ByWorkerWhole (core : ℕ) (phase : List Line) (made : List Entry) : 
   pub ended : next_call (commands_of core phase) (replies_of made) ≡ None
 
 -- They are those of a worker that stands here.
-pub record AtWork (core : ℕ) (phase : List Line) (worker : Standing) (made : List Entry) : Type 0 where
+pub record AtWork (core : ℕ) (phase : List Line) (worker : Position) (made : List Entry) : Type 0 where
   pub part : ByWorker core phase made
-  pub at : worker ≡ standing_after (commands_of core phase) (replies_of made)
+  pub at : worker ≡ position_after (commands_of core phase) (replies_of made)
 
 -- These are all calls of the workers below one, and none of the others.
 pub record UpTo (core : ℕ) (phase : List Line) (made : List Entry) : Type 0 where
-  pub ended : (other : ℕ) → other < core → Ends (commands_of other phase) (entries_of other made)
-  pub rest : (other : ℕ) → core ≤ other → entries_of other made ≡ []
+  pub ended : (other : ℕ) → other < core → MakesAll (commands_of other phase) (core_entries other made)
+  pub rest : (other : ℕ) → core ≤ other → core_entries other made ≡ []

@@ -1,6 +1,6 @@
 -- How a run ends: its status with its cause, the history, and the text.
 use Rattle.std.specs.Prelude.{◌≡◌, ℕ, ◌≤◌, ◌<◌, Bool, true, false, List, [], ◌++◌, length, take, codes, decimal, nat_lt, Option, Some, None, Result, Ok, Err, if◌then◌else◌}
-use Rattle.sfs_base.specs.Ends.{with_added}
+use Rattle.std.specs.Io.KnownBytes.{Appends}
 use Rattle.sfs_base.specs.declared.transfer.ReadAllFault.{ReadAllFault}
 use Rattle.sfs_base.specs.declared.transfer.ReadAllFault.TheVariants as source
 use Rattle.script.specs.declared.fault.ScriptFault.{ScriptFault}
@@ -117,8 +117,8 @@ HasHistory phases history _ = history ≡ []
 
 -- What is written with a status: the whole text of the history, the front of it, or nothing.
 abbrev pub HasText : List Entry → Option (List ℕ) → Option (List ℕ) → Status → Type 0
-HasText history before after Done = after ≡ with_added (history_text history) before
-HasText history before after WriteFault = (n : ℕ) × (n ≤ length (history_text history)) × (after ≡ with_added (take n (history_text history)) before)
+HasText history before after Done = Appends before after (history_text history)
+HasText history before after WriteFault = (n : ℕ) × (n ≤ length (history_text history)) × Appends before after (take n (history_text history))
 HasText history before after _ = after ≡ before
 
 -- whether a run with this status came to the disk

@@ -1,11 +1,11 @@
 -- What a run has done when it ends.
 use Rattle.std.specs.Prelude.{◌≡◌, ℕ, Bool, true, false, List, [], ◌∷◌, Option}
-use Rattle.sfs_base.specs.Ends.{Rose}
+use Rattle.sfs_base.specs.Ends.{HasRisen}
 use Rattle.sfs_tree.specs.declared.history.Entry.{Entry}
 use Rattle.sfs_tree.specs.History.{IsLegal}
 use Rattle.sfs_dev.specs.Disk.{View}
 use Rattle.area_pair.specs.declared.area.Row.{Row}
-use Rattle.area_pair.specs.Put.{IsTold}
+use Rattle.sfs_dev.specs.Steps.{IfTold}
 use Rattle.area_pair.specs.Rows.{rows_of}
 use Rattle.script.specs.declared.commands.Line.{Line}
 use Rattle.script.specs.Phases.{phases_of}
@@ -31,10 +31,10 @@ has_run _ history = false
 -- written to the sink, old and new are the disk.
 pub record Served (due : Status) (share : ℕ) (phases : List (List Line)) (Source Sink : Type 0) (before after : Option (List ℕ)) (old new : View) (status : Status) (history : List Entry) : Type 0 where
   -- the status has its cause
-  pub status_is : HasStatus due Source Sink (Rose old.faults new.faults) status
+  pub status_is : HasStatus due Source Sink (HasRisen old.faults new.faults) status
   -- the rows that were found on the disk, which are those of a read where the disk tells what it gives
   pub opened : List Row
-  pub told : IsTold old.told (λ content. opened ≡ rows_of content)
+  pub content : IfTold old.content (λ content. opened ≡ rows_of content)
   -- the history is a legal run of a one-thread tree that begins with these rows
   pub legal : IsLegal (first_tree share opened) history
   -- it holds each worker's calls, each once, in their order, phase by phase
@@ -43,9 +43,9 @@ pub record Served (due : Status) (share : ℕ) (phases : List (List Line)) (Sour
   pub text : HasText history before after status
   -- each fsync is answered as it is for its cause, and one that the disk failed, because the disk did
   pub answers : AreAnswered false new.faults (first_tree share opened) history
-  pub failed : has_failed history ≡ true → Rose old.faults new.faults
+  pub failed : has_failed history ≡ true → HasRisen old.faults new.faults
   -- where no fsync failed, a read gives the root as it was at the stamp of the last fsync answered Ok, or at the start
-  pub read : has_run status history ≡ true → has_failed history ≡ false → IsTold new.told (λ content. shown (rows_of content) ≡ shown_at (first_tree share opened) history (last_flush history))
+  pub read : has_run status history ≡ true → has_failed history ≡ false → IfTold new.content (λ content. shown (rows_of content) ≡ shown_at (first_tree share opened) history (last_flush history))
 
 -- the same of the script that the source gave
 abbrev pub ServedScript : List (List ℕ) → Option (List ℕ) → Type 0 → Type 0 → Option (List ℕ) → Option (List ℕ) → View → View → Status → List Entry → Type 0

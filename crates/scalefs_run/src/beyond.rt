@@ -1,13 +1,14 @@
 ghost use Rattle.std.specs.Prelude.{◌≡◌, None, Some};
 ghost use Rattle.std.specs.List.{All};
 ghost use Rattle.scalefs_run.specs.Beyond.{beyond, beyond_in};
+ghost use Rattle.scalefs_run.specs.Words.{CORES as CORE_COUNT};
 
 use crate::first::CORES;
 use script::Phase;
 
 /// The worker of the first line of a script that has no core.
 pub fn first_beyond(phases: &[Phase]) -> Option<u16>
-    ensures { result ≡ beyond 2 phases.now }
+    ensures { result ≡ beyond CORE_COUNT phases.now }
 {
     for phase in phases {
         if let Some(worker) = beyond_in(phase) {

@@ -3,19 +3,21 @@
 ghost use Rattle.std.specs.Prelude.{◌≡◌, ◌≤◌, ◌<◌, [], true, false, length, IfOk, IfErr, OnOk, OnErr};
 ghost use Rattle.std.specs.List.{All};
 ghost use Rattle.sfs_dev.specs.Disk.{OnlyTold, images};
-ghost use Rattle.sfs_dev.specs.Run.{GoesOn, CountsOn, EachMoment};
+ghost use Rattle.sfs_dev.specs.Run.{Advances, CountsOn, EachMoment};
 ghost use Rattle.area_pair.specs.Fault.{IsFault};
-ghost use Rattle.area_pair.specs.Put.{IsTold};
+ghost use Rattle.sfs_dev.specs.Steps.{IfTold};
 ghost use Rattle.area_pair.specs.Rows.{rows_of};
-ghost use Rattle.script.specs.Follows.{Follows, FollowsSoFar, IsWhole, IsPart};
-ghost use Rattle.scalefs_run.specs.Beyond.{IsWithin};
+ghost use Rattle.script.specs.Follows.{Follows, FollowsSoFar, IsWholePhase, IsPartOfPhase};
+ghost use Rattle.scalefs_run.specs.Beyond.{HaveCores};
 ghost use Rattle.script.specs.Ready.{MayCall, LinesMayRun};
 ghost use Rattle.sfs_tree.specs.Sound.{IsSound};
-ghost use Rattle.scalefs_run.specs.Calls.{Called, PassedOn, FlushedRoot};
-ghost use Rattle.scalefs_run.specs.Replies.{is_fsync};
+ghost use Rattle.sfs_tree.specs.Step.{IsReadable};
+ghost use Rattle.scalefs_run.specs.Calls.{Called, Stepped, FlushedRoot};
+ghost use Rattle.scalefs_run.specs.Replies.{AREA_ROWS, is_fsync};
+ghost use Rattle.scalefs_run.specs.Words.{CORES as CORE_COUNT, MOST_SHARE};
 ghost use Rattle.scalefs_run.specs.Made.{Grown, ByWorker, ByWorkerWhole};
-ghost use Rattle.scalefs_run.specs.Stands.{StandsSomehow, StandsStill};
-ghost use Rattle.scalefs_run.specs.Safe.{Begins, SafeStill};
+ghost use Rattle.scalefs_run.specs.RunInvariant.{HasInvariant, KeepsInvariant};
+ghost use Rattle.scalefs_run.specs.Safe.{Begins, KeepsCrashInvariant};
 
 use crate::first::{CORES, tree_of_rows};
 use crate::flush::{Flushed, Store, flush, rows_of_root};
@@ -23,7 +25,7 @@ use area_pair::{Areas, OpenFault};
 use script::{Phase, Worker};
 use sfs_base::{CoreId, NoMemory, Stamp};
 use sfs_dev::Disk;
-use sfs_tree::{Call, Entry, Reply, Tree};
+use sfs_tree::{Call, Entry, Tree};
 use std::alloc::Global;
 
 /// What a run has in hand.
@@ -39,14 +41,14 @@ pub struct Engine {
 /// yet.
 pub fn mount<D: Disk>(alloc: Global, share: u32, disk: &mut D) -> Result<Engine, OpenFault>
     requires large { 4 ≤ (D.view disk.old).size }
-    requires share { share ≤ 32768 }
+    requires share { share ≤ MOST_SHARE }
     ensures begins { IfOk result (λ engine. Begins share engine (D.view disk.old) (D.view disk.new)) }
 
     // Where nothing is pending at entry, a crash at any moment of the call leaves the same rows.
-    ensures moments { OnlyTold (D.view disk.old).told (images (D.view disk.old)) → CountsOn (D.view disk.new)
-        → IsTold (D.view disk.old).told (λ content. EachMoment (D.view disk.old) (D.view disk.new) (λ _ image. rows_of image ≡ rows_of content)) }
+    ensures moments { OnlyTold (D.view disk.old).content (images (D.view disk.old)) → CountsOn (D.view disk.new)
+        → IfTold (D.view disk.old).content (λ content. EachMoment (D.view disk.old) (D.view disk.new) (λ _ image. rows_of image ≡ rows_of content)) }
 
-    ensures goes { GoesOn (D.view disk.old) (D.view disk.new) }
+    ensures advances { Advances (D.view disk.old) (D.view disk.new) }
     ensures cause { IfErr result (λ fault. IsFault fault (D.view disk.old).faults (D.view disk.new).faults) }
 {
     let (areas, rows) = Areas::open(alloc, disk)?;
@@ -67,15 +69,15 @@ pub fn mount<D: Disk>(alloc: Global, share: u32, disk: &mut D) -> Result<Engine,
 /// Runs the phases in their order. Want of memory before a call's stamp ends the run.
 pub fn serve<D: Disk>(engine: &mut Engine, disk: &mut D, phases: &[Phase]) -> Result<(), NoMemory>
     requires large { 4 ≤ (D.view disk.old).size }
-    requires stands { StandsSomehow engine.old (D.view disk.old) }
+    requires invariant { HasInvariant engine.old (D.view disk.old) }
     requires none { engine.old.entries.items ≡ [] }
-    requires within { All (IsWithin 2) phases.now }
+    requires within { All (HaveCores CORE_COUNT) phases.now }
     requires ready { All LinesMayRun phases.now }
-    ensures stands { StandsStill engine.old engine.new (D.view disk.old) (D.view disk.new) }
-    ensures safe { SafeStill engine.old engine.new (D.view disk.old) (D.view disk.new) }
+    ensures invariant { KeepsInvariant engine.old engine.new (D.view disk.old) (D.view disk.new) }
+    ensures crash_invariant { KeepsCrashInvariant engine.old engine.new (D.view disk.old) (D.view disk.new) }
     ensures ok { OnOk result (Follows phases.now engine.new.entries.items) }
     ensures err { OnErr result (FollowsSoFar phases.now engine.new.entries.items) }
-    ensures goes { GoesOn (D.view disk.old) (D.view disk.new) }
+    ensures advances { Advances (D.view disk.old) (D.view disk.new) }
 {
     for phase in phases {
         serve_phase(engine, disk, phase)?;
@@ -86,14 +88,14 @@ pub fn serve<D: Disk>(engine: &mut Engine, disk: &mut D, phases: &[Phase]) -> Re
 // Runs a phase, one worker after another.
 fn serve_phase<D: Disk>(engine: &mut Engine, disk: &mut D, phase: &Phase) -> Result<(), NoMemory>
     requires large { 4 ≤ (D.view disk.old).size }
-    requires stands { StandsSomehow engine.old (D.view disk.old) }
-    requires within { IsWithin 2 phase.now }
+    requires invariant { HasInvariant engine.old (D.view disk.old) }
+    requires within { HaveCores CORE_COUNT phase.now }
     requires ready { LinesMayRun phase.now }
-    ensures stands { StandsStill engine.old engine.new (D.view disk.old) (D.view disk.new) }
-    ensures safe { SafeStill engine.old engine.new (D.view disk.old) (D.view disk.new) }
-    ensures ok { OnOk result (Grown engine.old.entries.items engine.new.entries.items (IsWhole phase.now)) }
-    ensures err { OnErr result (Grown engine.old.entries.items engine.new.entries.items (IsPart phase.now)) }
-    ensures goes { GoesOn (D.view disk.old) (D.view disk.new) }
+    ensures invariant { KeepsInvariant engine.old engine.new (D.view disk.old) (D.view disk.new) }
+    ensures crash_invariant { KeepsCrashInvariant engine.old engine.new (D.view disk.old) (D.view disk.new) }
+    ensures ok { OnOk result (Grown engine.old.entries.items engine.new.entries.items (IsWholePhase phase.now)) }
+    ensures err { OnErr result (Grown engine.old.entries.items engine.new.entries.items (IsPartOfPhase phase.now)) }
+    ensures advances { Advances (D.view disk.old) (D.view disk.new) }
 {
     for core in 0..CORES {
         serve_worker(engine, disk, phase, core)?;
@@ -109,14 +111,14 @@ fn serve_worker<D: Disk>(
     core: u8,
 ) -> Result<(), NoMemory>
     requires large { 4 ≤ (D.view disk.old).size }
-    requires stands { StandsSomehow engine.old (D.view disk.old) }
-    requires core { core < 2 }
+    requires invariant { HasInvariant engine.old (D.view disk.old) }
+    requires core { core < CORE_COUNT }
     requires ready { LinesMayRun phase.now }
-    ensures stands { StandsStill engine.old engine.new (D.view disk.old) (D.view disk.new) }
-    ensures safe { SafeStill engine.old engine.new (D.view disk.old) (D.view disk.new) }
+    ensures invariant { KeepsInvariant engine.old engine.new (D.view disk.old) (D.view disk.new) }
+    ensures crash_invariant { KeepsCrashInvariant engine.old engine.new (D.view disk.old) (D.view disk.new) }
     ensures ok { OnOk result (Grown engine.old.entries.items engine.new.entries.items (ByWorkerWhole core phase.now)) }
     ensures err { OnErr result (Grown engine.old.entries.items engine.new.entries.items (ByWorker core phase.now)) }
-    ensures goes { GoesOn (D.view disk.old) (D.view disk.new) }
+    ensures advances { Advances (D.view disk.old) (D.view disk.new) }
 {
     let mut worker = Worker::new(u16::from(core), phase);
     while let Some(call) = worker.next_call()? {
@@ -127,18 +129,34 @@ fn serve_worker<D: Disk>(
     Ok(())
 }
 
-// The answer to a call: that of the disk to an fsync, and else that of the tree.
-fn answer<D: Disk>(engine: &mut Engine, disk: &mut D, call: &Call, reply: Reply) -> Flushed
+// The answer to a call: that of the disk to an fsync, and that of the tree to any other.
+fn answer<D: Disk>(
+    engine: &mut Engine,
+    disk: &mut D,
+    core: CoreId,
+    call: &Call,
+) -> Result<Flushed, NoMemory>
     requires large { 4 ≤ (D.view disk.old).size }
-    requires few { length engine.old.store.on_disk.items ≤ 15 }
+    requires few { length engine.old.store.on_disk.items ≤ AREA_ROWS }
     requires sound { IsSound engine.old.tree }
-    ensures other { is_fsync call.now ≡ false → PassedOn (disk.new ≡ disk.old) reply engine.old engine.new result }
-    ensures fsync { is_fsync call.now ≡ true → FlushedRoot (disk.new ≡ disk.old) engine.old engine.new (D.view disk.old) (D.view disk.new) result }
-    ensures goes { GoesOn (D.view disk.old) (D.view disk.new) }
+    requires core { core.0 < length engine.old.tree.made }
+    requires readable { IsReadable call.now }
+    ensures other { is_fsync call.now ≡ false → IfOk result (λ flushed. Stepped (disk.new ≡ disk.old) core.0 call.now engine.old engine.new flushed) }
+    ensures fsync { is_fsync call.now ≡ true → IfOk result (λ flushed. FlushedRoot (disk.new ≡ disk.old) engine.old engine.new (D.view disk.old) (D.view disk.new) flushed) }
+    ensures err { OnErr result ((disk.new ≡ disk.old) × (engine.new ≡ engine.old)) }
+    ensures advances { Advances (D.view disk.old) (D.view disk.new) }
 {
     match call {
-        Call::Fsync { node: _ } => flush(engine.alloc, &mut engine.store, disk, &engine.tree),
-        _ => Flushed { reply, ack: None },
+        Call::Fsync { node: _ } => Ok(flush(
+            engine.alloc,
+            &mut engine.store,
+            disk,
+            &engine.tree,
+        )),
+        _ => Ok(Flushed {
+            reply: engine.tree.step(core, call)?,
+            ack: None,
+        }),
     }
 }
 
@@ -150,25 +168,24 @@ fn serve_call<D: Disk>(
     call: Call,
 ) -> Result<(), NoMemory>
     requires large { 4 ≤ (D.view disk.old).size }
-    requires stands { StandsSomehow engine.old (D.view disk.old) }
-    requires core { core.0 < 2 }
+    requires invariant { HasInvariant engine.old (D.view disk.old) }
+    requires core { core.0 < CORE_COUNT }
     requires ready { MayCall call }
-    ensures stands { StandsStill engine.old engine.new (D.view disk.old) (D.view disk.new) }
-    ensures safe { SafeStill engine.old engine.new (D.view disk.old) (D.view disk.new) }
+    ensures invariant { KeepsInvariant engine.old engine.new (D.view disk.old) (D.view disk.new) }
+    ensures crash_invariant { KeepsCrashInvariant engine.old engine.new (D.view disk.old) (D.view disk.new) }
     ensures ok { OnOk result (Called core call engine.old.entries.items engine.new.entries.items) }
     ensures err { OnErr result (engine.new.entries.items ≡ engine.old.entries.items) }
-    ensures goes { GoesOn (D.view disk.old) (D.view disk.new) }
+    ensures advances { Advances (D.view disk.old) (D.view disk.new) }
 {
     engine.entries.reserve(1)?;
-    let reply = engine.tree.step(core, &call)?;
-    let Flushed { reply, ack } = answer(engine, disk, &call, reply);
+    let flushed = answer(engine, disk, core, &call)?;
     let stamp = Stamp(engine.entries.len() as u64);
     engine.entries.push_reserved(Entry {
         stamp,
         core,
         call,
-        reply,
-        ack,
+        reply: flushed.reply,
+        ack: flushed.ack,
     });
     Ok(())
 }

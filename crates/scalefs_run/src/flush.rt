@@ -1,12 +1,12 @@
 // An fsync of the root brings its rows to the disk, unless they are there already.
 ghost use Rattle.std.specs.Prelude.{◌≡◌, ◌≤◌, ◌↔◌, None, Some, length, is_some, unwrap_or, IsSome, IsTrue, IfOk};
-ghost use Rattle.sfs_dev.specs.Run.{GoesOn};
-ghost use Rattle.sfs_tree.specs.NameRow.{entry_of};
+ghost use Rattle.sfs_dev.specs.Run.{Advances};
+ghost use Rattle.sfs_tree.specs.NameRow.{name_and_child};
 ghost use Rattle.sfs_tree.specs.History.{is_ok_reply};
 ghost use Rattle.sfs_tree.specs.Sound.{IsSound};
 ghost use Rattle.sfs_tree.specs.Tree.{kind_of};
 ghost use Rattle.area_pair.specs.Rows.{KeepsApart};
-ghost use Rattle.scalefs_run.specs.Replies.{IsAnswered, root_rows};
+ghost use Rattle.scalefs_run.specs.Replies.{AREA_ROWS as ROWS, IsAnswered, root_rows};
 ghost use Rattle.scalefs_run.specs.Flushed.{HasFlushed, HasBrought, HasCommitted, row_with_kind, rows_of_root};
 ghost use Rattle.sfs_tree.specs.declared.reply.Reply.TheVariants.{Ok as Fine};
 
@@ -21,6 +21,7 @@ use std::alloc::Global;
 const AREA_ROWS: u32 = 15;
 
 /// What an fsync was answered, and when it was on the disk.
+#[derive(Drop)]
 pub struct Flushed {
     pub reply: Reply,
     pub ack: Option<u64>,
@@ -38,12 +39,12 @@ pub struct Store {
 /// Brings the root's rows to the disk. Once a commit has failed nothing more is written.
 pub fn flush<D: Disk>(alloc: Global, store: &mut Store, disk: &mut D, tree: &Tree) -> Flushed
     requires large { 4 ≤ (D.view disk.old).size }
-    requires few { length store.old.on_disk.items ≤ 15 }
+    requires few { length store.old.on_disk.items ≤ ROWS }
     requires sound { IsSound tree.now }
     ensures reply { IsAnswered (is_some store.old.failed) (unwrap_or store.old.failed 0) (root_rows tree.now) result.reply }
     ensures acknowledged { IsSome result.ack ↔ IsTrue (is_ok_reply result.reply) }
     ensures flushed { HasFlushed (disk.new ≡ disk.old) tree.now result.ack store.old store.new (D.view disk.old) (D.view disk.new) result.reply }
-    ensures goes { GoesOn (D.view disk.old) (D.view disk.new) }
+    ensures advances { Advances (D.view disk.old) (D.view disk.new) }
 {
     if let Some(faults) = store.failed {
         return answer(Reply::Stopped { faults });
@@ -65,13 +66,13 @@ pub fn flush<D: Disk>(alloc: Global, store: &mut Store, disk: &mut D, tree: &Tre
 // Brings the rows of the root to the disk, unless they are there already.
 fn bring<D: Disk>(store: &mut Store, disk: &mut D, rows: Vec<Row>) -> Flushed
     requires large { 4 ≤ (D.view disk.old).size }
-    requires few { length rows.items ≤ 15 }
-    requires few_on_disk { length store.old.on_disk.items ≤ 15 }
+    requires few { length rows.items ≤ ROWS }
+    requires few_on_disk { length store.old.on_disk.items ≤ ROWS }
     requires apart { KeepsApart rows.items }
     requires working { store.old.failed ≡ None }
     ensures acknowledged { IsSome result.ack ↔ IsTrue (is_ok_reply result.reply) }
     ensures brought { HasBrought (disk.new ≡ disk.old) rows.items result.ack store.old store.new (D.view disk.old) (D.view disk.new) result.reply }
-    ensures goes { GoesOn (D.view disk.old) (D.view disk.new) }
+    ensures advances { Advances (D.view disk.old) (D.view disk.new) }
 {
     if same_when_numbered(&rows, &store.on_disk) {
         return acknowledge(disk.now());
@@ -82,12 +83,12 @@ fn bring<D: Disk>(store: &mut Store, disk: &mut D, rows: Vec<Row>) -> Flushed
 // Commits the rows of the root.
 fn commit<D: Disk>(store: &mut Store, disk: &mut D, rows: Vec<Row>) -> Flushed
     requires large { 4 ≤ (D.view disk.old).size }
-    requires few { length rows.items ≤ 15 }
+    requires few { length rows.items ≤ ROWS }
     requires apart { KeepsApart rows.items }
     requires working { store.old.failed ≡ None }
     ensures acknowledged { IsSome result.ack ↔ IsTrue (is_ok_reply result.reply) }
     ensures committed { HasCommitted rows.items result.ack store.old store.new (D.view disk.old) (D.view disk.new) result.reply }
-    ensures goes { GoesOn (D.view disk.old) (D.view disk.new) }
+    ensures advances { Advances (D.view disk.old) (D.view disk.new) }
 {
     match store.areas.commit(disk, &rows) {
         Ok(moment) => {
@@ -132,7 +133,7 @@ pub fn rows_of_root(alloc: Global, tree: &Tree) -> Result<Vec<Row>, NoMemory>
 
 // A row of the root with its kind.
 fn row_for_disk(tree: &Tree, row: &NameRow) -> Result<Row, NoMemory>
-    ensures { IfOk result (λ given. given ≡ row_with_kind tree.now (entry_of row.now)) }
+    ensures { IfOk result (λ given. given ≡ row_with_kind tree.now (name_and_child row.now)) }
 {
     Ok(Row {
         name: row.name.copy()?,

@@ -1,16 +1,16 @@
 ghost use Rattle.std.specs.Prelude.{◌≡◌, ◌≤◌, ◌/◌, ℕ, List, [], true, false, length, map, string_bytes, IfOk, IfErr, Ok};
 ghost use Rattle.std.specs.List.{All};
-ghost use Rattle.sfs_base.specs.Ends.{Rose};
-ghost use Rattle.sfs_dev.specs.Run.{GoesOn};
+ghost use Rattle.sfs_base.specs.Ends.{HasRisen};
+ghost use Rattle.sfs_dev.specs.Run.{Advances};
 ghost use Rattle.script.specs.Phases.{phases_of};
 ghost use Rattle.script.specs.Faults.{IsShort};
 ghost use Rattle.script.specs.Ready.{LinesMayRun};
 ghost use Rattle.scalefs_run.specs.declared.outcome.Status.TheVariants.{Done as Fine};
 ghost use Rattle.scalefs_run.specs.Outcome.{IsOf, HasText, IsWriteStatus, HasReadFault, status_of_source, status_of_script, workers_status, reaches_disk};
-ghost use Rattle.scalefs_run.specs.Words.{nodes_of, share_of};
-ghost use Rattle.scalefs_run.specs.Beyond.{beyond, IsWithin};
+ghost use Rattle.scalefs_run.specs.Words.{CORES as CORE_COUNT, MOST_SHARE, nodes_of, share_of};
+ghost use Rattle.scalefs_run.specs.Beyond.{beyond, HaveCores};
 ghost use Rattle.scalefs_run.specs.Served.{Served, ServedScript};
-ghost use Rattle.scalefs_run.specs.Crash.{AreDated, Survives};
+ghost use Rattle.scalefs_run.specs.Crash.{AcksRise, Survives};
 
 use crate::beyond::first_beyond;
 use crate::engine::{mount, serve};
@@ -40,16 +40,16 @@ pub fn run<R: Threads + Wait + Sync, S: Source, K: Sink, D: Disk, G: Gate>(
 ) -> Outcome<D>
     requires { 4 ≤ (D.view disk).size }
 
-    ensures served { ServedScript (map string_bytes words.now) (S.left source.old) (Rose (S.faults source.old) (S.faults source.new)) (Rose (K.faults sink.old) (K.faults sink.new))
+    ensures served { ServedScript (map string_bytes words.now) (S.left source.old) (HasRisen (S.faults source.old) (S.faults source.new)) (HasRisen (K.faults sink.old) (K.faults sink.new))
         (K.written sink.old) (K.written sink.new) (D.view disk) (D.view result.disk) result.status result.history }
 
     // A crash at any moment of the call leaves the root as it was at a stamp, with each fsync that was acknowledged by then.
     ensures survives { Survives (share_of (map string_bytes words.now)) (D.view disk) (D.view result.disk) result.history }
-    ensures dated { AreDated (D.view disk).now result.history (D.view result.disk).now }
+    ensures acks { AcksRise (D.view disk).now result.history (D.view result.disk).now }
 
     ensures untouched { reaches_disk result.status ≡ false → result.disk ≡ disk }
     ensures turns { result.turns.items ≡ [] }
-    ensures goes { GoesOn (D.view disk) (D.view result.disk) }
+    ensures advances { Advances (D.view disk) (D.view result.disk) }
 {
     let (status, history) = serve_words(alloc, words, source, sink, &mut disk);
     Outcome {
@@ -69,12 +69,12 @@ fn serve_words<S: Source, K: Sink, D: Disk>(
     disk: &mut D,
 ) -> (Status, History)
     requires { 4 ≤ (D.view disk.old).size }
-    ensures served { ServedScript (map string_bytes words.now) (S.left source.old) (Rose (S.faults source.old) (S.faults source.new)) (Rose (K.faults sink.old) (K.faults sink.new))
+    ensures served { ServedScript (map string_bytes words.now) (S.left source.old) (HasRisen (S.faults source.old) (S.faults source.new)) (HasRisen (K.faults sink.old) (K.faults sink.new))
         (K.written sink.old) (K.written sink.new) (D.view disk.old) (D.view disk.new) result.0 result.1 }
     ensures survives { Survives (share_of (map string_bytes words.now)) (D.view disk.old) (D.view disk.new) result.1 }
-    ensures dated { AreDated (D.view disk.old).now result.1 (D.view disk.new).now }
+    ensures acks { AcksRise (D.view disk.old).now result.1 (D.view disk.new).now }
     ensures untouched { reaches_disk result.0 ≡ false → disk.new ≡ disk.old }
-    ensures goes { GoesOn (D.view disk.old) (D.view disk.new) }
+    ensures advances { Advances (D.view disk.old) (D.view disk.new) }
 {
     let nodes = match nodes_of(words) {
         Ok(nodes) => nodes,
@@ -90,7 +90,7 @@ fn serve_words<S: Source, K: Sink, D: Disk>(
 fn read_script<S: Source>(alloc: Global, source: &mut S) -> Result<Script, Status>
     ensures ok { IfOk result (λ phases. (script : List ℕ) × IsOf (S.left source.old) script × IsShort script × (phases_of script ≡ Ok phases)) }
     ensures ready { IfOk result (All LinesMayRun) }
-    ensures err { IfErr result (λ status. (script : List ℕ) × IsOf (S.left source.old) script × HasReadFault script (Rose (S.faults source.old) (S.faults source.new)) status) }
+    ensures err { IfErr result (λ status. (script : List ℕ) × IsOf (S.left source.old) script × HasReadFault script (HasRisen (S.faults source.old) (S.faults source.new)) status) }
 {
     let text = match read_all(alloc, source, LONGEST_SCRIPT as u64) {
         Ok(text) => text,
@@ -134,14 +134,14 @@ fn serve_script<K: Sink, D: Disk>(
     disk: &mut D,
 ) -> (Status, History)
     requires large { 4 ≤ (D.view disk.old).size }
-    requires share { share ≤ 32768 }
+    requires share { share ≤ MOST_SHARE }
     requires ready { All LinesMayRun script.now }
-    ensures served { Served (workers_status (beyond 2 script.now)) share script.now ⊥ (Rose (K.faults sink.old) (K.faults sink.new)) (K.written sink.old) (K.written sink.new)
+    ensures served { Served (workers_status (beyond CORE_COUNT script.now)) share script.now ⊥ (HasRisen (K.faults sink.old) (K.faults sink.new)) (K.written sink.old) (K.written sink.new)
         (D.view disk.old) (D.view disk.new) result.0 result.1 }
     ensures survives { Survives share (D.view disk.old) (D.view disk.new) result.1 }
-    ensures dated { AreDated (D.view disk.old).now result.1 (D.view disk.new).now }
+    ensures acks { AcksRise (D.view disk.old).now result.1 (D.view disk.new).now }
     ensures reached { reaches_disk result.0 ≡ true }
-    ensures goes { GoesOn (D.view disk.old) (D.view disk.new) }
+    ensures advances { Advances (D.view disk.old) (D.view disk.new) }
 {
     let mut engine = match mount(alloc, share, disk) {
         Ok(engine) => engine,
@@ -166,7 +166,7 @@ fn serve_script<K: Sink, D: Disk>(
 
 // Writes the text of a history.
 fn write_history<K: Sink>(alloc: Global, history: &History, sink: &mut K) -> Status
-    ensures status { IsWriteStatus (Rose (K.faults sink.old) (K.faults sink.new)) result }
+    ensures status { IsWriteStatus (HasRisen (K.faults sink.old) (K.faults sink.new)) result }
     ensures text { HasText history.now (K.written sink.old) (K.written sink.new) result }
 {
     let Ok(text) = script::text(alloc, history) else {

@@ -1,6 +1,6 @@
 ghost use Rattle.std.specs.Prelude.{◌≡◌, ◌≤◌, map, string_bytes, IfOk};
 ghost use Rattle.std.specs.List.{list_any};
-ghost use Rattle.scalefs_run.specs.Words.{nodes_of, command_in, nodes_in, begins_with_dash};
+ghost use Rattle.scalefs_run.specs.Words.{MOST_NODES as MOST, nodes_of, command_in, nodes_in, begins_with_dash};
 
 use script::number_up_to;
 
@@ -13,7 +13,7 @@ const MOST_NODES: u64 = 65_536;
 /// How many new nodes the words allow, or the place at which they are bad.
 pub fn nodes_of(words: &[String]) -> Result<u32, u32>
     ensures nodes { result ≡ nodes_of (map string_bytes words.now) }
-    ensures within { IfOk result (λ nodes. nodes ≤ 65536) }
+    ensures within { IfOk result (λ nodes. nodes ≤ MOST) }
 {
     if has_dash(words) {
         return Err(0);
@@ -45,7 +45,7 @@ fn begins_with_dash(word: &String) -> bool
 // The same of words that don't begin with `-`.
 fn command_in(words: &[String]) -> Result<u32, u32>
     ensures nodes { result ≡ command_in (map string_bytes words.now) }
-    ensures within { IfOk result (λ nodes. nodes ≤ 65536) }
+    ensures within { IfOk result (λ nodes. nodes ≤ MOST) }
 {
     match words {
         [word] => {
@@ -69,7 +69,7 @@ fn command_in(words: &[String]) -> Result<u32, u32>
 // The number of new nodes that a word spells, 1 to 65,536.
 fn nodes_in(number: &[u8]) -> Result<u32, u32>
     ensures nodes { result ≡ nodes_in (number_up_to 65536 number.now) }
-    ensures within { IfOk result (λ nodes. nodes ≤ 65536) }
+    ensures within { IfOk result (λ nodes. nodes ≤ MOST) }
 {
     match number_up_to(MOST_NODES, number) {
         Some(nodes) => { if nodes >= 1 { Ok(nodes as u32) } else { Err(1) } }

@@ -5,7 +5,7 @@ use Rattle.sfs_tree.specs.declared.call.Call.{Call}
 use Rattle.sfs_tree.specs.declared.reply.Reply.{Reply}
 use Rattle.sfs_tree.specs.declared.reply.Reply.TheVariants as reply
 use Rattle.script.specs.declared.commands.Command.{Command}
-use Rattle.script.specs.Walks.{Progress, First, Second, Last, Done, first_walk, second_walk, on_first, on_second, call_of, after, Standing, go_on, started, taken}
+use Rattle.script.specs.Walks.{WalkState, First, Second, Last, Done, first_walk, second_walk, on_first, on_second, call_of, after, Position, go_on, started, taken}
 use Rattle.script.specs.Limits.{calls_ahead, most_calls, calls_left}
 
 on_second-left : (command : Command) (first node : ℕ) (names : List (List ℕ)) → calls_ahead (on_second command first node names) ≡ length names + 1
@@ -17,7 +17,7 @@ on_first-left command node [] = let e = on_second-left command node 0 (second_wa
 on_first-left command node (name ∷ names) = omega arith
 
 -- a reply leaves fewer calls to a command
-after-left : (progress : Progress) (reply : Reply) (call : Call) → call_of progress ≡ Some call → calls_ahead (after progress reply) < calls_ahead progress
+after-left : (walk : WalkState) (reply : Reply) (call : Call) → call_of walk ≡ Some call → calls_ahead (after walk reply) < calls_ahead walk
 after-left (First command node name names) (reply.Node child kind) call e = let l = on_first-left command child.0 names in omega arith
 after-left (First command node name names) _ call e = omega arith
 after-left (Second command first node name names) (reply.Node child kind) call e = let l = on_second-left command first child.0 names in omega arith
@@ -25,7 +25,7 @@ after-left (Second command first node name names) _ call e = omega arith
 after-left (Last last) reply call e = omega arith
 after-left Done reply call e = cc
 
-go_on-left : (progress : Progress) (commands : List Command) → calls_left (go_on progress commands) ≡ calls_ahead progress + sum_by most_calls commands
+go_on-left : (walk : WalkState) (commands : List Command) → calls_left (go_on walk commands) ≡ calls_ahead walk + sum_by most_calls commands
 go_on-left Done [] = refl
 go_on-left Done (command ∷ commands) =
     let l = on_first-left command 0 (first_walk command) in
@@ -36,10 +36,10 @@ go_on-left (Second command first node name names) commands = refl
 go_on-left (Last last) commands = refl
 
 -- A reply leaves fewer calls to a worker, so it comes to its end.
-pub calls_left-falls : (standing : Standing) (reply : Reply) (call : Call) → call_of standing.progress ≡ Some call → calls_left (taken standing reply) < calls_left standing
-calls_left-falls standing reply call e =
-    let falls = after-left standing.progress reply call e in
-    let goes = go_on-left (after standing.progress reply) standing.later in
+pub calls_left-falls : (position : Position) (reply : Reply) (call : Call) → call_of position.walk ≡ Some call → calls_left (taken position reply) < calls_left position
+calls_left-falls position reply call e =
+    let falls = after-left position.walk reply call e in
+    let goes = go_on-left (after position.walk reply) position.later in
     omega arith
 
 -- a worker before its first call

@@ -6,25 +6,25 @@ use Rattle.std.proofs.lemmas.List.Sums.{sum_by-cons}
 use Rattle.sfs_tree.specs.declared.history.Entry.{Entry}
 use Rattle.script.specs.declared.commands.Command.{Command}
 use Rattle.script.specs.declared.commands.Line.{Line}
-use Rattle.script.specs.Walks.{taken, standing_after, commands_of}
-use Rattle.script.specs.Follows.{entries_of, replies_of, MakesBehind, Makes, IsPart, Follows, FollowsSoFar}
+use Rattle.script.specs.Walks.{taken, position_after, commands_of}
+use Rattle.script.specs.Follows.{core_entries, replies_of, MakesBehind, Makes, IsPartOfPhase, Follows, FollowsSoFar}
 use Rattle.script.specs.Limits.{most_calls, calls_left, calls_of_lines, calls_of_phases}
 use Rattle.script.specs.Phases.{phases_of}
 use Rattle.script.proofs.LimitLemmas.{calls_within}
 use Rattle.script.proofs.EndLemmas.{calls_left-falls, calls_left-started}
-use Rattle.script.proofs.FollowLemmas.{standing_after-more, IsPart-whole}
+use Rattle.script.proofs.FollowLemmas.{position_after-more, IsPart-whole}
 
 -- where a worker stands after one more entry
-after_entry : (commands : List Command) (before : List Entry) (entry : Entry) → standing_after commands (replies_of (before ++ entry ∷ [])) ≡ taken (standing_after commands (replies_of before)) entry.reply
-after_entry commands before entry = ap (standing_after commands) (map-append (λ e. e.reply) before (entry ∷ [])) ∙ standing_after-more commands (replies_of before) entry.reply
+after_entry : (commands : List Command) (before : List Entry) (entry : Entry) → position_after commands (replies_of (before ++ entry ∷ [])) ≡ taken (position_after commands (replies_of before)) entry.reply
+after_entry commands before entry = ap (position_after commands) (map-append (λ e. e.reply) before (entry ∷ [])) ∙ position_after-more commands (replies_of before) entry.reply
 
 -- entries behind others are no more than the calls left
-behind-few : (commands : List Command) (before entries : List Entry) → MakesBehind commands before entries → length entries ≤ calls_left (standing_after commands (replies_of before))
+behind-few : (commands : List Command) (before entries : List Entry) → MakesBehind commands before entries → length entries ≤ calls_left (position_after commands (replies_of before))
 behind-few commands before [] made = omega arith
 behind-few commands before (entry ∷ entries) made =
     let later = behind-few commands (before ++ entry ∷ []) entries made.1 in
-    let same : calls_left (standing_after commands (replies_of (before ++ entry ∷ []))) ≡ calls_left (taken (standing_after commands (replies_of before)) entry.reply) = ap calls_left (after_entry commands before entry) in
-    let falls = calls_left-falls (standing_after commands (replies_of before)) entry.reply entry.call made.0 in
+    let same : calls_left (position_after commands (replies_of (before ++ entry ∷ []))) ≡ calls_left (taken (position_after commands (replies_of before)) entry.reply) = ap calls_left (after_entry commands before entry) in
+    let falls = calls_left-falls (position_after commands (replies_of before)) entry.reply entry.call made.0 in
     omega (arith, later, same, falls)
 
 -- A worker's entries are no more than its commands make calls.
@@ -84,20 +84,20 @@ above [] = 0
 above (entry ∷ entries) = suc entry.core.0 + above entries
 
 -- how many entries of a core there are, with one more
-count_more : (entry : Entry) (entries : List Entry) (core : ℕ) → length (entries_of core (entry ∷ entries)) ≡ at entry.core.0 1 core + length (entries_of core entries)
-count_more entry entries core = elim (nat_eq entry.core.0 core) as (λ t. length (cond t (entry ∷ entries_of core entries) (entries_of core entries)) ≡ cond t 1 0 + length (entries_of core entries)) [ true ↦ omega arith | false ↦ omega arith ]
+count_more : (entry : Entry) (entries : List Entry) (core : ℕ) → length (core_entries core (entry ∷ entries)) ≡ at entry.core.0 1 core + length (core_entries core entries)
+count_more entry entries core = elim (nat_eq entry.core.0 core) as (λ t. length (cond t (entry ∷ core_entries core entries) (core_entries core entries)) ≡ cond t 1 0 + length (core_entries core entries)) [ true ↦ omega arith | false ↦ omega arith ]
 
 sum_to-same : (n : ℕ) (f g : ℕ → ℕ) → ((c : ℕ) → f c ≡ g c) → sum_to n f ≡ sum_to n g
 sum_to-same zero f g same = refl
 sum_to-same (suc n) f g same = let before = sum_to-same n f g same in let here = same n in omega (arith, before, here)
 
 -- each entry is one of some core
-all_cores : (n : ℕ) (entries : List Entry) → above entries ≤ n → length entries ≡ sum_to n (λ core. length (entries_of core entries))
+all_cores : (n : ℕ) (entries : List Entry) → above entries ≤ n → length entries ≡ sum_to n (λ core. length (core_entries core entries))
 all_cores n [] below = sym (sum_to-zero n)
 all_cores n (entry ∷ entries) below =
     let before = all_cores n entries (omega arith) in
-    let more = sum_to-same n (λ core. length (entries_of core (entry ∷ entries))) (λ core. at entry.core.0 1 core + length (entries_of core entries)) (count_more entry entries) in
-    let split = sum_to-add n (at entry.core.0 1) (λ core. length (entries_of core entries)) in
+    let more = sum_to-same n (λ core. length (core_entries core (entry ∷ entries))) (λ core. at entry.core.0 1 core + length (core_entries core entries)) (count_more entry entries) in
+    let split = sum_to-add n (at entry.core.0 1) (λ core. length (core_entries core entries)) in
     let one = sum_to-at n entry.core.0 1 (omega arith) in
     omega (arith, before, more, split, one)
 
@@ -122,10 +122,10 @@ all_workers n (line ∷ lines) =
     omega (arith, before, more, split, one, sum)
 
 -- A part has no more entries than its phase makes calls.
-pub IsPart-few : (phase : List Line) (part : List Entry) → IsPart phase part → length part ≤ calls_of_lines phase
+pub IsPart-few : (phase : List Line) (part : List Entry) → IsPartOfPhase phase part → length part ≤ calls_of_lines phase
 IsPart-few phase part made =
     let cores = all_cores (above part) part (omega arith) in
-    let few = sum_to-le (above part) (λ core. length (entries_of core part)) (λ core. sum_by most_calls (commands_of core phase)) (λ core. Makes-few (commands_of core phase) (entries_of core part) (made core)) in
+    let few = sum_to-le (above part) (λ core. length (core_entries core part)) (λ core. sum_by most_calls (commands_of core phase)) (λ core. Makes-few (commands_of core phase) (core_entries core part) (made core)) in
     let all = all_workers (above part) phase in
     omega (arith, cores, few, all)
 

@@ -1,19 +1,20 @@
 -- A script makes no more calls than it has bytes.
+use Rattle.std.specs.Prelude.{option_and_then}
 use Rattle.std.proofs.Common.{◌≡◌, ℕ, suc, ◌+◌, ◌-◌, ◌≤◌, true, false, cond, List, [], ◌∷◌, length, Option, Some, None, Result, Ok, Err, option_map, refl, ap, arith, nat_eq, nat_le, bytes_eq, codes, length-take}
 use Rattle.std.specs.Option.{option_zip}
 use Rattle.std.proofs.lemmas.List.Sums.{sum_by-cons}
 use Rattle.script.specs.declared.commands.Command.{Command}
 use Rattle.script.specs.declared.commands.Command.TheVariants as command
 use Rattle.script.specs.declared.commands.Line.{Line}
-use Rattle.script.specs.declared.verbs.Verb.{Verb}
-use Rattle.script.specs.declared.verbs.Verb.TheVariants.{Create, Mkdir, Link, Unlink, Rmdir, Rename, Write, Read, Trunc, Stat, List as Lists, Fsync}
-use Rattle.script.specs.declared.verbs.Meaning.{Meaning}
-use Rattle.script.specs.declared.verbs.Meaning.TheVariants.{Skipped, Ends, Does}
+use Rattle.script.specs.declared.reading.verbs.Verb.{Verb}
+use Rattle.script.specs.declared.reading.verbs.Verb.TheVariants.{Create, Mkdir, Link, Unlink, Rmdir, Rename, Write, Read, Trunc, Stat, List as Lists, Fsync}
+use Rattle.script.specs.declared.reading.line_kind.LineKind.{LineKind}
+use Rattle.script.specs.declared.reading.line_kind.LineKind.TheVariants.{Skipped, Ends, Does}
 use Rattle.sfs_base.specs.Path.{path_length}
 use Rattle.script.specs.Lines.{lines, parts, words, first_longer}
-use Rattle.script.specs.Paths.{with_name, name_of, names_of, names_behind, path_names, short_path, path_of, named, name_path_of}
-use Rattle.script.specs.Words.{bytes_of}
-use Rattle.script.specs.Commands.{one, two, three, all_three, offset_of, count_of, command_of, verb_of, command_with, worker_of, line_with, line_of, meaning_of, root_flush}
+use Rattle.script.specs.Paths.{with_name, name_in, names_in, names_behind, path_names, short_path, path_of, named, name_path_of}
+use Rattle.script.specs.Words.{hex_bytes}
+use Rattle.script.specs.Commands.{one, two, three, all_three, offset_of, read_count, command_of, verb_of, command_with, worker_of, worker_line, line_in, kind_of_line, root_path, flushed_path}
 use Rattle.script.specs.Phases.{first_phase_longer, with_line, phases_from, phases_of}
 use Rattle.script.specs.Places.{parent}
 use Rattle.script.proofs.LineLemmas.{total, parts_total}
@@ -43,11 +44,11 @@ with_name-count (Some name) (Some names) = omega arith
 with_name-count (Some name) None = omega arith
 with_name-count None names = omega arith
 
-names_of-count : (texts : List (List ℕ)) → count (names_of texts) ≤ length texts
+names_of-count : (texts : List (List ℕ)) → count (names_in texts) ≤ length texts
 names_of-count [] = omega arith
 names_of-count (text ∷ texts) =
     let later = names_of-count texts in
-    let one_more = with_name-count (name_of text) (names_of texts) in
+    let one_more = with_name-count (name_in text) (names_in texts) in
     omega (arith, later, one_more)
 
 names_behind-count : (bytes : List ℕ) → count (names_behind bytes) ≤ length bytes + 1
@@ -144,11 +145,17 @@ three_calls {A = A} make read few (first ∷ second ∷ third ∷ []) = let long
     make_calls None at last = omega arith
 three_calls make read few (first ∷ second ∷ third ∷ fourth ∷ words) = omega arith
 
--- an fsync
-flush_calls : (words : List (List ℕ)) → calls (one root_flush words) ≤ total words + 1
-flush_calls [] = omega arith
-flush_calls (word ∷ []) = elim (bytes_eq word (codes "/")) as (λ t. calls (cond t (Some command.Fsync) None) ≤ total (word ∷ []) + 1) [ true ↦ omega arith | false ↦ omega arith ]
-flush_calls (word ∷ other ∷ words) = omega arith
+-- an fsync's path is the root's
+root_path-count : (path : Option (List (List ℕ))) → count (option_and_then root_path path) ≤ count path
+root_path-count (Some []) = omega arith
+root_path-count (Some (name ∷ names)) = omega arith
+root_path-count None = omega arith
+
+flushed_path-count : (word : List ℕ) → count (flushed_path word) ≤ length word
+flushed_path-count word =
+    let all = path_of-count word in
+    let some = root_path-count (path_of word) in
+    omega (arith, all, some)
 
 -- a command makes no more calls than its words have bytes, and one
 command_calls : (verb : Verb) (words : List (List ℕ)) → calls (command_of verb words) ≤ total words + 1
@@ -158,19 +165,19 @@ command_calls Link words = two_calls command.Link path_of (λ from to. let few =
 command_calls Unlink words = one_calls command.Unlink name_path_of (λ path. let few = parent-count path in omega (arith, few)) name_path_of-count words
 command_calls Rmdir words = one_calls command.Rmdir name_path_of (λ path. let few = parent-count path in omega (arith, few)) name_path_of-count words
 command_calls Rename words = two_calls command.Rename name_path_of (λ from to. let few = parent-count from in let also = parent-count to in omega (arith, few, also)) name_path_of-count words
-command_calls Write words = three_calls command.Write bytes_of (λ path at last. omega arith) words
-command_calls Read words = three_calls command.Read count_of (λ path at last. omega arith) words
+command_calls Write words = three_calls command.Write hex_bytes (λ path at last. omega arith) words
+command_calls Read words = three_calls command.Read read_count (λ path at last. omega arith) words
 command_calls Trunc words = trunc_calls words
 command_calls Stat words = one_calls command.Stat path_of (λ path. omega arith) path_of-count words
 command_calls Lists words = one_calls command.List path_of (λ path. omega arith) path_of-count words
-command_calls Fsync words = flush_calls words
+command_calls Fsync words = one_calls command.Fsync flushed_path (λ path. omega arith) flushed_path-count words
 
 -- how many calls a line makes at most, where it is one
 abbrev line_calls : Option Line → ℕ
 line_calls (Some line) = most_calls line.command
 line_calls None = 0
 
-zip_calls : (worker : Option ℕ) (command : Option Command) → line_calls (option_map line_with (option_zip worker command)) ≤ calls command
+zip_calls : (worker : Option ℕ) (command : Option Command) → line_calls (option_map worker_line (option_zip worker command)) ≤ calls command
 zip_calls (Some worker) (Some command) = omega arith
 zip_calls (Some worker) None = omega arith
 zip_calls None command = omega arith
@@ -179,7 +186,7 @@ with_calls : (verb : Option Verb) (words : List (List ℕ)) → calls (command_w
 with_calls (Some verb) words = command_calls verb words
 with_calls None words = omega arith
 
-line_of-calls : (words : List (List ℕ)) → line_calls (line_of words) ≤ total words + length words - 1
+line_of-calls : (words : List (List ℕ)) → line_calls (line_in words) ≤ total words + length words - 1
 line_of-calls [] = omega arith
 line_of-calls (worker ∷ []) = omega arith
 line_of-calls (worker ∷ verb ∷ words) =
@@ -188,7 +195,7 @@ line_of-calls (worker ∷ verb ∷ words) =
     omega (arith, zipped, made)
 
 -- how many calls what a line is makes at most
-abbrev meaning_calls : Option Meaning → ℕ
+abbrev meaning_calls : Option LineKind → ℕ
 meaning_calls (Some (Does line)) = most_calls line.command
 meaning_calls (Some Skipped) = 0
 meaning_calls (Some Ends) = 0
@@ -198,16 +205,16 @@ does_calls : (line : Option Line) → meaning_calls (option_map Does line) ≡ l
 does_calls (Some line) = refl
 does_calls None = refl
 
-meaning_of-calls : (line : List ℕ) → meaning_calls (meaning_of line) ≤ length line
-meaning_of-calls [] = omega arith
-meaning_of-calls (b ∷ bs) =
+kind_of_line-calls : (line : List ℕ) → meaning_calls (kind_of_line line) ≤ length line
+kind_of_line-calls [] = omega arith
+kind_of_line-calls (b ∷ bs) =
     let made = line_of-calls (words (b ∷ bs)) in
     let all = parts_total 32 (b ∷ bs) in
-    let same = does_calls (line_of (words (b ∷ bs))) in
-    let within : meaning_calls (option_map Does (line_of (words (b ∷ bs)))) ≤ suc (length bs) = omega (arith, made, all, same) in
-    elim (nat_eq b 35) as (λ t. meaning_calls (cond t (Some Skipped) (cond (bytes_eq (b ∷ bs) (codes "---")) (Some Ends) (option_map Does (line_of (words (b ∷ bs)))))) ≤ suc (length bs)) [
+    let same = does_calls (line_in (words (b ∷ bs))) in
+    let within : meaning_calls (option_map Does (line_in (words (b ∷ bs)))) ≤ suc (length bs) = omega (arith, made, all, same) in
+    elim (nat_eq b 35) as (λ t. meaning_calls (cond t (Some Skipped) (cond (bytes_eq (b ∷ bs) (codes "---")) (Some Ends) (option_map Does (line_in (words (b ∷ bs)))))) ≤ suc (length bs)) [
       | true ↦ omega arith
-      | false ↦ elim (bytes_eq (b ∷ bs) (codes "---")) as (λ t. meaning_calls (cond t (Some Ends) (option_map Does (line_of (words (b ∷ bs))))) ≤ suc (length bs)) [ true ↦ omega arith | false ↦ within ]
+      | false ↦ elim (bytes_eq (b ∷ bs) (codes "---")) as (λ t. meaning_calls (cond t (Some Ends) (option_map Does (line_in (words (b ∷ bs))))) ≤ suc (length bs)) [ true ↦ omega arith | false ↦ within ]
     ]
 
 -- how many calls phases make at most, where there are some
@@ -219,7 +226,7 @@ longer_calls : (line : Line) (phases : List (List Line)) → calls_of_phases (fi
 longer_calls line [] = omega (arith, sum_by-cons calls_of_lines (line ∷ []) [], sum_by-cons (λ line. most_calls line.command) line [])
 longer_calls line (phase ∷ phases) = omega (arith, sum_by-cons calls_of_lines (line ∷ phase) phases, sum_by-cons (λ line. most_calls line.command) line phase, sum_by-cons calls_of_lines phase phases)
 
-with_line-calls : (number : ℕ) (meaning : Option Meaning) (later : Result (List (List Line)) ℕ) → read_calls (with_line number meaning later) ≤ meaning_calls meaning + read_calls later
+with_line-calls : (number : ℕ) (meaning : Option LineKind) (later : Result (List (List Line)) ℕ) → read_calls (with_line number meaning later) ≤ meaning_calls meaning + read_calls later
 with_line-calls number None later = omega arith
 with_line-calls number (Some meaning) (Err line) = omega arith
 with_line-calls number (Some Skipped) (Ok phases) = omega arith
@@ -229,9 +236,9 @@ with_line-calls number (Some (Does line)) (Ok phases) = omega (arith, longer_cal
 phases_from-calls : (number : ℕ) (ls : List (List ℕ)) → read_calls (phases_from number ls) ≤ total ls
 phases_from-calls number [] = omega (arith, sum_by-cons calls_of_lines [] [])
 phases_from-calls number (line ∷ later) =
-    let first = meaning_of-calls line in
+    let first = kind_of_line-calls line in
     let behind = phases_from-calls (suc number) later in
-    let both = with_line-calls number (meaning_of line) (phases_from (suc number) later) in
+    let both = with_line-calls number (kind_of_line line) (phases_from (suc number) later) in
     omega (arith, first, behind, both)
 
 -- A script makes no more calls than it has bytes.

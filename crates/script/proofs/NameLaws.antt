@@ -9,8 +9,8 @@ use Rattle.percent_encoding.proofs.PercentLemmas.{round_trip, IsByte}
 use Rattle.hex.specs.Hex.{is_hex_digit}
 use Rattle.sfs_base.specs.declared.name.NameFault.TheVariants.{Empty, TooLong, BadByte}
 use Rattle.sfs_base.specs.Name.{name_fault, is_bad_byte}
-use Rattle.script.specs.declared.pieces.TheConstants.{ESCAPED}
-use Rattle.script.specs.Paths.{is_text_byte, begins_with_digits, is_name_text, name_of}
+use Rattle.script.specs.declared.writing.arguments.TheConstants.{ESCAPED}
+use Rattle.script.specs.Paths.{is_text_byte, begins_with_digits, is_name_text, name_in}
 use Rattle.script.specs.Texts.{is_shown, byte_text, name_text}
 use Rattle.script.proofs.BoolLemmas.{and_first, and_second}
 use Rattle.script.proofs.LineLemmas.{none_passes}
@@ -88,7 +88,7 @@ none_bad name named =
     ]
 
 -- What is written of a name is read as that name.
-pub name_read_back : (name : List ℕ) → name_fault name ≡ None → All IsByte name → name_of (name_text name) ≡ Some name
+pub name_read_back : (name : List ℕ) → name_fault name ≡ None → All IsByte name → name_in (name_text name) ≡ Some name
 name_read_back name named small =
     let other = λ (k : ℕ) (lt : k < length name). eqb-false (get_or name k 0) 47 (or_second (nat_eq (get_or name k 0) 0) _ (none_passes is_bad_byte name (none_bad name named) k lt)) in
     let spelled : percent_decode (name_text name) ≡ name = ap percent_decode (sym (percent_encode-name_text name)) ∙ round_trip ESCAPED name refl small in

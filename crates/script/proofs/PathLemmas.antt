@@ -9,7 +9,7 @@ use borrow.Author.Tests.{lt-leb}
 use Rattle.percent_encoding.specs.Percent.{percent_decode, is_escape}
 use Rattle.sfs_base.specs.Name.{name_fault}
 use Rattle.sfs_base.specs.Path.{path_length}
-use Rattle.script.specs.Paths.{may_stand, is_name_text, name_of, with_name, names_of, short_path, path_of}
+use Rattle.script.specs.Paths.{may_stand, is_name_text, name_in, with_name, names_in, short_path, path_of}
 use Rattle.script.proofs.LineLemmas.{total, parts_total}
 
 -- the text from a place on: its byte, and the text behind
@@ -65,7 +65,7 @@ abbrev IsNameOf : ℕ → Option (List ℕ) → Type 0
 IsNameOf bytes (Some name) = bytes ≤ 3 * length name
 IsNameOf bytes None = Unit {0}
 
-name_of-third : (text : List ℕ) → IsNameOf (length text) (name_of text)
+name_of-third : (text : List ℕ) → IsNameOf (length text) (name_in text)
 name_of-third text =
     elim (is_name_text text && is_none (name_fault (percent_decode text))) as (λ t. IsNameOf (length text) (cond t (Some (percent_decode text)) None)) [
       | true ↦ decode_third text
@@ -87,12 +87,12 @@ with_name-third bytes more (Some name) (Some names) first later = omega (arith, 
 with_name-third bytes more (Some name) None first later = tt
 with_name-third bytes more None names first later = tt
 
-names_of-third : (texts : List (List ℕ)) → AreNamesOf (total texts + length texts) (names_of texts)
+names_of-third : (texts : List (List ℕ)) → AreNamesOf (total texts + length texts) (names_in texts)
 names_of-third [] = omega arith
 names_of-third (text ∷ texts) =
-    let P : ℕ → Type 0 = λ bytes. AreNamesOf bytes (with_name (name_of text) (names_of texts)) in
+    let P : ℕ → Type 0 = λ bytes. AreNamesOf bytes (with_name (name_in text) (names_in texts)) in
     let sum : length text + (total texts + length texts) + 1 ≡ length text + total texts + suc (length texts) = omega arith in
-    subst P sum (with_name-third (length text) (total texts + length texts) (name_of text) (names_of texts) (name_of-third text) (names_of-third texts))
+    subst P sum (with_name-third (length text) (total texts + length texts) (name_in text) (names_in texts) (name_of-third text) (names_of-third texts))
 
 spread-sum : (names : List (List ℕ)) → spread names ≡ sum_by (λ part. 1 + length part) names
 spread-sum [] = refl
@@ -114,7 +114,7 @@ long_path [] long = absurd (omega arith)
 long_path (b ∷ []) long = absurd (omega arith)
 long_path (b ∷ c ∷ bytes) long =
     let all = parts_total 47 (c ∷ bytes) in
-    elim (nat_eq b 47) as (λ t. short_path (cond t (names_of (parts 47 (c ∷ bytes))) None) ≡ None) [
-      | true ↦ long_names (total (parts 47 (c ∷ bytes)) + length (parts 47 (c ∷ bytes))) (names_of (parts 47 (c ∷ bytes))) (omega (arith, all, long)) (names_of-third (parts 47 (c ∷ bytes)))
+    elim (nat_eq b 47) as (λ t. short_path (cond t (names_in (parts 47 (c ∷ bytes))) None) ≡ None) [
+      | true ↦ long_names (total (parts 47 (c ∷ bytes)) + length (parts 47 (c ∷ bytes))) (names_in (parts 47 (c ∷ bytes))) (omega (arith, all, long)) (names_of-third (parts 47 (c ∷ bytes)))
       | false ↦ refl
     ]

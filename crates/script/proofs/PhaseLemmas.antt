@@ -1,11 +1,11 @@
 -- The phases of a script, line by line.
 use Rattle.std.proofs.Common.{◌≡◌, ℕ, suc, ◌+◌, arith, List, [], ◌∷◌, ◌++◌, Some, Result, Ok, Err, refl, sym, ap, ◌∙◌, append_assoc, append-nil}
 use Rattle.script.specs.declared.commands.Line.{Line}
-use Rattle.script.specs.declared.verbs.Meaning.{Meaning}
-use Rattle.script.specs.declared.verbs.Meaning.TheVariants.{Skipped, Ends, Does}
-use Rattle.script.specs.Commands.{meaning_of}
+use Rattle.script.specs.declared.reading.line_kind.LineKind.{LineKind}
+use Rattle.script.specs.declared.reading.line_kind.LineKind.TheVariants.{Skipped, Ends, Does}
+use Rattle.script.specs.Commands.{kind_of_line}
 use Rattle.script.specs.Phases.{with_line, first_phase_longer, phases_from}
-use Rattle.script.specs.Drafts.{with_next}
+use Rattle.script.specs.NextLine.{with_next}
 use Rattle.script.specs.Lines.{lines}
 
 -- lines at the front of the first phase
@@ -31,7 +31,7 @@ front_nil [] = refl
 front_nil (phase ∷ phases) = refl
 
 -- one more line is read
-pub behind_more : (draft : List (List Line) × List Line) (number : ℕ) (meaning : Meaning) (later : Result (List (List Line)) ℕ) → behind draft (with_line number (Some meaning) later) ≡ behind (with_next meaning draft) later
+pub behind_more : (draft : List (List Line) × List Line) (number : ℕ) (meaning : LineKind) (later : Result (List (List Line)) ℕ) → behind draft (with_line number (Some meaning) later) ≡ behind (with_next meaning draft) later
 behind_more draft number meaning (Err later) = refl
 behind_more draft number Skipped (Ok phases) = refl
 behind_more draft number Ends (Ok phases) =
@@ -48,7 +48,7 @@ pub behind_all : (draft : List (List Line) × List Line) → behind draft (Ok ([
 behind_all draft = ap (λ lines. Ok (draft.0 ++ lines ∷ [])) (append-nil draft.1)
 
 -- one more line is read, by what it is
-pub read_more : (all : Result (List (List Line)) ℕ) (old new : List (List Line) × List Line) (number : ℕ) (meaning : Meaning) (line rest after : List ℕ) → all ≡ behind old (phases_from (number + 1) (lines rest)) → lines rest ≡ line ∷ lines after → Some meaning ≡ meaning_of line → new ≡ with_next meaning old → all ≡ behind new (phases_from (number + 1 + 1) (lines after))
+pub read_more : (all : Result (List (List Line)) ℕ) (old new : List (List Line) × List Line) (number : ℕ) (meaning : LineKind) (line rest after : List ℕ) → all ≡ behind old (phases_from (number + 1) (lines rest)) → lines rest ≡ line ∷ lines after → Some meaning ≡ kind_of_line line → new ≡ with_next meaning old → all ≡ behind new (phases_from (number + 1 + 1) (lines after))
 read_more all old new number meaning line rest after so_far split is added =
     so_far
     ∙ ap (λ lines. behind old (phases_from (number + 1) lines)) split

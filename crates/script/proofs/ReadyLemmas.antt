@@ -1,4 +1,5 @@
 -- What is read is within its bounds, and so are a worker's calls.
+use Rattle.std.specs.Prelude.{option_and_then}
 use Rattle.std.proofs.Common.{◌≡◌, ℕ, ◌≤◌, Bool, true, false, cond, ◌&&◌, List, [], ◌∷◌, filter, map, Option, Some, None, option_map, Result, Ok, Err, refl, sym, ap, subst, ◌∙◌, arith, nat_eq, nat_le, bytes_eq, codes}
 use Rattle.std.proofs.lemmas.Bool.Decides.{nat_tests}
 use Rattle.std.specs.List.{AllByRecursion}
@@ -8,17 +9,17 @@ use Rattle.sfs_tree.specs.declared.reply.Reply.TheVariants as reply
 use Rattle.script.specs.declared.commands.Command.{Command}
 use Rattle.script.specs.declared.commands.Command.TheVariants as command
 use Rattle.script.specs.declared.commands.Line.{Line}
-use Rattle.script.specs.declared.verbs.Meaning.{Meaning}
-use Rattle.script.specs.declared.verbs.Meaning.TheVariants.{Skipped, Ends, Does}
-use Rattle.script.specs.declared.verbs.Verb.{Verb}
-use Rattle.script.specs.declared.verbs.Verb.TheVariants.{Create, Mkdir, Link, Unlink, Rmdir, Rename, Write, Read, Trunc, Stat, List as Lists, Fsync}
-use Rattle.script.specs.Commands.{command_of, command_with, verb_of, worker_of, line_of, line_with, meaning_of, count_of, offset_of, root_flush, one, all_three}
+use Rattle.script.specs.declared.reading.line_kind.LineKind.{LineKind}
+use Rattle.script.specs.declared.reading.line_kind.LineKind.TheVariants.{Skipped, Ends, Does}
+use Rattle.script.specs.declared.reading.verbs.Verb.{Verb}
+use Rattle.script.specs.declared.reading.verbs.Verb.TheVariants.{Create, Mkdir, Link, Unlink, Rmdir, Rename, Write, Read, Trunc, Stat, List as Lists, Fsync}
+use Rattle.script.specs.Commands.{command_of, command_with, verb_of, worker_of, line_in, worker_line, kind_of_line, read_count, offset_of, root_path, flushed_path, one, all_three}
 use Rattle.script.specs.Words.{number_up_to, is_number, value_of}
 use Rattle.script.specs.Paths.{path_of}
 use Rattle.script.specs.Lines.{lines, words}
 use Rattle.script.specs.Phases.{phases_of, phases_from, with_line, with_meaning, first_phase_longer}
-use Rattle.script.specs.Walks.{Progress, First, Second, Last, Done, first_walk, second_walk, on_first, on_second, begun, after, Standing, go_on, started, taken, commands_of}
-use Rattle.script.specs.Ready.{MayRun, EndsWell, IsReady, StandsReady, LinesMayRun}
+use Rattle.script.specs.Walks.{WalkState, First, Second, Last, Done, first_walk, second_walk, on_first, on_second, begun, after, Position, go_on, started, taken, commands_of}
+use Rattle.script.specs.Ready.{MayRun, EndsWell, IsReady, PositionReady, LinesMayRun}
 
 on_second_ready : (command : Command) (first node : ℕ) (names : List (List ℕ)) → EndsWell command → IsReady (on_second command first node names)
 on_second_ready command first node [] well = well first node
@@ -40,9 +41,10 @@ begun_ready (command.Read path at count) may = on_first_ready (command.Read path
 begun_ready (command.Trunc path size) may = on_first_ready (command.Trunc path size) 0 (first_walk (command.Trunc path size)) (λ first second. tt)
 begun_ready (command.Stat path) may = on_first_ready (command.Stat path) 0 (first_walk (command.Stat path)) (λ first second. tt)
 begun_ready (command.List path) may = on_first_ready (command.List path) 0 (first_walk (command.List path)) (λ first second. tt)
-begun_ready command.Fsync may = refl
+begun_ready (command.Fsync []) may = refl
+begun_ready (command.Fsync (name ∷ names)) may = absurd (let never : name ∷ names ≡ [] = may in cc)
 
-after_ready : (progress : Progress) (reply : Reply) → IsReady progress → IsReady (after progress reply)
+after_ready : (walk : WalkState) (reply : Reply) → IsReady walk → IsReady (after walk reply)
 after_ready (First command node name names) (reply.Node child kind) ready = on_first_ready command child.0 names ready
 after_ready (First command node name names) _ ready = tt
 after_ready (Second command first node name names) (reply.Node child kind) ready = on_second_ready command first child.0 names ready
@@ -50,7 +52,7 @@ after_ready (Second command first node name names) _ ready = tt
 after_ready (Last call) reply ready = tt
 after_ready Done reply ready = tt
 
-go_on_ready : (progress : Progress) (commands : List Command) → IsReady progress → AllByRecursion MayRun commands → StandsReady (go_on progress commands)
+go_on_ready : (walk : WalkState) (commands : List Command) → IsReady walk → AllByRecursion MayRun commands → PositionReady (go_on walk commands)
 go_on_ready Done [] ready later = record { now = tt; later = tt }
 go_on_ready Done (command ∷ commands) ready later = record { now = begun_ready command later.0; later = later.1 }
 go_on_ready (First command node name names) commands ready later = record { now = ready; later = later }
@@ -58,8 +60,8 @@ go_on_ready (Second command first node name names) commands ready later = record
 go_on_ready (Last call) commands ready later = record { now = ready; later = later }
 
 -- a worker after one more reply
-pub taken_ready : (standing : Standing) (reply : Reply) → StandsReady standing → StandsReady (taken standing reply)
-taken_ready standing reply ready = go_on_ready (after standing.progress reply) standing.later (after_ready standing.progress reply ready.now) ready.later
+pub taken_ready : (position : Position) (reply : Reply) → PositionReady position → PositionReady (taken position reply)
+taken_ready position reply ready = go_on_ready (after position.walk reply) position.later (after_ready position.walk reply ready.now) ready.later
 
 commands_may : (worker : ℕ) (phase : List Line) → LinesMayRun phase → AllByRecursion MayRun (commands_of worker phase)
 commands_may worker [] may = tt
@@ -70,7 +72,7 @@ commands_may worker (line ∷ phase) may =
     ]
 
 -- a worker before its first call
-pub started_ready : (worker : ℕ) (phase : List Line) → LinesMayRun phase → StandsReady (started (commands_of worker phase))
+pub started_ready : (worker : ℕ) (phase : List Line) → LinesMayRun phase → PositionReady (started (commands_of worker phase))
 started_ready worker phase may = go_on_ready Done (commands_of worker phase) tt (commands_may worker phase may)
 
 -- a number that is read is at most the bound
@@ -107,16 +109,25 @@ other_may : {A : Type 0} (found : Option A) (make : A → Command) → ((a : A) 
 other_may (Some a) make may = may a
 other_may None make may = tt
 
-flush_may : (words : List (List ℕ)) → SomeMay (one root_flush words)
+root_path-root : (path : Option (List (List ℕ))) (root : List (List ℕ)) → option_and_then root_path path ≡ Some root → root ≡ []
+root_path-root (Some []) root e = cc
+root_path-root (Some (name ∷ names)) root e = absurd (let never : None ≡ Some root = e in cc)
+root_path-root None root e = absurd (let never : None ≡ Some root = e in cc)
+
+flush_may : (words : List (List ℕ)) → SomeMay (option_map command.Fsync (one flushed_path words))
 flush_may [] = tt
-flush_may (word ∷ []) = elim (bytes_eq word (codes "/")) as (λ t. SomeMay (cond t (Some command.Fsync) None)) [ true ↦ tt | false ↦ tt ]
+flush_may (word ∷ []) = found_may (flushed_path word) (root_path-root (path_of word))
+  where
+    found_may : (found : Option (List (List ℕ))) → ((root : List (List ℕ)) → found ≡ Some root → root ≡ []) → SomeMay (option_map command.Fsync found)
+    found_may (Some path) is = is path refl
+    found_may None is = tt
 flush_may (word ∷ other ∷ words) = tt
 
 reads_may : (words : List (List ℕ)) → SomeMay (command_of Read words)
 reads_may [] = tt
 reads_may (first ∷ []) = tt
 reads_may (first ∷ second ∷ []) = tt
-reads_may (first ∷ second ∷ third ∷ []) = read_may (path_of first) (offset_of second) (count_of third) (λ n e. number_within 65536 third n e)
+reads_may (first ∷ second ∷ third ∷ []) = read_may (path_of first) (offset_of second) (read_count third) (λ n e. number_within 65536 third n e)
 reads_may (first ∷ second ∷ third ∷ fourth ∷ words) = tt
 
 command_may : (verb : Verb) (words : List (List ℕ)) → SomeMay (command_of verb words)
@@ -138,7 +149,7 @@ abbrev LineMay : Option Line → Type 0
 LineMay (Some line) = MayRun line.command
 LineMay None = Unit {0}
 
-with_may : (worker : Option ℕ) (found : Option Command) → SomeMay found → LineMay (option_map line_with (option_zip worker found))
+with_may : (worker : Option ℕ) (found : Option Command) → SomeMay found → LineMay (option_map worker_line (option_zip worker found))
 with_may (Some worker) (Some command) may = may
 with_may (Some worker) None may = tt
 with_may None (Some command) may = tt
@@ -148,13 +159,13 @@ verb_may : (verb : Option Verb) (words : List (List ℕ)) → SomeMay (command_w
 verb_may (Some verb) words = command_may verb words
 verb_may None words = tt
 
-line_may : (words : List (List ℕ)) → LineMay (line_of words)
+line_may : (words : List (List ℕ)) → LineMay (line_in words)
 line_may [] = tt
 line_may (worker ∷ []) = tt
 line_may (worker ∷ verb ∷ words) = with_may (worker_of worker) (command_with (verb_of verb) words) (verb_may (verb_of verb) words)
 
 -- what a line is leads to a command that may run
-abbrev MeaningMay : Option Meaning → Type 0
+abbrev MeaningMay : Option LineKind → Type 0
 MeaningMay (Some (Does line)) = MayRun line.command
 MeaningMay (Some Skipped) = Unit {0}
 MeaningMay (Some Ends) = Unit {0}
@@ -164,14 +175,14 @@ does_may : (found : Option Line) → LineMay found → MeaningMay (option_map Do
 does_may (Some line) may = may
 does_may None may = tt
 
-meaning_may : (line : List ℕ) → MeaningMay (meaning_of line)
+meaning_may : (line : List ℕ) → MeaningMay (kind_of_line line)
 meaning_may [] = tt
 meaning_may (byte ∷ bytes) =
-    elim (nat_eq byte 35) as (λ t. MeaningMay (cond t (Some Skipped) (cond (bytes_eq (byte ∷ bytes) (codes "---")) (Some Ends) (option_map Does (line_of (words (byte ∷ bytes))))))) [
+    elim (nat_eq byte 35) as (λ t. MeaningMay (cond t (Some Skipped) (cond (bytes_eq (byte ∷ bytes) (codes "---")) (Some Ends) (option_map Does (line_in (words (byte ∷ bytes))))))) [
       | true ↦ tt
-      | false ↦ elim (bytes_eq (byte ∷ bytes) (codes "---")) as (λ t. MeaningMay (cond t (Some Ends) (option_map Does (line_of (words (byte ∷ bytes)))))) [
+      | false ↦ elim (bytes_eq (byte ∷ bytes) (codes "---")) as (λ t. MeaningMay (cond t (Some Ends) (option_map Does (line_in (words (byte ∷ bytes)))))) [
         | true ↦ tt
-        | false ↦ does_may (line_of (words (byte ∷ bytes))) (line_may (words (byte ∷ bytes)))
+        | false ↦ does_may (line_in (words (byte ∷ bytes))) (line_may (words (byte ∷ bytes)))
       ]
     ]
 
@@ -179,7 +190,7 @@ longer_may : (line : Line) (phases : List (List Line)) → MayRun line.command �
 longer_may line [] may all = ((may, tt), tt)
 longer_may line (phase ∷ phases) may all = ((may, all.0), all.1)
 
-added_may : (meaning : Meaning) (phases : List (List Line)) → MeaningMay (Some meaning) → AllByRecursion LinesMayRun phases → AllByRecursion LinesMayRun (with_meaning meaning phases)
+added_may : (meaning : LineKind) (phases : List (List Line)) → MeaningMay (Some meaning) → AllByRecursion LinesMayRun phases → AllByRecursion LinesMayRun (with_meaning meaning phases)
 added_may Skipped phases may all = all
 added_may Ends phases may all = (tt, all)
 added_may (Does line) phases may all = longer_may line phases may all
@@ -189,14 +200,14 @@ abbrev ReadMay : Result (List (List Line)) ℕ → Type 0
 ReadMay (Ok phases) = AllByRecursion LinesMayRun phases
 ReadMay (Err line) = Unit {0}
 
-with_line_may : (number : ℕ) (meaning : Option Meaning) (behind : Result (List (List Line)) ℕ) → MeaningMay meaning → ReadMay behind → ReadMay (with_line number meaning behind)
+with_line_may : (number : ℕ) (meaning : Option LineKind) (behind : Result (List (List Line)) ℕ) → MeaningMay meaning → ReadMay behind → ReadMay (with_line number meaning behind)
 with_line_may number None behind may all = tt
 with_line_may number (Some meaning) (Ok phases) may all = added_may meaning phases may all
 with_line_may number (Some meaning) (Err later) may all = tt
 
 from_may : (number : ℕ) (ls : List (List ℕ)) → ReadMay (phases_from number ls)
 from_may number [] = (tt, tt)
-from_may number (line ∷ later) = with_line_may number (meaning_of line) (phases_from (Rattle.std.proofs.Common.suc number) later) (meaning_may line) (from_may (Rattle.std.proofs.Common.suc number) later)
+from_may number (line ∷ later) = with_line_may number (kind_of_line line) (phases_from (Rattle.std.proofs.Common.suc number) later) (meaning_may line) (from_may (Rattle.std.proofs.Common.suc number) later)
 
 -- Every command of a script that is read is within its bounds.
 pub phases_may : (text : List ℕ) (phases : List (List Line)) → phases_of text ≡ Ok phases → AllByRecursion LinesMayRun phases

@@ -7,7 +7,7 @@ use Rattle.std.specs.List.{list_all, range_with_len}
 use Rattle.script.proofs.BoolLemmas.{and_first, and_second}
 use Rattle.percent_encoding.specs.Percent.{percent_encode, encode_byte, percent_encode_byte}
 use Rattle.percent_encoding.specs.AsciiSet.{should_percent_encode, contains}
-use Rattle.script.specs.declared.pieces.TheConstants.{ESCAPED}
+use Rattle.script.specs.declared.writing.arguments.TheConstants.{ESCAPED}
 use Rattle.sfs_tree.specs.declared.listing.NameKind.{NameKind}
 use Rattle.sfs_tree.specs.NameKinds.{name_kind}
 use Rattle.std.proofs.Common.{map}

@@ -2,7 +2,7 @@
 use Rattle.std.proofs.Common.{◌≡◌, ℕ, zero, suc, ◌<◌, ◌≤◌, true, false, cond, List, [], ◌∷◌, ◌-◌, length, take, drop, get_or, filter, map, refl, sym, ap, ◌∙◌, arith, nat_eq, eq-eqb}
 use borrow.Author.Tests.{ne_eqb}
 use Rattle.script.specs.declared.commands.Line.{Line}
-use Rattle.script.specs.Walks.{Standing, Progress, Done, begun, go_on, commands_of}
+use Rattle.script.specs.Walks.{Position, WalkState, Done, begun, go_on, commands_of}
 
 -- the commands of a worker in lines that begin with this one
 first_line : (number : ℕ) (line : Line) (lines : List Line) → commands_of number (line ∷ lines) ≡ cond (nat_eq line.worker number) (line.command ∷ commands_of number lines) (commands_of number lines)
@@ -32,18 +32,18 @@ past_last (line ∷ lines) zero within = absurd (omega arith)
 past_last (line ∷ lines) (suc place) within = past_last lines place (omega arith)
 
 -- where a worker stands
-abbrev stand : ℕ → Progress → List Line → Standing
-stand number progress lines = record { progress = progress; later = commands_of number lines }
+abbrev stand : ℕ → WalkState → List Line → Position
+stand number walk lines = record { walk = walk; later = commands_of number lines }
 
 -- a worker at a line of its own
-pub at_own : (number : ℕ) (lines rest : List Line) (place next : ℕ) (line : Line) (progress : Progress) → place < length lines → line ≡ get_or lines place line → line.worker ≡ number → commands_of number lines ≡ commands_of number (drop place lines) → progress ≡ begun line.command → rest ≡ drop next lines → next ≡ suc place → ◌≡◌ {A = Standing} (record { progress = progress; later = commands_of number rest }) (go_on Done (commands_of number lines))
-at_own number lines rest place next line progress within is own so_far begins behind one_more =
+pub at_own : (number : ℕ) (lines rest : List Line) (place next : ℕ) (line : Line) (walk : WalkState) → place < length lines → line ≡ get_or lines place line → line.worker ≡ number → commands_of number lines ≡ commands_of number (drop place lines) → walk ≡ begun line.command → rest ≡ drop next lines → next ≡ suc place → ◌≡◌ {A = Position} (record { walk = walk; later = commands_of number rest }) (go_on Done (commands_of number lines))
+at_own number lines rest place next line walk within is own so_far begins behind one_more =
     ap (λ p. stand number p rest) begins
     ∙ ap (stand number (begun line.command)) (behind ∙ ap (λ n. drop n lines) one_more)
     ∙ sym (ap (go_on Done) (so_far ∙ found number lines place line within is own))
 
 -- a worker past the last line
-pub at_end : (number : ℕ) (lines rest : List Line) (place : ℕ) → length lines ≤ place → commands_of number lines ≡ commands_of number (drop place lines) → rest ≡ [] → ◌≡◌ {A = Standing} (record { progress = Done; later = commands_of number rest }) (go_on Done (commands_of number lines))
+pub at_end : (number : ℕ) (lines rest : List Line) (place : ℕ) → length lines ≤ place → commands_of number lines ≡ commands_of number (drop place lines) → rest ≡ [] → ◌≡◌ {A = Position} (record { walk = Done; later = commands_of number rest }) (go_on Done (commands_of number lines))
 at_end number lines rest place past so_far none =
     ap (stand number Done) none ∙ sym (ap (go_on Done) (so_far ∙ ap (commands_of number) (past_last lines place past)))
 

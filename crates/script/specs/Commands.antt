@@ -1,15 +1,15 @@
 -- The command of a line.
-use Rattle.std.specs.Prelude.{ℕ, ◌^◌, ◌-◌, ◌==◌, List, [], ◌∷◌, codes, bytes_eq, option_map, Option, Some, None, if◌then◌else◌}
+use Rattle.std.specs.Prelude.{ℕ, ◌^◌, ◌-◌, ◌==◌, List, [], ◌∷◌, codes, bytes_eq, option_map, option_and_then, Option, Some, None, if◌then◌else◌}
 use Rattle.std.specs.Option.{option_zip}
 use Rattle.script.specs.declared.commands.Command.{Command}
 use Rattle.script.specs.declared.commands.Command.TheVariants as command
 use Rattle.script.specs.declared.commands.Line.{Line}
-use Rattle.script.specs.declared.verbs.Verb.{Verb}
-use Rattle.script.specs.declared.verbs.Verb.TheVariants.{Create, Mkdir, Link, Unlink, Rmdir, Rename, Write, Read, Trunc, Stat, List as Lists, Fsync}
-use Rattle.script.specs.declared.verbs.Meaning.{Meaning}
-use Rattle.script.specs.declared.verbs.Meaning.TheVariants.{Skipped, Ends, Does}
+use Rattle.script.specs.declared.reading.verbs.Verb.{Verb}
+use Rattle.script.specs.declared.reading.verbs.Verb.TheVariants.{Create, Mkdir, Link, Unlink, Rmdir, Rename, Write, Read, Trunc, Stat, List as Lists, Fsync}
+use Rattle.script.specs.declared.reading.line_kind.LineKind.{LineKind}
+use Rattle.script.specs.declared.reading.line_kind.LineKind.TheVariants.{Skipped, Ends, Does}
 use Rattle.script.specs.Lines.{words}
-use Rattle.script.specs.Words.{number_up_to, bytes_of}
+use Rattle.script.specs.Words.{number_up_to, hex_bytes}
 use Rattle.script.specs.Paths.{path_of, name_path_of}
 
 -- the word of a command
@@ -34,8 +34,8 @@ abbrev pub offset_of : List ℕ → Option ℕ
 offset_of word = number_up_to (2 ^ 64 - 1) word
 
 -- how many bytes are read: up to 65,536
-abbrev pub count_of : List ℕ → Option ℕ
-count_of word = number_up_to 65536 word
+abbrev pub read_count : List ℕ → Option ℕ
+read_count word = number_up_to 65536 word
 
 -- three values, where all are there
 abbrev pub all_three : {A B C : Type 0} → Option A → Option B → Option C → Option (A × B × C)
@@ -59,9 +59,14 @@ abbrev pub three : {A B C : Type 0} → (List ℕ → Option A) → (List ℕ �
 three read_first read_second read_third (first ∷ second ∷ third ∷ []) = all_three (read_first first) (read_second second) (read_third third)
 three read_first read_second read_third _ = None
 
--- an fsync of the root, the one node whose rows the disk of this stage keeps
-abbrev pub root_flush : List ℕ → Option Command
-root_flush word = if bytes_eq word (codes "/") then Some command.Fsync else None
+-- a path that an fsync may have: the root's, the one node whose rows the disk keeps
+abbrev pub root_path : List (List ℕ) → Option (List (List ℕ))
+root_path [] = Some []
+root_path (name ∷ names) = None
+
+-- what an fsync's word spells
+abbrev pub flushed_path : List ℕ → Option (List (List ℕ))
+flushed_path word = option_and_then root_path (path_of word)
 
 -- The command of a verb and the words behind it.
 abbrev pub command_of : Verb → List (List ℕ) → Option Command
@@ -71,20 +76,20 @@ command_of Link words = option_map (λ read. command.Link read.0 read.1) (two pa
 command_of Unlink words = option_map command.Unlink (one name_path_of words)
 command_of Rmdir words = option_map command.Rmdir (one name_path_of words)
 command_of Rename words = option_map (λ read. command.Rename read.0 read.1) (two name_path_of name_path_of words)
-command_of Write words = option_map (λ read. command.Write read.0 read.1 read.2) (three path_of offset_of bytes_of words)
-command_of Read words = option_map (λ read. command.Read read.0 read.1 read.2) (three path_of offset_of count_of words)
+command_of Write words = option_map (λ read. command.Write read.0 read.1 read.2) (three path_of offset_of hex_bytes words)
+command_of Read words = option_map (λ read. command.Read read.0 read.1 read.2) (three path_of offset_of read_count words)
 command_of Trunc words = option_map (λ read. command.Trunc read.0 read.1) (two path_of offset_of words)
 command_of Stat words = option_map command.Stat (one path_of words)
 command_of Lists words = option_map command.List (one path_of words)
-command_of Fsync words = one root_flush words
+command_of Fsync words = option_map command.Fsync (one flushed_path words)
 
 -- a worker's number: up to 65,535
 abbrev pub worker_of : List ℕ → Option ℕ
 worker_of word = number_up_to 65535 word
 
 -- a line with a worker and a command
-abbrev pub line_with : ℕ × Command → Line
-line_with read = record { worker = read.0; command = read.1 }
+abbrev pub worker_line : ℕ × Command → Line
+worker_line read = record { worker = read.0; command = read.1 }
 
 -- the command of a verb, where the word is one
 abbrev pub command_with : Option Verb → List (List ℕ) → Option Command
@@ -92,19 +97,19 @@ command_with (Some verb) words = command_of verb words
 command_with None words = None
 
 -- a worker, a command's word and the words behind it
-abbrev pub line_of : List (List ℕ) → Option Line
-line_of (worker ∷ verb ∷ words) = option_map line_with (option_zip (worker_of worker) (command_with (verb_of verb) words))
-line_of (worker ∷ []) = None
-line_of [] = None
+abbrev pub line_in : List (List ℕ) → Option Line
+line_in (worker ∷ verb ∷ words) = option_map worker_line (option_zip (worker_of worker) (command_with (verb_of verb) words))
+line_in (worker ∷ []) = None
+line_in [] = None
 
 -- what a line with bytes is: a comment where it begins with `#`, the end of a phase where it is `---`, and else a worker's command
-abbrev pub meaning_of_some : ℕ → List ℕ → Option Meaning
-meaning_of_some byte bytes =
+abbrev pub kind_of_filled_line : ℕ → List ℕ → Option LineKind
+kind_of_filled_line byte bytes =
     if byte == 35 then Some Skipped else
     if bytes_eq (byte ∷ bytes) (codes "---") then Some Ends else
-    option_map Does (line_of (words (byte ∷ bytes)))
+    option_map Does (line_in (words (byte ∷ bytes)))
 
 -- What a line is: an empty one is skipped; None is outside the grammar.
-abbrev pub meaning_of : List ℕ → Option Meaning
-meaning_of [] = Some Skipped
-meaning_of (byte ∷ bytes) = meaning_of_some byte bytes
+abbrev pub kind_of_line : List ℕ → Option LineKind
+kind_of_line [] = Some Skipped
+kind_of_line (byte ∷ bytes) = kind_of_filled_line byte bytes

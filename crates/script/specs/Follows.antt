@@ -7,8 +7,8 @@ use Rattle.script.specs.declared.commands.Line.{Line}
 use Rattle.script.specs.Walks.{next_call, commands_of}
 
 -- the entries of one core
-abbrev pub entries_of : ℕ → List Entry → List Entry
-entries_of core history = filter (λ entry. entry.core.0 == core) history
+abbrev pub core_entries : ℕ → List Entry → List Entry
+core_entries core history = filter (λ entry. entry.core.0 == core) history
 
 -- the replies of entries
 abbrev pub replies_of : List Entry → List Reply
@@ -25,32 +25,32 @@ abbrev pub Makes : List Command → List Entry → Type 0
 Makes commands entries = MakesBehind commands [] entries
 
 -- entries are all calls of a worker with these commands, one by one, and then the end
-pub record Ends (commands : List Command) (entries : List Entry) : Type 0 where
+pub record MakesAll (commands : List Command) (entries : List Entry) : Type 0 where
   pub makes : Makes commands entries
   pub ended : next_call commands (replies_of entries) ≡ None
 
 -- in this part of a history each worker made the calls of its commands up to its end
-abbrev pub IsWhole : List Line → List Entry → Type 0
-IsWhole phase part = (core : ℕ) → Ends (commands_of core phase) (entries_of core part)
+abbrev pub IsWholePhase : List Line → List Entry → Type 0
+IsWholePhase phase part = (core : ℕ) → MakesAll (commands_of core phase) (core_entries core part)
 
 -- in this part of a history each worker made calls of its commands
-abbrev pub IsPart : List Line → List Entry → Type 0
-IsPart phase part = (core : ℕ) → Makes (commands_of core phase) (entries_of core part)
+abbrev pub IsPartOfPhase : List Line → List Entry → Type 0
+IsPartOfPhase phase part = (core : ℕ) → Makes (commands_of core phase) (core_entries core part)
 
 -- a history is cut in two: the first part is a whole phase, and this holds of the rest
-pub record IsCut (phase : List Line) (Holds : List Entry → Type 0) (history : List Entry) : Type 0 where
+pub record BeginsWithPhase (phase : List Line) (Holds : List Entry → Type 0) (history : List Entry) : Type 0 where
   pub part : List Entry
   pub rest : List Entry
   pub joined : history ≡ part ++ rest
-  pub whole : IsWhole phase part
+  pub whole : IsWholePhase phase part
   pub holds : Holds rest
 
 -- A history follows phases: it is cut in order into one part for each, in which each worker came to its end.
 abbrev pub Follows : List (List Line) → List Entry → Type 0
 Follows [] history = history ≡ []
-Follows (phase ∷ phases) history = IsCut phase (Follows phases) history
+Follows (phase ∷ phases) history = BeginsWithPhase phase (Follows phases) history
 
 -- A history follows phases so far: there may be fewer parts than phases, and in the last one the workers may have calls left.
 abbrev pub FollowsSoFar : List (List Line) → List Entry → Type 0
 FollowsSoFar [] history = history ≡ []
-FollowsSoFar (phase ∷ phases) history = IsPart phase history ⊎ IsCut phase (FollowsSoFar phases) history
+FollowsSoFar (phase ∷ phases) history = IsPartOfPhase phase history ⊎ BeginsWithPhase phase (FollowsSoFar phases) history

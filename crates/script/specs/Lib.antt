@@ -1,9 +1,9 @@
 pub mod Commands
-pub mod Drafts
 pub mod Faults
 pub mod Follows
 pub mod Limits
 pub mod Lines
+pub mod NextLine
 pub mod Paths
 pub mod Phases
 pub mod Places

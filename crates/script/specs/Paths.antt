@@ -26,8 +26,8 @@ is_name_text [] = true
 is_name_text (byte ∷ text) = may_stand byte text && is_name_text text
 
 -- The name that a text spells: `%` and two digits stand for that byte, any other byte for itself; and it has to be a name.
-abbrev pub name_of : List ℕ → Option (List ℕ)
-name_of text = if is_name_text text && is_none (name_fault (percent_decode text)) then Some (percent_decode text) else None
+abbrev pub name_in : List ℕ → Option (List ℕ)
+name_in text = if is_name_text text && is_none (name_fault (percent_decode text)) then Some (percent_decode text) else None
 
 -- a name before others, where all are names
 abbrev pub with_name : Option (List ℕ) → Option (List (List ℕ)) → Option (List (List ℕ))
@@ -36,14 +36,14 @@ with_name (Some name) None = None
 with_name None names = None
 
 -- the names that these texts spell, where all are names
-abbrev pub names_of : List (List ℕ) → Option (List (List ℕ))
-names_of [] = Some []
-names_of (text ∷ texts) = with_name (name_of text) (names_of texts)
+abbrev pub names_in : List (List ℕ) → Option (List (List ℕ))
+names_in [] = Some []
+names_in (text ∷ texts) = with_name (name_in text) (names_in texts)
 
 -- what stands behind the first `/`: nothing, for the root; or texts of names, parted by `/`
 abbrev pub names_behind : List ℕ → Option (List (List ℕ))
 names_behind [] = Some []
-names_behind (byte ∷ bytes) = names_of (parts 47 (byte ∷ bytes))
+names_behind (byte ∷ bytes) = names_in (parts 47 (byte ∷ bytes))
 
 -- the names of a path of any length: it begins with `/`
 abbrev pub path_names : List ℕ → Option (List (List ℕ))

@@ -1,9 +1,9 @@
 -- The phases of a script.
 use Rattle.std.specs.Prelude.{ℕ, suc, List, [], ◌∷◌, Option, Some, None, Result, Ok, Err}
 use Rattle.script.specs.declared.commands.Line.{Line}
-use Rattle.script.specs.declared.verbs.Meaning.{Meaning}
-use Rattle.script.specs.declared.verbs.Meaning.TheVariants.{Skipped, Ends, Does}
-use Rattle.script.specs.Commands.{meaning_of}
+use Rattle.script.specs.declared.reading.line_kind.LineKind.{LineKind}
+use Rattle.script.specs.declared.reading.line_kind.LineKind.TheVariants.{Skipped, Ends, Does}
+use Rattle.script.specs.Commands.{kind_of_line}
 use Rattle.script.specs.Lines.{lines}
 
 -- phases, the first of which has one more line at its front
@@ -12,13 +12,13 @@ first_phase_longer line [] = (line ∷ []) ∷ []
 first_phase_longer line (phase ∷ phases) = (line ∷ phase) ∷ phases
 
 -- a line's effect on the phases behind it
-abbrev pub with_meaning : Meaning → List (List Line) → List (List Line)
+abbrev pub with_meaning : LineKind → List (List Line) → List (List Line)
 with_meaning Skipped phases = phases
 with_meaning Ends phases = [] ∷ phases
 with_meaning (Does line) phases = first_phase_longer line phases
 
 -- a line with the phases behind it, or the line's number where it is outside the grammar
-abbrev pub with_line : ℕ → Option Meaning → Result (List (List Line)) ℕ → Result (List (List Line)) ℕ
+abbrev pub with_line : ℕ → Option LineKind → Result (List (List Line)) ℕ → Result (List (List Line)) ℕ
 with_line number None behind = Err number
 with_line number (Some meaning) (Ok phases) = Ok (with_meaning meaning phases)
 with_line number (Some meaning) (Err later) = Err later
@@ -26,7 +26,7 @@ with_line number (Some meaning) (Err later) = Err later
 -- the phases of these lines, the first of which has this number, or the number of the first line outside the grammar
 abbrev pub phases_from : ℕ → List (List ℕ) → Result (List (List Line)) ℕ
 phases_from number [] = Ok ([] ∷ [])
-phases_from number (line ∷ later) = with_line number (meaning_of line) (phases_from (suc number) later)
+phases_from number (line ∷ later) = with_line number (kind_of_line line) (phases_from (suc number) later)
 
 -- The phases of a script, or its first line outside the grammar, counted from 1. The last phase is there even where it has no lines.
 abbrev pub phases_of : List ℕ → Result (List (List Line)) ℕ

@@ -1,21 +1,23 @@
 -- Commands and calls within their bounds: a read asks for at most 65,536 bytes, and an fsync is of the root.
-use Rattle.std.specs.Prelude.{◌≡◌, ℕ, ◌≤◌, List}
+use Rattle.std.specs.Prelude.{◌≡◌, ℕ, ◌≤◌, List, []}
 use Rattle.std.specs.List.{AllByRecursion}
+use Rattle.sfs_base.specs.declared.chunk.TheConstants.{LONGEST_CHUNK}
 use Rattle.sfs_tree.specs.declared.call.Call.{Call}
 use Rattle.sfs_tree.specs.declared.call.Call.TheVariants as call
 use Rattle.script.specs.declared.commands.Command.{Command}
 use Rattle.script.specs.declared.commands.Command.TheVariants as command
 use Rattle.script.specs.declared.commands.Line.{Line}
-use Rattle.script.specs.Walks.{Progress, First, Second, Last, Done, last_call, Standing}
+use Rattle.script.specs.Walks.{WalkState, First, Second, Last, Done, last_call, Position}
 
 -- a command within its bounds
 abbrev pub MayRun : Command → Type 0
-MayRun (command.Read path at count) = count ≤ 65536
+MayRun (command.Read path at count) = count ≤ LONGEST_CHUNK
+MayRun (command.Fsync path) = path ≡ []
 MayRun _ = Unit {0}
 
 -- a call within its bounds
 abbrev pub MayCall : Call → Type 0
-MayCall (call.Read file at count) = count ≤ 65536
+MayCall (call.Read file at count) = count ≤ LONGEST_CHUNK
 MayCall (call.Fsync node) = node.0 ≡ 0
 MayCall _ = Unit {0}
 
@@ -24,16 +26,16 @@ abbrev pub EndsWell : Command → Type 0
 EndsWell command = (first second : ℕ) → MayCall (last_call command first second)
 
 -- what is left of a command leads to calls within their bounds
-abbrev pub IsReady : Progress → Type 0
+abbrev pub IsReady : WalkState → Type 0
 IsReady (First command node name names) = EndsWell command
 IsReady (Second command first node name names) = EndsWell command
 IsReady (Last call) = MayCall call
 IsReady Done = Unit {0}
 
 -- a worker whose calls are within their bounds
-pub record StandsReady (standing : Standing) : Type 0 where
-  pub now : IsReady standing.progress
-  pub later : AllByRecursion MayRun standing.later
+pub record PositionReady (position : Position) : Type 0 where
+  pub now : IsReady position.walk
+  pub later : AllByRecursion MayRun position.later
 
 -- each line's command is within its bounds
 abbrev pub LinesMayRun : List Line → Type 0

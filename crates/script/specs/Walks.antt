@@ -24,7 +24,7 @@ first_walk (Read path at count) = path
 first_walk (Trunc path size) = path
 first_walk (Stat path) = path
 first_walk (Lists path) = path
-first_walk Fsync = []
+first_walk (Fsync path) = path
 
 -- the names that a command walks then, from the root on: a link and a rename have a second place
 abbrev pub second_walk : Command → List (List ℕ)
@@ -33,55 +33,55 @@ second_walk (Rename from to) = parent to
 second_walk _ = []
 
 -- a node by its number
-abbrev pub node_of : ℕ → NodeId
-node_of number = record { 0 = number }
+abbrev pub node_id : ℕ → NodeId
+node_id number = record { 0 = number }
 
 -- the last call of a command, by the nodes where its walks ended
 abbrev pub last_call : Command → ℕ → ℕ → Call
-last_call (Create path) first second = call.Make (node_of first) (last_name path) File
-last_call (Mkdir path) first second = call.Make (node_of first) (last_name path) Directory
-last_call (Link from to) first second = call.Link (node_of first) (node_of second) (last_name to)
-last_call (Unlink path) first second = call.Unlink (node_of first) (last_name path)
-last_call (Rmdir path) first second = call.Rmdir (node_of first) (last_name path)
-last_call (Rename from to) first second = call.Rename (node_of first) (last_name from) (node_of second) (last_name to)
-last_call (Write path at bytes) first second = call.Write (node_of first) at bytes
-last_call (Read path at count) first second = call.Read (node_of first) at count
-last_call (Trunc path size) first second = call.Trunc (node_of first) size
-last_call (Stat path) first second = call.Stat (node_of first)
-last_call (Lists path) first second = call.List (node_of first)
-last_call Fsync first second = call.Fsync (node_of first)
+last_call (Create path) first second = call.Make (node_id first) (last_name path) File
+last_call (Mkdir path) first second = call.Make (node_id first) (last_name path) Directory
+last_call (Link from to) first second = call.Link (node_id first) (node_id second) (last_name to)
+last_call (Unlink path) first second = call.Unlink (node_id first) (last_name path)
+last_call (Rmdir path) first second = call.Rmdir (node_id first) (last_name path)
+last_call (Rename from to) first second = call.Rename (node_id first) (last_name from) (node_id second) (last_name to)
+last_call (Write path at bytes) first second = call.Write (node_id first) at bytes
+last_call (Read path at count) first second = call.Read (node_id first) at count
+last_call (Trunc path size) first second = call.Trunc (node_id first) size
+last_call (Stat path) first second = call.Stat (node_id first)
+last_call (Lists path) first second = call.List (node_id first)
+last_call (Fsync path) first second = call.Fsync (node_id first)
 
 -- What is left of a command: a name to look up in a node, and names behind it, on its first walk or, after that ended at a node,
 -- on its second; or the last call; or nothing.
-pub data Progress : Type 0 where
-  First : (command : Command) (node : ℕ) (name : List ℕ) (names : List (List ℕ)) → Progress
-  Second : (command : Command) (first : ℕ) (node : ℕ) (name : List ℕ) (names : List (List ℕ)) → Progress
-  Last : (call : Call) → Progress
-  Done : Progress
+pub data WalkState : Type 0 where
+  First : (command : Command) (node : ℕ) (name : List ℕ) (names : List (List ℕ)) → WalkState
+  Second : (command : Command) (first : ℕ) (node : ℕ) (name : List ℕ) (names : List (List ℕ)) → WalkState
+  Last : (call : Call) → WalkState
+  Done : WalkState
 
 -- what is left on the second walk, at a node with these names ahead
-abbrev pub on_second : Command → ℕ → ℕ → List (List ℕ) → Progress
+abbrev pub on_second : Command → ℕ → ℕ → List (List ℕ) → WalkState
 on_second command first node (name ∷ names) = Second command first node name names
 on_second command first node [] = Last (last_call command first node)
 
 -- what is left on the first walk, at a node with these names ahead; the second walk begins at the root
-abbrev pub on_first : Command → ℕ → List (List ℕ) → Progress
+abbrev pub on_first : Command → ℕ → List (List ℕ) → WalkState
 on_first command node (name ∷ names) = First command node name names
 on_first command node [] = on_second command node 0 (second_walk command)
 
 -- what is left of a command before its first call
-abbrev pub begun : Command → Progress
+abbrev pub begun : Command → WalkState
 begun command = on_first command 0 (first_walk command)
 
 -- the next call of a command, if one is left
-abbrev pub call_of : Progress → Option Call
-call_of (First command node name names) = Some (call.Look (node_of node) name)
-call_of (Second command first node name names) = Some (call.Look (node_of node) name)
+abbrev pub call_of : WalkState → Option Call
+call_of (First command node name names) = Some (call.Look (node_id node) name)
+call_of (Second command first node name names) = Some (call.Look (node_id node) name)
 call_of (Last call) = Some call
 call_of Done = None
 
 -- what is left after a reply: a walk goes on in the node that it names, and any other reply ends the command, as does one to the last call
-abbrev pub after : Progress → Reply → Progress
+abbrev pub after : WalkState → Reply → WalkState
 after (First command node name names) (reply.Node child kind) = on_first command child.0 names
 after (First command node name names) _ = Done
 after (Second command first node name names) (reply.Node child kind) = on_second command first child.0 names
@@ -90,31 +90,31 @@ after (Last call) _ = Done
 after Done _ = Done
 
 -- where a worker stands: what is left of the command at hand, and the commands behind it
-pub record Standing : Type 0 where
-  pub progress : Progress
+pub record Position : Type 0 where
+  pub walk : WalkState
   pub later : List Command
 
 -- a command of which nothing is left gives way to the next
-abbrev pub go_on : Progress → List Command → Standing
-go_on Done (command ∷ commands) = record { progress = begun command; later = commands }
-go_on Done [] = record { progress = Done; later = [] }
-go_on progress commands = record { progress = progress; later = commands }
+abbrev pub go_on : WalkState → List Command → Position
+go_on Done (command ∷ commands) = record { walk = begun command; later = commands }
+go_on Done [] = record { walk = Done; later = [] }
+go_on walk commands = record { walk = walk; later = commands }
 
 -- a worker before its first call
-abbrev pub started : List Command → Standing
+abbrev pub started : List Command → Position
 started commands = go_on Done commands
 
 -- a worker after one more reply
-abbrev pub taken : Standing → Reply → Standing
-taken standing reply = go_on (after standing.progress reply) standing.later
+abbrev pub taken : Position → Reply → Position
+taken position reply = go_on (after position.walk reply) position.later
 
 -- a worker after these replies
-abbrev pub standing_after : List Command → List Reply → Standing
-standing_after commands replies = fold taken (started commands) replies
+abbrev pub position_after : List Command → List Reply → Position
+position_after commands replies = fold taken (started commands) replies
 
 -- The next call of a worker with these commands after these replies, or its end.
 abbrev pub next_call : List Command → List Reply → Option Call
-next_call commands replies = call_of (standing_after commands replies).progress
+next_call commands replies = call_of (position_after commands replies).walk
 
 -- The commands of a worker in a phase, in order.
 abbrev pub commands_of : ℕ → List Line → List Command

@@ -36,8 +36,8 @@ abbrev pub MOST_DIGITS : ℕ
 MOST_DIGITS = 131072
 
 -- The bytes that a word spells: none by `-`, and else by an even number of hex digits of either case, 2 to 131,072 of them.
-abbrev pub bytes_of : List ℕ → Option (List ℕ)
-bytes_of word =
+abbrev pub hex_bytes : List ℕ → Option (List ℕ)
+hex_bytes word =
     if bytes_eq word (codes "-") then Some [] else
     if nat_le 2 (length word) && nat_le (length word) MOST_DIGITS then decoded (decode_of word) else
     None

@@ -75,7 +75,7 @@ pub enum Command {
     /// Asks for the names in a directory.
     List { path: Path },
     /// Brings a node's changes to the disk.
-    Fsync,
+    Fsync { path: Path },
 }
 
 /// A command and the worker that runs it.

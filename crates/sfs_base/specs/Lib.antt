@@ -4,4 +4,5 @@ pub mod Lists
 pub mod Memory
 pub mod Name
 pub mod Path
+pub mod StdEnds
 pub mod Transfer

@@ -1,6 +1,7 @@
-ghost use Rattle.std.specs.Prelude.{◌≡◌, ◌⊎◌, ◌-◌, ◌+◌, ◌<◌, ◌≤◌, [], Some, length, take, max, Contains, IsErr, IfOk, OnOk, OnErr, is_ok};
-ghost use Rattle.sfs_base.specs.Ends.{with_added, HasCause};
-ghost use Rattle.sfs_base.specs.Memory.{after_call};
+ghost use Rattle.std.specs.Prelude.{◌≡◌, ◌<◌, ◌≤◌, [], Some, length, take, max, IfOk, OnOk, OnErr};
+ghost use Rattle.std.specs.Io.KnownBytes.{Appends, Keeps};
+ghost use Rattle.sfs_base.specs.Ends.{HasCause};
+ghost use Rattle.sfs_base.specs.Memory.{IsPlannedWrite};
 
 use crate::plan::FaultPlan;
 use crate::{Failed, NoMemory, Sink};
@@ -75,16 +76,10 @@ impl Sink for BytesSink {
         ensures some { IfOk result (λ count. 0 < count) }
         ensures within { IfOk result (λ count. count ≤ length from.now) }
         ensures written { IfOk result (λ count.
-            Some self.new.written ≡ with_added (take count from.now) (Some self.old.written)) }
-        ensures err { OnErr result (Some self.new.written ≡ Some self.old.written) }
+            Appends (Some self.old.written) (Some self.new.written) (take count from.now)) }
+        ensures err { OnErr result (Keeps (Some self.old.written) (Some self.new.written)) }
         ensures cause { HasCause self.old.plan.faults self.new.plan.faults result }
-        ensures whole { IfOk result (λ count. count ≡ length from.now) }
-        ensures listed { Contains self.old.plan.fails self.old.plan.calls → IsErr result }
-        ensures unlisted { IsErr result
-            → Contains self.old.plan.fails self.old.plan.calls ⊎ self.old.spare < length from.now }
-        ensures spare { IfOk result (λ count. self.new.spare ≡ self.old.spare - count) }
-        ensures spare_kept { OnErr result (self.new.spare ≡ self.old.spare) }
-        ensures counted { self.new.plan ≡ after_call self.old.plan (is_ok result) }
+        ensures planned { IsPlannedWrite self.old self.new (length from.now) result }
     {
         self.plan.next()?;
         if self.written.extend_from_slice(from).is_err() {

@@ -1,6 +1,7 @@
-ghost use Rattle.std.specs.Prelude.{◌≡◌, ◌<◌, ◌≤◌, ◌↔◌, List, [], ℕ, Some, length, take, min, Contains, IsErr, IsOk, IfOk, IfSome, OnErr, is_ok};
-ghost use Rattle.sfs_base.specs.Ends.{Takes, HasCause};
-ghost use Rattle.sfs_base.specs.Memory.{after_call};
+ghost use Rattle.std.specs.Prelude.{◌≡◌, ◌<◌, ◌≤◌, ◌↔◌, List, [], ℕ, Some, length, take, min, IsOk, IfOk, IfSome, OnErr};
+ghost use Rattle.std.specs.Io.KnownBytes.{Consumes, Keeps};
+ghost use Rattle.sfs_base.specs.Ends.{HasCause};
+ghost use Rattle.sfs_base.specs.Memory.{IsPlannedRead};
 
 use crate::plan::FaultPlan;
 use crate::{Failed, Source};
@@ -41,10 +42,10 @@ impl Source for SureSource {
         requires { 0 < length into.old }
         ensures within { IfOk result (λ count. count ≤ length into.new) }
         ensures taken { IfOk result (λ count.
-            Takes (Some self.old) (take count into.new) (Some self.new)) }
+            Consumes (Some self.old) (Some self.new) (take count into.new)) }
         ensures end { IfOk result (λ count. IfSome (Some self.old) (λ bytes.
             (count ≡ 0) ↔ (bytes ≡ []))) }
-        ensures err { OnErr result (Some self.new ≡ Some self.old) }
+        ensures err { OnErr result (Keeps (Some self.old) (Some self.new)) }
         ensures cause { HasCause 0 0 result }
         ensures sure { IsOk result }
         ensures moved { IfOk result (λ count. count ≡ min (length into.old) (length self.old)) }
@@ -99,15 +100,12 @@ impl Source for BytesSource {
         requires { 0 < length into.old }
         ensures within { IfOk result (λ count. count ≤ length into.new) }
         ensures taken { IfOk result (λ count.
-            Takes (Some self.old.left) (take count into.new) (Some self.new.left)) }
+            Consumes (Some self.old.left) (Some self.new.left) (take count into.new)) }
         ensures end { IfOk result (λ count. IfSome (Some self.old.left) (λ bytes.
             (count ≡ 0) ↔ (bytes ≡ []))) }
-        ensures err { OnErr result (Some self.new.left ≡ Some self.old.left) }
+        ensures err { OnErr result (Keeps (Some self.old.left) (Some self.new.left)) }
         ensures cause { HasCause self.old.plan.faults self.new.plan.faults result }
-        ensures moved { IfOk result (λ count.
-            count ≡ min (length into.old) (length self.old.left)) }
-        ensures listed { IsErr result ↔ Contains self.old.plan.fails self.old.plan.calls }
-        ensures counted { self.new.plan ≡ after_call self.old.plan (is_ok result) }
+        ensures planned { IsPlannedRead self.old self.new (length into.old) result }
     {
         self.plan.next()?;
         self.inner.read(into)

@@ -1,5 +1,5 @@
 ghost use Rattle.std.specs.Prelude.{◌≡◌, ◌≤◌, ◌↔◌, Contains, IsErr, OnErr, is_ok};
-ghost use Rattle.sfs_base.specs.Ends.{Rose};
+ghost use Rattle.sfs_base.specs.Ends.{HasRisen};
 ghost use Rattle.sfs_base.specs.Memory.{after_call, raised};
 
 use crate::Failed;
@@ -49,7 +49,7 @@ impl FaultPlan {
         ensures listed { IsErr result ↔ Contains self.old.fails self.old.calls }
         ensures counted { self.new ≡ after_call self.old (is_ok result) }
         ensures never_falls { self.old.faults ≤ self.new.faults }
-        ensures cause { OnErr result (Rose self.old.faults self.new.faults) }
+        ensures cause { OnErr result (HasRisen self.old.faults self.new.faults) }
     {
         let listed = self.fails.contains(&self.calls);
         self.calls = self.calls.saturating_add(1);
@@ -64,7 +64,7 @@ impl FaultPlan {
     pub(crate) fn fault(&mut self)
         ensures counted { self.new ≡ record self.old { faults = raised self.old.faults } }
         ensures never_falls { self.old.faults ≤ self.new.faults }
-        ensures cause { Rose self.old.faults self.new.faults }
+        ensures cause { HasRisen self.old.faults self.new.faults }
     {
         self.faults = self.faults.saturating_add(1);
     }

@@ -1,11 +1,13 @@
 ghost use Rattle.std.specs.Prelude.{◌≡◌, ◌<◌, ◌≤◌, List, ℕ, Option, length, take, IfOk, OnErr};
-ghost use Rattle.sfs_base.specs.Ends.{with_added, HasCause};
+ghost use Rattle.std.specs.Io.KnownBytes.{Appends, Keeps};
+ghost use Rattle.sfs_base.specs.Ends.{HasCause};
 
 use crate::Failed;
 
 /// Where bytes go.
 pub trait Sink {
-    /// The bytes written so far, where the sink tells them.
+    /// The bytes written so far, where the sink tells them. Of one that did not tell them before a
+    /// call nothing is said.
     ghost written: { Self → Option (List ℕ) };
 
     /// How often the sink has failed.
@@ -18,8 +20,8 @@ pub trait Sink {
         ensures some { IfOk result (λ count. 0 < count) }
         ensures within { IfOk result (λ count. count ≤ length from.now) }
         ensures written { IfOk result (λ count.
-            written self.new ≡ with_added (take count from.now) (written self.old)) }
-        ensures err { OnErr result (written self.new ≡ written self.old) }
+            Appends (written self.old) (written self.new) (take count from.now)) }
+        ensures err { OnErr result (Keeps (written self.old) (written self.new)) }
         ensures cause { HasCause (faults self.old) (faults self.new) result };
 
     /// How often the sink has failed: a count that never falls, and stays at the last value of

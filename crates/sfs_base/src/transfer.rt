@@ -1,5 +1,6 @@
 ghost use Rattle.std.specs.Prelude.{◌≡◌, ◌<◌, ◌≤◌, List, ℕ, length, take, IfErr, OnOk, OnErr, IsErrOf};
-ghost use Rattle.sfs_base.specs.Ends.{Takes, with_added, Rose};
+ghost use Rattle.std.specs.Io.KnownBytes.{Consumes, Appends};
+ghost use Rattle.sfs_base.specs.Ends.{HasRisen};
 ghost use Rattle.sfs_base.specs.Transfer.{ReadsAll};
 ghost use Rattle.sfs_base.specs.declared.transfer.ReadAllFault.TheVariants.{NoMemory as WantsMemory};
 
@@ -54,11 +55,11 @@ pub fn read_all<S: Source>(
     source: &mut S,
     most: u64,
 ) -> Result<Vec<u8>, ReadAllFault>
-    ensures taken { (taken : List ℕ) × Takes (S.left source.old) taken (S.left source.new)
-        × ReadsAll taken most (S.left source.new) result }
+    ensures taken { (taken : List ℕ) × Consumes (S.left source.old) (S.left source.new) taken
+        × ReadsAll (S.left source.old) taken most result }
     ensures never_falls { S.faults source.old ≤ S.faults source.new }
     ensures cause { IsErrOf result ReadAllFault.ReadFault
-        → Rose (S.faults source.old) (S.faults source.new) }
+        → HasRisen (S.faults source.old) (S.faults source.new) }
 {
     let mut bytes = Vec::new(alloc);
     let mut piece = [0u8; PIECE];
@@ -74,11 +75,11 @@ pub fn read_all<S: Source>(
 
 /// Writes all the bytes. After a fault the first `taken` of them are written.
 pub fn write_all<K: Sink>(sink: &mut K, bytes: &[u8]) -> Result<(), WriteFault>
-    ensures ok { OnOk result (K.written sink.new ≡ with_added bytes.now (K.written sink.old)) }
+    ensures ok { OnOk result (Appends (K.written sink.old) (K.written sink.new) bytes.now) }
     ensures err { IfErr result (λ fault. (fault.taken < length bytes.now)
-        × (K.written sink.new ≡ with_added (take fault.taken bytes.now) (K.written sink.old))) }
+        × Appends (K.written sink.old) (K.written sink.new) (take fault.taken bytes.now)) }
     ensures never_falls { K.faults sink.old ≤ K.faults sink.new }
-    ensures cause { OnErr result (Rose (K.faults sink.old) (K.faults sink.new)) }
+    ensures cause { OnErr result (HasRisen (K.faults sink.old) (K.faults sink.new)) }
 {
     let mut taken = 0;
     while taken < bytes.len() {

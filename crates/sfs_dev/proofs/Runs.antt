@@ -2,14 +2,14 @@
 use Rattle.std.proofs.Common.{◌≡◌, ⊎_elim, ℕ, ◌^◌, ◌<◌, ◌≤◌, List, refl, ◌∙◌, subst, sym, arith}
 use Rattle.std.proofs.lemmas.Bool.{cases_lt}
 use Rattle.sfs_dev.specs.Disk.{View, SameImages, Elapses, images}
-use Rattle.sfs_dev.specs.Run.{CountsOn, GoesOn, EachMoment, Rests}
+use Rattle.sfs_dev.specs.Run.{CountsOn, Advances, EachMoment, Unwritten}
 
 -- no device call
-pub GoesOn-refl : (disk : View) → GoesOn disk disk
+pub GoesOn-refl : (disk : View) → Advances disk disk
 GoesOn-refl disk = record { size = refl; later = omega arith; never_falls = omega arith; past = λ k image lt le. (λ left. left, λ left. left) }
 
 -- one device call
-pub GoesOn-call : (old new : View) → old.now < 2 ^ 64 → Elapses old new → new.size ≡ old.size → old.faults ≤ new.faults → GoesOn old new
+pub GoesOn-call : (old new : View) → old.now < 2 ^ 64 → Elapses old new → new.size ≡ old.size → old.faults ≤ new.faults → Advances old new
 GoesOn-call old new fits time size faults = record {
   size = size;
   later = omega (arith, time.counted);
@@ -18,7 +18,7 @@ GoesOn-call old new fits time size faults = record {
 }
 
 -- one run after another
-pub GoesOn-trans : (old mid new : View) → GoesOn old mid → GoesOn mid new → GoesOn old new
+pub GoesOn-trans : (old mid new : View) → Advances old mid → Advances mid new → Advances old new
 GoesOn-trans old mid new first second = record {
   size = second.size ∙ first.size;
   later = omega (arith, first.later, second.later);
@@ -33,11 +33,11 @@ GoesOn-trans old mid new first second = record {
 pub EachMoment-start : (disk : View) (P : ℕ → List ℕ → Type 0) → ((image : List ℕ) → images disk image → P disk.now image) → EachMoment disk disk P
 EachMoment-start disk P here k image from to left =
     let is : k ≡ disk.now = omega arith in
-    subst (λ (n : ℕ). P n image) (sym is) (here image (subst (λ (n : ℕ). disk.leaves n image) is left))
+    subst (λ (n : ℕ). P n image) (sym is) (here image (subst (λ (n : ℕ). disk.crash_images n image) is left))
 
 -- one run after another: what the second adds are its own moments
-pub EachMoment-trans : (old mid new : View) (P : ℕ → List ℕ → Type 0) → CountsOn new → GoesOn mid new → EachMoment old mid P
-    → ((k : ℕ) (image : List ℕ) → mid.now < k → k ≤ new.now → new.leaves k image → P k image) → EachMoment old new P
+pub EachMoment-trans : (old mid new : View) (P : ℕ → List ℕ → Type 0) → CountsOn new → Advances mid new → EachMoment old mid P
+    → ((k : ℕ) (image : List ℕ) → mid.now < k → k ≤ new.now → new.crash_images k image → P k image) → EachMoment old new P
 EachMoment-trans old mid new P counts goes before after k image from to left = ⊎_elim late early (cases_lt mid.now k)
   where
     early : k ≤ mid.now → P k image
@@ -47,26 +47,26 @@ EachMoment-trans old mid new P counts goes before after k image from to left = �
     late lt = after k image lt to left
 
 -- one call after a run
-pub EachMoment-call : (old mid new : View) (P : ℕ → List ℕ → Type 0) → CountsOn new → GoesOn mid new → Elapses mid new → EachMoment old mid P → ((image : List ℕ) → images new image → P new.now image) → EachMoment old new P
+pub EachMoment-call : (old mid new : View) (P : ℕ → List ℕ → Type 0) → CountsOn new → Advances mid new → Elapses mid new → EachMoment old mid P → ((image : List ℕ) → images new image → P new.now image) → EachMoment old new P
 EachMoment-call old mid new P counts goes time before here =
     EachMoment-trans old mid new P counts goes before
     (λ k image lt le left.
     let is : k ≡ new.now = omega (arith, time.counted) in
-    subst (λ (n : ℕ). P n image) (sym is) (here image (subst (λ (n : ℕ). new.leaves n image) is left)))
+    subst (λ (n : ℕ). P n image) (sym is) (here image (subst (λ (n : ℕ). new.crash_images n image) is left)))
 
-pub Rests-refl : (disk : View) → Rests disk disk
+pub Rests-refl : (disk : View) → Unwritten disk disk
 Rests-refl disk = record {
-  told = refl;
+  content = refl;
   left = λ image. (λ left. left, λ left. left);
-  meanwhile = λ counts. EachMoment-start disk (λ _ image. images disk image) (λ image left. left);
+  at_each_moment = λ counts. EachMoment-start disk (λ _ image. images disk image) (λ image left. left);
 }
 
 -- a call that writes nothing, after others that write nothing
-pub Rests-call : (old mid new : View) → GoesOn mid new → Elapses mid new → new.told ≡ mid.told → SameImages (images mid) (images new) → Rests old mid → Rests old new
+pub Rests-call : (old mid new : View) → Advances mid new → Elapses mid new → new.content ≡ mid.content → SameImages (images mid) (images new) → Unwritten old mid → Unwritten old new
 Rests-call old mid new goes time told same rests = record {
-  told = told ∙ rests.told;
+  content = told ∙ rests.content;
   left = λ image. (λ left. (rests.left image).0 ((same image).0 left), λ left. (same image).1 ((rests.left image).1 left));
-  meanwhile = λ counts.
+  at_each_moment = λ counts.
       let counted : CountsOn mid = omega (arith, counts, goes.later) in
-      EachMoment-call old mid new (λ _ image. images old image) counts goes time (rests.meanwhile counted) (λ image left. (rests.left image).0 ((same image).0 left));
+      EachMoment-call old mid new (λ _ image. images old image) counts goes time (rests.at_each_moment counted) (λ image left. (rests.left image).0 ((same image).0 left));
 }

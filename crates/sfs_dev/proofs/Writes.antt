@@ -3,14 +3,14 @@ use Rattle.std.proofs.Common.{◌≡◌, ℕ, ◌+◌, ◌-◌, ◌<◌, ◌≤�
 use Rattle.std.proofs.lemmas.List.{length-take-le, take_at, drop_at, reverse-append}
 use Rattle.sfs_dev.specs.Ranges.{part, put, SameOutside}
 use Rattle.sfs_dev.specs.RangeLaws.{SameOutside-put, put-part}
-use Rattle.sfs_dev.specs.Log.{last_of, all_but_last, left_after, left_at, acts_of, newest_moment}
+use Rattle.sfs_dev.specs.Log.{last_bytes, all_but_last, left_after, left_at, acts_of, newest_moment}
 use Rattle.sfs_dev.specs.LogLaws.{left_now, left_before}
 use Rattle.sfs_dev.specs.declared.call.Act.TheVariants.{Write}
 use Rattle.sfs_dev.specs.declared.call.Call.{Call}
 
 -- Undoing the write gives back what was there, and the list of replaced bytes.
 pub record Undoes (at n : ℕ) (content replaced new_content new_replaced : List ℕ) : Type 0 where
-  pub content_back : put at (last_of n new_replaced) new_content ≡ content
+  pub content_back : put at (last_bytes n new_replaced) new_content ≡ content
   pub replaced_back : all_but_last n new_replaced ≡ replaced
 
 undoes : (at : ℕ) (from content replaced new_content new_replaced : List ℕ) → at + length from ≤ length content → new_replaced ≡ replaced ++ part at (length from) content → new_content ≡ put at from content
@@ -20,7 +20,7 @@ undoes at from content replaced new_content new_replaced within kept written =
     let there : length (part at n content) ≡ n = length-take-le n _ (omega (arith, length-drop at content)) in
     let front : length new_replaced - n ≡ length replaced = omega (arith, ap length kept, length-append replaced (part at n content), there) in
     let front_sym : length replaced ≡ length new_replaced - n = sym front in
-    let last : last_of n new_replaced ≡ part at n content = ap (λ (l : List ℕ). drop (length new_replaced - n) l) kept ∙ drop_at replaced (part at n content) (length new_replaced - n) front_sym in
+    let last : last_bytes n new_replaced ≡ part at n content = ap (λ (l : List ℕ). drop (length new_replaced - n) l) kept ∙ drop_at replaced (part at n content) (length new_replaced - n) front_sym in
     record {
       content_back = ap (λ (l : List ℕ). put at l new_content) last ∙ ap (λ (l : List ℕ). put at (part at n content) l) written
           ∙ put-part at n content (put at from content) within (SameOutside-put at from content within);
@@ -48,11 +48,11 @@ module _ (calls new_calls : List Call) (at moment now : ℕ) (from content repla
       ∙ ap (λ (l : List ℕ). left_at k (reverse calls) content l image) back.replaced_back
 
   -- what a crash before it left, by the calls' acts
-  acts_before : (image : List ℕ) → left_at moment (reverse calls) content replaced image ≡ left_after (acts_of (reverse calls)) (put at (last_of (length from) new_replaced) new_content) (all_but_last (length from) new_replaced) image
+  acts_before : (image : List ℕ) → left_at moment (reverse calls) content replaced image ≡ left_after (acts_of (reverse calls)) (put at (last_bytes (length from) new_replaced) new_content) (all_but_last (length from) new_replaced) image
   acts_before image =
       left_now moment (reverse calls) content replaced image dated
       ∙ ap (λ (l : List ℕ). left_after (acts_of (reverse calls)) l replaced image) (sym back.content_back)
-      ∙ ap (λ (l : List ℕ). left_after (acts_of (reverse calls)) (put at (last_of (length from) new_replaced) new_content) l image) (sym back.replaced_back)
+      ∙ ap (λ (l : List ℕ). left_after (acts_of (reverse calls)) (put at (last_bytes (length from) new_replaced) new_content) l image) (sym back.replaced_back)
 
   acts_after : (image : List ℕ) → left_at now (reverse new_calls) new_content new_replaced image ≡ left_after (acts_of (call ∷ reverse calls)) new_content new_replaced image
   acts_after image = ap (λ (l : List Call). left_at now l new_content new_replaced image) newest_first ∙ left_now now (call ∷ reverse calls) new_content new_replaced image (omega arith)

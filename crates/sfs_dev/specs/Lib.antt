@@ -7,3 +7,4 @@ pub mod MemoryLaws
 pub mod RangeLaws
 pub mod Ranges
 pub mod Run
+pub mod Steps

@@ -7,8 +7,8 @@ use Rattle.sfs_dev.specs.declared.call.Act.TheVariants.{Read, Write, Sync}
 use Rattle.sfs_dev.specs.declared.call.Call.{Call}
 
 -- the last n bytes, and those before them
-abbrev pub last_of : ℕ → List ℕ → List ℕ
-last_of n bytes = drop (length bytes - n) bytes
+abbrev pub last_bytes : ℕ → List ℕ → List ℕ
+last_bytes n bytes = drop (length bytes - n) bytes
 
 abbrev pub all_but_last : ℕ → List ℕ → List ℕ
 all_but_last n bytes = take (length bytes - n) bytes
@@ -16,7 +16,7 @@ all_but_last n bytes = take (length bytes - n) bytes
 -- what a read gave before the newest call
 abbrev pub content_before : Act → List ℕ → List ℕ → List ℕ
 content_before (Read at count) content replaced = content
-content_before (Write at count) content replaced = put at (last_of count replaced) content
+content_before (Write at count) content replaced = put at (last_bytes count replaced) content
 content_before Sync content replaced = content
 
 -- what was replaced before the newest call
@@ -31,7 +31,7 @@ abbrev pub left_after : List Act → List ℕ → List ℕ → List ℕ → Type
 left_after [] content replaced image = image ≡ content
 left_after (Read at count ∷ earlier) content replaced image = left_after earlier content replaced image
 left_after (Write at count ∷ earlier) content replaced image =
-    (was : List ℕ) × left_after earlier (put at (last_of count replaced) content) (all_but_last count replaced) was × SameOutside at count was image
+    (was : List ℕ) × left_after earlier (put at (last_bytes count replaced) content) (all_but_last count replaced) was × SameOutside at count was image
 left_after (Sync ∷ earlier) content replaced image = image ≡ content
 
 -- what the calls asked for

@@ -5,7 +5,7 @@ use Rattle.std.proofs.lemmas.Bool.{and_parts}
 use Rattle.std.proofs.lemmas.Bool.Decides.{nat_tests}
 use Rattle.sfs_dev.specs.Ranges.{put, SameOutside}
 use Rattle.sfs_dev.specs.RangeLaws.{SameOutside-put, SameOutside-sym, length-put}
-use Rattle.sfs_dev.specs.Log.{last_of, all_but_last, content_before, replaced_before, left_after, left_at, acts_of, newest_moment, fits}
+use Rattle.sfs_dev.specs.Log.{last_bytes, all_but_last, content_before, replaced_before, left_after, left_at, acts_of, newest_moment, fits}
 use Rattle.sfs_dev.specs.declared.call.Act.{Act}
 use Rattle.sfs_dev.specs.declared.call.Act.TheVariants.{Read, Write, Sync}
 use Rattle.sfs_dev.specs.declared.call.Call.{Call}
@@ -32,12 +32,12 @@ content_is_left size [] content replaced whole is = refl
 content_is_left size (Read at count ∷ earlier) content replaced whole is = content_is_left size earlier content replaced whole is
 content_is_left size (Write at count ∷ earlier) content replaced whole is =
     let f = fit size at count (length replaced) earlier is in
-    let kept : length (last_of count replaced) ≡ count = omega (arith, length-drop (length replaced - count) replaced, f.there) in
-    let within : at + length (last_of count replaced) ≤ length content = omega (arith, kept, f.within, whole) in
-    let was = put at (last_of count replaced) content in
+    let kept : length (last_bytes count replaced) ≡ count = omega (arith, length-drop (length replaced - count) replaced, f.there) in
+    let within : at + length (last_bytes count replaced) ≤ length content = omega (arith, kept, f.within, whole) in
+    let was = put at (last_bytes count replaced) content in
     let rest : length (all_but_last count replaced) ≡ length replaced - count = length-take-le (length replaced - count) replaced (omega arith) in
-    let old = content_is_left size earlier was (all_but_last count replaced) (length-put at (last_of count replaced) content within ∙ whole) (ap (λ (n : ℕ). fits size earlier n) rest ∙ f.others) in
-    let same = subst (λ (n : ℕ). SameOutside at n content was) kept (SameOutside-put at (last_of count replaced) content within) in
+    let old = content_is_left size earlier was (all_but_last count replaced) (length-put at (last_bytes count replaced) content within ∙ whole) (ap (λ (n : ℕ). fits size earlier n) rest ∙ f.others) in
+    let same = subst (λ (n : ℕ). SameOutside at n content was) kept (SameOutside-put at (last_bytes count replaced) content within) in
     (was, old, SameOutside-sym at count content was same)
 content_is_left size (Sync ∷ earlier) content replaced whole is = refl
 

@@ -1,7 +1,6 @@
 ghost use Rattle.std.specs.Prelude.{◌≡◌, ℕ, List, ◌+◌, ◌*◌, ◌^◌, ◌<◌, ◌≤◌, length, Some, option_map, OnOk, OnErr};
-ghost use Rattle.sfs_base.specs.Ends.{HasCause};
 ghost use Rattle.sfs_dev.specs.Ranges.{put};
-ghost use Rattle.sfs_dev.specs.Disk.{View, images, Gives, Torn, TornTold, AnyIn, SameImages, OnlyTold, Elapses};
+ghost use Rattle.sfs_dev.specs.Disk.{View, images, Gives, Torn, TornTold, AnyIn, SameImages, OnlyTold, IsDeviceCall};
 
 use sfs_base::Failed;
 
@@ -31,14 +30,10 @@ pub trait Disk: Send {
         requires some { 0 < length into.old }
         requires within { at + length into.old ≤ 4096 * (view self.old).size }
 
-        ensures ok { OnOk result (Gives (view self.old).told at into.new) }
-        ensures told { (view self.new).told ≡ (view self.old).told }
+        ensures ok { OnOk result (Gives (view self.old).content at into.new) }
+        ensures content { (view self.new).content ≡ (view self.old).content }
         ensures images { SameImages (images (view self.old)) (images (view self.new)) }
-
-        ensures time { Elapses (view self.old) (view self.new) }
-        ensures size { (view self.new).size ≡ (view self.old).size }
-        ensures cause { HasCause (view self.old).faults (view self.new).faults result }
-        ensures calm { OnOk result ((view self.new).faults ≡ (view self.old).faults) };
+        ensures call { IsDeviceCall (view self.old) (view self.new) result };
 
     /// Writes these bytes from byte `at` on. Until a sync answers Ok a crash may leave any bytes in
     /// their place. After `Failed` a read gives any bytes there.
@@ -46,32 +41,24 @@ pub trait Disk: Send {
         requires some { 0 < length from.now }
         requires within { at + length from.now ≤ 4096 * (view self.old).size }
 
-        ensures ok { OnOk result ((view self.new).told ≡ option_map (put at from.now) (view self.old).told) }
-        ensures err { OnErr result (TornTold at (length from.now) (view self.old).told (view self.new).told) }
+        ensures ok { OnOk result ((view self.new).content ≡ option_map (put at from.now) (view self.old).content) }
+        ensures err { OnErr result (TornTold at (length from.now) (view self.old).content (view self.new).content) }
         ensures images { Torn at (length from.now) (images (view self.old)) (images (view self.new)) }
         ensures any { OnOk result (AnyIn at (length from.now) (images (view self.old)) (images (view self.new))) }
-
-        ensures time { Elapses (view self.old) (view self.new) }
-        ensures size { (view self.new).size ≡ (view self.old).size }
-        ensures cause { HasCause (view self.old).faults (view self.new).faults result }
-        ensures calm { OnOk result ((view self.new).faults ≡ (view self.old).faults) };
+        ensures call { IsDeviceCall (view self.old) (view self.new) result };
 
     /// After Ok a crash leaves what a read gives. After `Failed` nothing more is known than before.
     fn sync(&mut self) -> Result<(), Failed>
-        ensures ok { OnOk result (OnlyTold (view self.new).told (images (view self.new))) }
-        ensures told { (view self.new).told ≡ (view self.old).told }
+        ensures ok { OnOk result (OnlyTold (view self.new).content (images (view self.new))) }
+        ensures content { (view self.new).content ≡ (view self.old).content }
         ensures images { OnErr result (SameImages (images (view self.old)) (images (view self.new))) }
-
-        ensures time { Elapses (view self.old) (view self.new) }
-        ensures size { (view self.new).size ≡ (view self.old).size }
-        ensures cause { HasCause (view self.old).faults (view self.new).faults result }
-        ensures calm { OnOk result ((view self.new).faults ≡ (view self.old).faults) };
+        ensures call { IsDeviceCall (view self.old) (view self.new) result };
 
     /// What a read gives has the disk's size.
-    ghost whole: { (disk : Self) (content : List ℕ) → (view disk).told ≡ Some content → length content ≡ 4096 * (view disk).size };
+    ghost whole: { (disk : Self) (content : List ℕ) → (view disk).content ≡ Some content → length content ≡ 4096 * (view disk).size };
 
     /// What a read gives is always one of the images.
-    ghost read_is_left: { (disk : Self) (content : List ℕ) → (view disk).told ≡ Some content → images (view disk) content };
+    ghost read_is_left: { (disk : Self) (content : List ℕ) → (view disk).content ≡ Some content → images (view disk) content };
 
     /// The count of device calls is a `u64`.
     ghost now_fits: { (disk : Self) → (view disk).now < 2 ^ 64 };

@@ -4,7 +4,9 @@
 mod call;
 mod disk;
 mod memory;
+mod steps;
 
 pub use call::{Act, Call};
 pub use disk::Disk;
 pub use memory::Memory;
+pub use steps::write_and_sync;

@@ -26,14 +26,14 @@ pub struct Memory {
     faults: u64,
     ghost small: { blocks ≤ 262144 },
     ghost whole: { length bytes.items ≡ 4096 * blocks },
-    ghost dated: { newest_moment (reverse calls.items) ≤ moment },
+    ghost moments_bounded: { newest_moment (reverse calls.items) ≤ moment },
     ghost logged: { fits (4096 * blocks) (acts_of (reverse calls.items)) (length replaced.items) ≡ true },
     ghost moment_fits: { moment < 2 ^ 64 },
     ghost faults_fit: { faults < 2 ^ 64 },
 }
 
 impl Memory {
-    ghost use Rattle.sfs_dev.specs.Memory.{memory_view, calls_of, written_of, spare_calls, spare_bytes, IsFresh, IsWhole, SameDisk};
+    ghost use Rattle.sfs_dev.specs.Memory.{memory_view, calls_of, written_of, spare_calls, spare_bytes, IsFresh, IsWholeBlocks, SameDisk};
 
     /// A disk of so many blocks, at most 262,144, of zeros.
     pub fn new(alloc: Global, blocks: u32) -> Result<Memory, NoMemory>
@@ -47,8 +47,8 @@ impl Memory {
     /// A disk that holds these bytes. They come back where they are no whole number of blocks or
     /// more than 262,144 of them. It takes no memory.
     pub fn of(alloc: Global, bytes: Vec<u8>) -> Result<Memory, Vec<u8>>
-        ensures ok { IfOk result (λ memory. IsFresh memory bytes.items × IsWhole bytes.items) }
-        ensures err { IfErr result (λ back. (back ≡ bytes) × ¬ IsWhole bytes.items) }
+        ensures ok { IfOk result (λ memory. IsFresh memory bytes.items × IsWholeBlocks bytes.items) }
+        ensures err { IfErr result (λ back. (back ≡ bytes) × ¬ IsWholeBlocks bytes.items) }
     {
         let blocks = bytes.len() / 4096;
         if bytes.len() % 4096 != 0 || blocks > MOST_BLOCKS as usize {
@@ -91,7 +91,7 @@ impl Memory {
 
     /// What a read gives.
     pub fn bytes(&self) -> &[u8]
-        ensures bytes { (memory_view self.now).told ≡ Some result.now }
+        ensures bytes { (memory_view self.now).content ≡ Some result.now }
     {
         &self.bytes
     }
@@ -158,11 +158,10 @@ fn replace(bytes: &mut Vec<u8>, at: usize, from: &[u8])
 
 impl Disk for Memory {
     ghost use Rattle.std.specs.Prelude.{◌≡◌, ◌+◌, ◌*◌, ◌<◌, ◌≤◌, [], length, option_map, IsOk, OnOk, OnErr};
-    ghost use Rattle.sfs_base.specs.Ends.{HasCause};
     ghost use Rattle.sfs_dev.specs.Ranges.{put};
-    ghost use Rattle.sfs_dev.specs.Disk.{images, Gives, Torn, TornTold, AnyIn, SameImages, OnlyTold, Elapses};
+    ghost use Rattle.sfs_dev.specs.Disk.{images, Gives, Torn, TornTold, AnyIn, SameImages, OnlyTold, IsDeviceCall};
     ghost use Rattle.sfs_dev.specs.declared.call.Act.TheVariants.{Read, Write, Sync};
-    ghost use Rattle.sfs_dev.specs.Memory.{memory_view, spare_calls, spare_bytes, Lists, Skips, Spends};
+    ghost use Rattle.sfs_dev.specs.Memory.{memory_view, IsListedCall};
     ghost use Rattle.sfs_dev.specs.MemoryLaws.{memory_whole, memory_left};
 
     ghost view = { memory_view };
@@ -191,19 +190,11 @@ impl Disk for Memory {
         requires some { 0 < length into.old }
         requires within { at + length into.old ≤ 4096 * (memory_view self.old).size }
 
-        ensures ok { OnOk result (Gives (memory_view self.old).told at into.new) }
-        ensures told { (memory_view self.new).told ≡ (memory_view self.old).told }
+        ensures ok { OnOk result (Gives (memory_view self.old).content at into.new) }
+        ensures content { (memory_view self.new).content ≡ (memory_view self.old).content }
         ensures images { SameImages (images (memory_view self.old)) (images (memory_view self.new)) }
-
-        ensures time { Elapses (memory_view self.old) (memory_view self.new) }
-        ensures size { (memory_view self.new).size ≡ (memory_view self.old).size }
-        ensures cause { HasCause (memory_view self.old).faults (memory_view self.new).faults result }
-        ensures calm { OnOk result ((memory_view self.new).faults ≡ (memory_view self.old).faults) }
-
-        ensures listed { OnOk result (Lists (Read at (length into.old)) [] self.old self.new) }
-        ensures unlisted { OnErr result (Skips self.old self.new) }
-        ensures roomy { 0 < spare_calls self.old → IsOk result }
-        ensures spare { Spends 0 self.old self.new }
+        ensures call { IsDeviceCall (memory_view self.old) (memory_view self.new) result }
+        ensures listing { IsListedCall (Read at (length into.old)) [] self.old self.new result }
     {
         raise(&mut self.moment);
         let count = into.len() as u64;
@@ -224,20 +215,12 @@ impl Disk for Memory {
         requires some { 0 < length from.now }
         requires within { at + length from.now ≤ 4096 * (memory_view self.old).size }
 
-        ensures ok { OnOk result ((memory_view self.new).told ≡ option_map (put at from.now) (memory_view self.old).told) }
-        ensures err { OnErr result (TornTold at (length from.now) (memory_view self.old).told (memory_view self.new).told) }
+        ensures ok { OnOk result ((memory_view self.new).content ≡ option_map (put at from.now) (memory_view self.old).content) }
+        ensures err { OnErr result (TornTold at (length from.now) (memory_view self.old).content (memory_view self.new).content) }
         ensures images { Torn at (length from.now) (images (memory_view self.old)) (images (memory_view self.new)) }
         ensures any { OnOk result (AnyIn at (length from.now) (images (memory_view self.old)) (images (memory_view self.new))) }
-
-        ensures time { Elapses (memory_view self.old) (memory_view self.new) }
-        ensures size { (memory_view self.new).size ≡ (memory_view self.old).size }
-        ensures cause { HasCause (memory_view self.old).faults (memory_view self.new).faults result }
-        ensures calm { OnOk result ((memory_view self.new).faults ≡ (memory_view self.old).faults) }
-
-        ensures listed { OnOk result (Lists (Write at (length from.now)) from.now self.old self.new) }
-        ensures unlisted { OnErr result (Skips self.old self.new) }
-        ensures roomy { 0 < spare_calls self.old → length from.now ≤ spare_bytes self.old → IsOk result }
-        ensures spare { Spends (length from.now) self.old self.new }
+        ensures call { IsDeviceCall (memory_view self.old) (memory_view self.new) result }
+        ensures listing { IsListedCall (Write at (length from.now)) from.now self.old self.new result }
     {
         raise(&mut self.moment);
         let count = from.len() as u64;
@@ -262,19 +245,11 @@ impl Disk for Memory {
     }
 
     fn sync(&mut self) -> Result<(), Failed>
-        ensures ok { OnOk result (OnlyTold (memory_view self.new).told (images (memory_view self.new))) }
-        ensures told { (memory_view self.new).told ≡ (memory_view self.old).told }
+        ensures ok { OnOk result (OnlyTold (memory_view self.new).content (images (memory_view self.new))) }
+        ensures content { (memory_view self.new).content ≡ (memory_view self.old).content }
         ensures images { OnErr result (SameImages (images (memory_view self.old)) (images (memory_view self.new))) }
-
-        ensures time { Elapses (memory_view self.old) (memory_view self.new) }
-        ensures size { (memory_view self.new).size ≡ (memory_view self.old).size }
-        ensures cause { HasCause (memory_view self.old).faults (memory_view self.new).faults result }
-        ensures calm { OnOk result ((memory_view self.new).faults ≡ (memory_view self.old).faults) }
-
-        ensures listed { OnOk result (Lists Sync [] self.old self.new) }
-        ensures unlisted { OnErr result (Skips self.old self.new) }
-        ensures roomy { 0 < spare_calls self.old → IsOk result }
-        ensures spare { Spends 0 self.old self.new }
+        ensures call { IsDeviceCall (memory_view self.old) (memory_view self.new) result }
+        ensures listing { IsListedCall Sync [] self.old self.new result }
     {
         raise(&mut self.moment);
         let call = Call {

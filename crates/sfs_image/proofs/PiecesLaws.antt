@@ -47,10 +47,10 @@ first_of-None (suc n) f none k h =
     let both = option_or-None (first_of n f) (f n) none in
     elim (cases_lt k n) [ inl below ↦ first_of-None n f both.0 k below | inr last ↦ (let e : k ≡ n = omega arith in ap f e ∙ both.1) ]
 
-pub first_of-from : (n : ℕ) (f : ℕ → Option ℕ) → ((k : ℕ) → k < n → f k ≡ None) → first_of n f ≡ None
-first_of-from zero f none = refl
-first_of-from (suc n) f none =
-    ap (λ (o : Option ℕ). option_or o (f n)) (first_of-from n f (λ k h. none k (omega arith))) ∙ none n (omega arith)
+pub first_of-from : {A : Type 0} (n : ℕ) (f : ℕ → Option A) → ((k : ℕ) → k < n → f k ≡ None) → first_of n f ≡ None
+first_of-from {A = A} zero f none = refl
+first_of-from {A = A} (suc n) f none =
+    ap (λ (o : Option A). option_or o (f n)) (first_of-from n f (λ k h. none k (omega arith))) ∙ none n (omega arith)
 
 -- one more that is none
 pub first_of-more : (n : ℕ) (f : ℕ → Option ℕ) → first_of n f ≡ None → f n ≡ None → first_of (n + 1) f ≡ None

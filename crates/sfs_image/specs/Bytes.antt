@@ -58,6 +58,6 @@ abbrev pub fault_at : Bool → ℕ → Option ℕ
 fault_at wrong at = if wrong then Some at else None
 
 -- the first of f 0, f 1, .., f (n - 1) that is some
-abbrev pub first_of : ℕ → (ℕ → Option ℕ) → Option ℕ
+abbrev pub first_of : {A : Type 0} → ℕ → (ℕ → Option A) → Option A
 first_of zero f = None
 first_of (suc n) f = option_or (first_of n f) (f n)

@@ -1,7 +1,8 @@
 -- A journal slot: its head in the first block, then blocks of inode numbers, then blocks of records.
-use Rattle.std.specs.Prelude.{ℕ, ◌+◌, ◌*◌, ◌-◌, ◌<◌, ◌==◌, ◌^◌, ◌&&◌, ◌||◌, nat_lt, not, min, Bool, List, ◌++◌, length, map, slice_index, Option, None, if◌then◌else◌}
+use Rattle.std.specs.Prelude.{◌≡◌, All, Some, slice_get, ℕ, ◌+◌, ◌*◌, ◌-◌, ◌<◌, ◌==◌, ◌^◌, ◌&&◌, ◌||◌, nat_lt, not, min, Bool, List, ◌++◌, length, map, slice_index, Option, None, if◌then◌else◌}
 use Rattle.std.specs.Option.{option_or}
 use Rattle.std.specs.List.{range_with_len, list_any}
+use Rattle.std.specs.List.Sorted.{IsStrictlyIncreasing}
 use Rattle.sfs_image.specs.Bytes.{part, zeros, u32_at, u64_at, u32s_at, u32_bytes, u64_bytes, fault_at, first_of}
 use Rattle.sfs_image.specs.Super.{number_blocks}
 
@@ -71,3 +72,14 @@ abbrev pub journal_fault : ℕ → List ℕ → List ℕ → Option ℕ
 journal_fault inodes stamps slot =
     let head = head_of (part 0 4096 slot) in
     if head.gate then option_or (head_fault inodes stamps head) (numbers_fault inodes (numbers_of inodes slot)) else None
+
+-- these can be the entries of a slot, on a disk of so many inodes: their numbers ascend and are below it
+pub record AreEntries (inodes : ℕ) (entries : List Entry) : Type 0 where
+  pub ascend : IsStrictlyIncreasing (map (λ (entry : Entry). entry.inode) entries)
+  pub below : All (λ (entry : Entry). entry.inode < inodes) entries
+
+-- in a slot stand these entries, counted in its head, each with its number and its record at its place
+pub record HasEntries (inodes : ℕ) (entries : List Entry) (slot : List ℕ) : Type 0 where
+  pub count : (head_of (part 0 4096 slot)).count ≡ length entries
+  pub numbers : (k : ℕ) (entry : Entry) → slice_get entries k ≡ Some entry → part (number_byte k) 4 slot ≡ u32_bytes entry.inode
+  pub records : (k : ℕ) (entry : Entry) → slice_get entries k ≡ Some entry → part (record_byte inodes k) 512 slot ≡ entry.bytes

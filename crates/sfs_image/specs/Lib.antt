@@ -1,8 +1,13 @@
 pub mod Bytes
 pub mod Format
+pub mod ImageOf
 pub mod Inode
 pub mod Journal
+pub mod Laws
+pub mod Part
+pub mod Rules
 pub mod Seen
+pub mod Settled
 pub mod Slot
 pub mod SlotBlock
 pub mod Super

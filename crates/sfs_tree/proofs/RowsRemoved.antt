@@ -10,76 +10,76 @@ use Rattle.std.specs.FinMap.{find, is_sorted, from_sorted, get-remove, get-inser
 use Rattle.std.specs.FinMap as finmap
 use Rattle.sfs_tree.specs.Order.{name_cmp}
 use Rattle.sfs_tree.specs.declared.name_map.NameRow.{NameRow}
-use Rattle.sfs_tree.specs.NameRow.{entry_of, IsPlaceOf}
+use Rattle.sfs_tree.specs.NameRow.{name_and_child, IsPlaceOf}
 use Rattle.sfs_tree.proofs.Joined.{name_cmp-IsAntisymmetric}
 use Rattle.sfs_tree.proofs.Search.{find_there}
 use Rattle.sfs_tree.proofs.Removed.{sorted_removed, find_removed, sorted_replaced, find_replaced, found_at, key_at}
 use Rattle.sfs_tree.proofs.RowsByName.{is_true, was_true, map-take, map-drop, get-map_of}
 
 -- a row of a name stands where the search for the name ended
-pub stands_there : (rows : List NameRow) (name : List ℕ) (place : ℕ) → IsTrue (is_sorted name_cmp (map entry_of rows)) → IsPlaceOf (map entry_of rows) name place → IsSome (find name_cmp name (map entry_of rows)) → (place < length (map entry_of rows)) × key_at nat_list_cmp_total name_cmp-IsAntisymmetric (map entry_of rows) place name
+pub stands_there : (rows : List NameRow) (name : List ℕ) (place : ℕ) → IsTrue (is_sorted name_cmp (map name_and_child rows)) → IsPlaceOf (map name_and_child rows) name place → IsSome (find name_cmp name (map name_and_child rows)) → (place < length (map name_and_child rows)) × key_at nat_list_cmp_total name_cmp-IsAntisymmetric (map name_and_child rows) place name
 stands_there rows name place s p some =
-    found_at nat_list_cmp_total name_cmp-IsAntisymmetric name (map entry_of rows) place (subst IsSome (find_there nat_list_cmp_total name (map entry_of rows) place (is_true _ s) p.before p.behind) some)
+    found_at nat_list_cmp_total name_cmp-IsAntisymmetric name (map name_and_child rows) place (subst IsSome (find_there nat_list_cmp_total name (map name_and_child rows) place (is_true _ s) p.before p.behind) some)
 
-pub place_within : (rows : List NameRow) (name : List ℕ) (place : ℕ) → IsTrue (is_sorted name_cmp (map entry_of rows)) → IsPlaceOf (map entry_of rows) name place → IsSome (find name_cmp name (map entry_of rows)) → place < length rows
+pub place_within : (rows : List NameRow) (name : List ℕ) (place : ℕ) → IsTrue (is_sorted name_cmp (map name_and_child rows)) → IsPlaceOf (map name_and_child rows) name place → IsSome (find name_cmp name (map name_and_child rows)) → place < length rows
 place_within rows name place s p some =
     let there = stands_there rows name place s p some in
-    let n = length-map rows entry_of in
-    let lt : place < length (map entry_of rows) = there.0 in
+    let n = length-map rows name_and_child in
+    let lt : place < length (map name_and_child rows) = there.0 in
     omega arith
 
-map-remove : (rows : List NameRow) (place : ℕ) → map entry_of (remove rows place) ≡ take place (map entry_of rows) ++ drop (suc place) (map entry_of rows)
+map-remove : (rows : List NameRow) (place : ℕ) → map name_and_child (remove rows place) ≡ take place (map name_and_child rows) ++ drop (suc place) (map name_and_child rows)
 map-remove rows place =
-    map-append entry_of (take place rows) (drop (suc place) rows)
-    ∙ ap (λ l. l ++ map entry_of (drop (suc place) rows)) (map-take entry_of place rows)
-    ∙ ap (λ l. take place (map entry_of rows) ++ l) (map-drop entry_of (suc place) rows)
+    map-append name_and_child (take place rows) (drop (suc place) rows)
+    ∙ ap (λ l. l ++ map name_and_child (drop (suc place) rows)) (map-take name_and_child place rows)
+    ∙ ap (λ l. take place (map name_and_child rows) ++ l) (map-drop name_and_child (suc place) rows)
 
-pub sorted_without : (rows : List NameRow) (place : ℕ) → IsTrue (is_sorted name_cmp (map entry_of rows)) → IsTrue (is_sorted name_cmp (map entry_of (remove rows place)))
+pub sorted_without : (rows : List NameRow) (place : ℕ) → IsTrue (is_sorted name_cmp (map name_and_child rows)) → IsTrue (is_sorted name_cmp (map name_and_child (remove rows place)))
 sorted_without rows place s =
-    subst (λ l. IsTrue (is_sorted name_cmp l)) (sym (map-remove rows place)) (was_true _ (sorted_removed nat_list_cmp_total name_cmp-IsAntisymmetric (map entry_of rows) place (is_true _ s)))
+    subst (λ l. IsTrue (is_sorted name_cmp l)) (sym (map-remove rows place)) (was_true _ (sorted_removed nat_list_cmp_total name_cmp-IsAntisymmetric (map name_and_child rows) place (is_true _ s)))
 
-pub map_removed : (rows : List NameRow) (name : List ℕ) (place : ℕ) → IsTrue (is_sorted name_cmp (map entry_of rows)) → IsPlaceOf (map entry_of rows) name place → IsSome (find name_cmp name (map entry_of rows)) → from_sorted {R = name_cmp} (map entry_of (remove rows place)) ≡ finmap.remove (from_sorted {R = name_cmp} (map entry_of rows)) name
+pub map_removed : (rows : List NameRow) (name : List ℕ) (place : ℕ) → IsTrue (is_sorted name_cmp (map name_and_child rows)) → IsPlaceOf (map name_and_child rows) name place → IsSome (find name_cmp name (map name_and_child rows)) → from_sorted {R = name_cmp} (map name_and_child (remove rows place)) ≡ finmap.remove (from_sorted {R = name_cmp} (map name_and_child rows)) name
 map_removed rows name place s p some =
     let there = stands_there rows name place s p some in
     same_map nat_list_cmp_total name_cmp-IsAntisymmetric _ _ (λ q.
     get-map_of (remove rows place) q (sorted_without rows place s)
     ∙ ap (find name_cmp q) (map-remove rows place)
-    ∙ find_removed nat_list_cmp_total name_cmp-IsAntisymmetric q name (map entry_of rows) place there.0 (is_true _ s) p.before there.1
+    ∙ find_removed nat_list_cmp_total name_cmp-IsAntisymmetric q name (map name_and_child rows) place there.0 (is_true _ s) p.before there.1
     ∙ ap (cond (eq_by_cmp name_cmp q name) None) (sym (get-map_of rows q s))
-    ∙ sym (get-remove nat_list_cmp_total (from_sorted {R = name_cmp} (map entry_of rows)) name q))
+    ∙ sym (get-remove nat_list_cmp_total (from_sorted {R = name_cmp} (map name_and_child rows)) name q))
 
 -- a row with another child
 abbrev pub with_child : NameRow → ℕ → NameRow
 with_child row child = record row { child = record { 0 = child } }
 
-map-replaced : (rows : List NameRow) (row : NameRow) (name : List ℕ) (place child : ℕ) → place < length rows → row ≡ get_or rows place row → key_at nat_list_cmp_total name_cmp-IsAntisymmetric (map entry_of rows) place name → map entry_of (set rows place (with_child row child)) ≡ set (map entry_of rows) place (name, child)
+map-replaced : (rows : List NameRow) (row : NameRow) (name : List ℕ) (place child : ℕ) → place < length rows → row ≡ get_or rows place row → key_at nat_list_cmp_total name_cmp-IsAntisymmetric (map name_and_child rows) place name → map name_and_child (set rows place (with_child row child)) ≡ set (map name_and_child rows) place (name, child)
 map-replaced rows row name place child lt is at =
-    map-set entry_of rows place (with_child row child)
-    ∙ ap (λ n. set (map entry_of rows) place (n, child)) (ap (λ (e : List ℕ × ℕ). e.0) (ap entry_of is ∙ sym (get_or-map entry_of rows place row)) ∙ at (entry_of row) (let n = length-map rows entry_of in omega arith))
+    map-set name_and_child rows place (with_child row child)
+    ∙ ap (λ n. set (map name_and_child rows) place (n, child)) (ap (λ (e : List ℕ × ℕ). e.0) (ap name_and_child is ∙ sym (get_or-map name_and_child rows place row)) ∙ at (name_and_child row) (let n = length-map rows name_and_child in omega arith))
 
-module _ (rows : List NameRow) (row : NameRow) (name : List ℕ) (place child : ℕ) (is : row ≡ get_or rows place row) (s : IsTrue (is_sorted name_cmp (map entry_of rows))) (p : IsPlaceOf (map entry_of rows) name place) (some : IsSome (find name_cmp name (map entry_of rows))) where
-  pub sorted_with : IsTrue (is_sorted name_cmp (map entry_of (set rows place (with_child row child))))
+module _ (rows : List NameRow) (row : NameRow) (name : List ℕ) (place child : ℕ) (is : row ≡ get_or rows place row) (s : IsTrue (is_sorted name_cmp (map name_and_child rows))) (p : IsPlaceOf (map name_and_child rows) name place) (some : IsSome (find name_cmp name (map name_and_child rows))) where
+  pub sorted_with : IsTrue (is_sorted name_cmp (map name_and_child (set rows place (with_child row child))))
   sorted_with =
       let there = stands_there rows name place s p some in
-      subst (λ l. IsTrue (is_sorted name_cmp l)) (sym (map-replaced rows row name place child (place_within rows name place s p some) is there.1)) (was_true _ (sorted_replaced nat_list_cmp_total name_cmp-IsAntisymmetric name child (map entry_of rows) place there.1 (is_true _ s)))
+      subst (λ l. IsTrue (is_sorted name_cmp l)) (sym (map-replaced rows row name place child (place_within rows name place s p some) is there.1)) (was_true _ (sorted_replaced nat_list_cmp_total name_cmp-IsAntisymmetric name child (map name_and_child rows) place there.1 (is_true _ s)))
 
-  pub map_replaced : from_sorted {R = name_cmp} (map entry_of (set rows place (with_child row child))) ≡ finmap.insert (from_sorted {R = name_cmp} (map entry_of rows)) name child
+  pub map_replaced : from_sorted {R = name_cmp} (map name_and_child (set rows place (with_child row child))) ≡ finmap.insert (from_sorted {R = name_cmp} (map name_and_child rows)) name child
   map_replaced =
       let there = stands_there rows name place s p some in
       same_map nat_list_cmp_total name_cmp-IsAntisymmetric _ _ (λ q.
       get-map_of (set rows place (with_child row child)) q sorted_with
       ∙ ap (find name_cmp q) (map-replaced rows row name place child (place_within rows name place s p some) is there.1)
-      ∙ find_replaced nat_list_cmp_total name_cmp-IsAntisymmetric q name child (map entry_of rows) place there.0 p.before there.1
+      ∙ find_replaced nat_list_cmp_total name_cmp-IsAntisymmetric q name child (map name_and_child rows) place there.0 p.before there.1
       ∙ ap (cond (eq_by_cmp name_cmp q name) (Some child)) (sym (get-map_of rows q s))
-      ∙ sym (get-insert nat_list_cmp_total (from_sorted {R = name_cmp} (map entry_of rows)) name child q))
+      ∙ sym (get-insert nat_list_cmp_total (from_sorted {R = name_cmp} (map name_and_child rows)) name child q))
 
 -- the row at a place
-pub entry_at : (rows : List NameRow) (row : NameRow) (place : ℕ) → place < length rows → row ≡ get_or rows place row → Some (entry_of row) ≡ slice_get (map entry_of rows) place
+pub entry_at : (rows : List NameRow) (row : NameRow) (place : ℕ) → place < length rows → row ≡ get_or rows place row → Some (name_and_child row) ≡ slice_get (map name_and_child rows) place
 entry_at [] row place lt is = absurd (omega arith)
-entry_at (r ∷ rows) row zero lt is = ap (λ r. Some (entry_of r)) is
+entry_at (r ∷ rows) row zero lt is = ap (λ r. Some (name_and_child r)) is
 entry_at (r ∷ rows) row (suc place) lt is = entry_at rows row place (omega arith) is
 
-pub entry_past : (rows : List NameRow) (place : ℕ) → length rows ≤ place → None ≡ slice_get (map entry_of rows) place
+pub entry_past : (rows : List NameRow) (place : ℕ) → length rows ≤ place → None ≡ slice_get (map name_and_child rows) place
 entry_past [] place le = refl
 entry_past (r ∷ rows) zero le = absurd (omega arith)
 entry_past (r ∷ rows) (suc place) le = entry_past rows place (omega arith)

@@ -6,9 +6,9 @@ use Rattle.sfs_tree.specs.declared.history.Kept.TheVariants.{One, Parts}
 use Rattle.sfs_tree.specs.Merged.{entries_in, by_stamps, EachOnce}
 
 -- the entries: those of one list as they stand, those of several by their stamps
-abbrev pub entries_of : Kept → List Entry
-entries_of (One entries) = entries.items
-entries_of (Parts parts) = by_stamps (entries_in parts.items)
+abbrev pub kept_entries : Kept → List Entry
+kept_entries (One entries) = entries.items
+kept_entries (Parts parts) = by_stamps (entries_in parts.items)
 
 -- several lists have each stamp once
 abbrev pub IsWhole : Kept → Type 0

@@ -8,8 +8,8 @@ use Rattle.sfs_tree.specs.declared.name_map.NameRow.{NameRow}
 use Rattle.sfs_tree.specs.Order.{name_cmp}
 
 -- a row as the pair of its name and its child's number
-abbrev pub entry_of : NameRow → List ℕ × ℕ
-entry_of row = (row.name, row.child.0)
+abbrev pub name_and_child : NameRow → List ℕ × ℕ
+name_and_child row = (row.name, row.child.0)
 
 -- the number of a node
 abbrev pub node_number : NodeId → ℕ

@@ -54,11 +54,11 @@ pub struct History {
 impl Model for History {
     ghost use Rattle.std.specs.Prelude.{List};
     ghost use Rattle.sfs_tree.specs.declared.history.Entry.{Entry};
-    ghost use Rattle.sfs_tree.specs.Kept.{entries_of, IsWhole};
+    ghost use Rattle.sfs_tree.specs.Kept.{kept_entries, IsWhole};
 
     ghost Value = { List Entry };
 
-    ghost view = { λ history. entries_of history.kept };
+    ghost view = { λ history. kept_entries history.kept };
 
     ghost invariant = { λ history. IsWhole history.kept };
 }

@@ -32,15 +32,15 @@ impl Model for NameMap {
 
     ghost coded = { finmap.code (coded_list coded_ℕ) coded_ℕ };
 
-    ghost use Rattle.sfs_tree.specs.NameRow.{entry_of};
+    ghost use Rattle.sfs_tree.specs.NameRow.{name_and_child};
 
-    ghost view = { λ m. finmap.from_sorted (map entry_of m.rows.items) };
+    ghost view = { λ m. finmap.from_sorted (map name_and_child m.rows.items) };
 
-    ghost invariant = { λ m. IsTrue (finmap.is_sorted name_cmp (map entry_of m.rows.items)) };
+    ghost invariant = { λ m. IsTrue (finmap.is_sorted name_cmp (map name_and_child m.rows.items)) };
 }
 
 impl NameMap {
-    ghost use Rattle.sfs_tree.specs.NameRow.{entry_of, number_of};
+    ghost use Rattle.sfs_tree.specs.NameRow.{name_and_child, number_of};
 
     /// No rows.
     pub fn new(alloc: Global) -> Self
@@ -60,7 +60,7 @@ impl NameMap {
 
     /// The rows, names ascending by their bytes.
     pub fn rows(&self) -> &[NameRow]
-        ensures { map entry_of result.now ≡ finmap.entries self.now }
+        ensures { map name_and_child result.now ≡ finmap.entries self.now }
     {
         &self.rows
     }
@@ -113,7 +113,7 @@ impl NameMap {
 
     /// The row at this place, names ascending by their bytes. `None` is past the last.
     pub fn at(&self, place: usize) -> Option<&NameRow>
-        ensures { option_map (λ row. entry_of row.now) result ≡ slice_get (finmap.entries self.now) place }
+        ensures { option_map (λ row. name_and_child row.now) result ≡ slice_get (finmap.entries self.now) place }
     {
         if place < self.rows.len() {
             Some(&self.rows[place])
@@ -128,22 +128,22 @@ impl NameMap {
 
     // Adds rows whose names no row has.
     pub(crate) fn add_rows(&mut self, alloc: Global, rows: &[NameRow]) -> Result<(), NoMemory>
-        requires sorted { IsTrue (finmap.is_sorted name_cmp (map entry_of rows.now)) }
-        requires apart { (name : _) → IsSome (finmap.find name_cmp name (map entry_of rows.now))
+        requires sorted { IsTrue (finmap.is_sorted name_cmp (map name_and_child rows.now)) }
+        requires apart { (name : _) → IsSome (finmap.find name_cmp name (map name_and_child rows.now))
             → finmap.get self.old name ≡ None }
         ensures { OnOk result ((name : _) → finmap.get self.new name
-            ≡ option_or (finmap.find name_cmp name (map entry_of rows.now)) (finmap.get self.old name)) }
+            ≡ option_or (finmap.find name_cmp name (map name_and_child rows.now)) (finmap.get self.old name)) }
     {
         self.rows = merged(alloc, rows, &self.rows)?;
         Ok(())
     }
 }
 
-ghost use Rattle.sfs_tree.specs.NameRow.{entry_of, number_of, IsPlaceOf, both_lists};
+ghost use Rattle.sfs_tree.specs.NameRow.{name_and_child, number_of, IsPlaceOf, both_lists};
 
 // The rows of two lists in one, names ascending where they ascend in both.
 fn merged(alloc: Global, rows: &[NameRow], others: &[NameRow]) -> Result<Vec<NameRow>, NoMemory>
-    ensures { IfOk result (λ both. map entry_of both.items ≡ both_lists (map entry_of rows.now) (map entry_of others.now)) }
+    ensures { IfOk result (λ both. map name_and_child both.items ≡ both_lists (map name_and_child rows.now) (map name_and_child others.now)) }
 {
     let mut both = Vec::new(alloc);
     let mut place = 0;
@@ -164,7 +164,7 @@ fn merged(alloc: Global, rows: &[NameRow], others: &[NameRow]) -> Result<Vec<Nam
 
 // Puts a copy of each of the rows behind the last.
 fn push_copies(into: &mut Vec<NameRow>, rows: &[NameRow]) -> Result<(), NoMemory>
-    ensures { OnOk result (map entry_of into.new.items ≡ map entry_of into.old.items ++ map entry_of rows.now) }
+    ensures { OnOk result (map name_and_child into.new.items ≡ map name_and_child into.old.items ++ map name_and_child rows.now) }
 {
     for row in rows {
         push_copy(into, row)?;
@@ -174,7 +174,7 @@ fn push_copies(into: &mut Vec<NameRow>, rows: &[NameRow]) -> Result<(), NoMemory
 
 // Puts a copy of a row behind the last.
 fn push_copy(into: &mut Vec<NameRow>, row: &NameRow) -> Result<(), NoMemory>
-    ensures { OnOk result (map entry_of into.new.items ≡ map entry_of into.old.items ++ entry_of row.now ∷ []) }
+    ensures { OnOk result (map name_and_child into.new.items ≡ map name_and_child into.old.items ++ name_and_child row.now ∷ []) }
 {
     let name = row.name.copy()?;
     into.push(NameRow {
@@ -186,17 +186,17 @@ fn push_copy(into: &mut Vec<NameRow>, row: &NameRow) -> Result<(), NoMemory>
 
 // Where a name stands among rows, or would.
 fn place_of(rows: &[NameRow], name: &[u8]) -> usize
-    requires { IsTrue (finmap.is_sorted name_cmp (map entry_of rows.now)) }
-    ensures { IsPlaceOf (map entry_of rows.now) name.now result }
+    requires { IsTrue (finmap.is_sorted name_cmp (map name_and_child rows.now)) }
+    ensures { IsPlaceOf (map name_and_child rows.now) name.now result }
 {
     rows.partition_point(|row| row.name.bytes().cmp(name) == Ordering::Less)
 }
 
 // The child of the row at a place, if it has this name.
 fn child_at(rows: &[NameRow], place: usize, name: &[u8]) -> Option<NodeId>
-    requires sorted { IsTrue (finmap.is_sorted name_cmp (map entry_of rows.now)) }
-    requires place { IsPlaceOf (map entry_of rows.now) name.now place }
-    ensures { number_of result ≡ finmap.find name_cmp name.now (map entry_of rows.now) }
+    requires sorted { IsTrue (finmap.is_sorted name_cmp (map name_and_child rows.now)) }
+    requires place { IsPlaceOf (map name_and_child rows.now) name.now place }
+    ensures { number_of result ≡ finmap.find name_cmp name.now (map name_and_child rows.now) }
 {
     if place >= rows.len() {
         return None;

@@ -13,7 +13,7 @@ abbrev pub MarksHold : List Status → List Bool → Type 0
 MarksHold statuses marks = (place : ℕ) → slice_index_or marks (place / 64) false ≡ true → is_free (slice_index_or statuses place Taken) ≡ false
 
 -- What a row of numbers keeps: its numbers fit 32 bits, the free ones are counted, and each group has its mark.
-pub record IsKept (first : ℕ) (statuses : List Status) (marks : List Bool) (free : ℕ) : Type 0 where
+pub record KeepsGroups (first : ℕ) (statuses : List Status) (marks : List Bool) (free : ℕ) : Type 0 where
   pub within : first + length statuses < 2 ^ 32
   pub counted : free ≡ count_by is_free statuses
   pub groups : length marks ≡ length statuses / 64 + 1

@@ -28,11 +28,11 @@ impl Model for Pool {
 
     ghost Value = { Pool };
 
-    ghost use Rattle.space_map.specs.Groups.{IsKept};
+    ghost use Rattle.space_map.specs.Groups.{KeepsGroups};
 
     ghost view = { λ pool. record { first = pool.first; statuses = pool.statuses.items } };
 
-    ghost invariant = { λ pool. IsKept pool.first pool.statuses.items pool.spent.items pool.free };
+    ghost invariant = { λ pool. KeepsGroups pool.first pool.statuses.items pool.spent.items pool.free };
 }
 
 impl Pool {

@@ -1,6 +1,6 @@
 // The machine of calls and commits: a run of three commits, and each reason to refuse an event.
 ghost use Rattle.std.specs.Prelude.{◌≡◌, length, IfOk};
-ghost use Rattle.flush_core.specs.Machine.{MachineState, IsTold};
+ghost use Rattle.flush_core.specs.Machine.{MachineState, MayBeTold};
 
 use crate::calls::{Asked, call_of};
 use flush_core::{CommitList, Event, Refused, State};
@@ -113,7 +113,7 @@ fn call_event(
     asked: &Asked,
     given: &Given,
 ) -> Result<Event, Fail>
-    ensures { IfOk result (λ event. (state : MachineState) → length state.first.made ≡ 2 → IsTold state event) }
+    ensures { IfOk result (λ event. (state : MachineState) → length state.first.made ≡ 2 → MayBeTold state event) }
 {
     if core >= 2 {
         return Err(Fail::new("a third core"));
@@ -132,7 +132,7 @@ fn call_event(
 
 // The event that is told.
 fn event_of(alloc: Global, told: &Told) -> Result<Event, Fail>
-    ensures { IfOk result (λ event. (state : MachineState) → length state.first.made ≡ 2 → IsTold state event) }
+    ensures { IfOk result (λ event. (state : MachineState) → length state.first.made ≡ 2 → MayBeTold state event) }
 {
     match told {
         Told::Call(stamp, core, asked, given) => call_event(alloc, *stamp, *core, asked, given),
@@ -175,7 +175,7 @@ fn is_refused(refused: &Refused, due: &Due) -> bool {
 impl Run {
     // Tells an event.
     fn step(&mut self, event: &Event) -> Result<(), Refused>
-        requires { (state : MachineState) → length state.first.made ≡ 2 → IsTold state event.now }
+        requires { (state : MachineState) → length state.first.made ≡ 2 → MayBeTold state event.now }
     {
         self.state.step(event)
     }

@@ -35,7 +35,7 @@ impl State {
     }
 }
 
-ghost use Rattle.flush_core.specs.State.{IsAnswered};
+ghost use Rattle.flush_core.specs.State.{HasDueAnswer};
 
 // An equal entry.
 fn copy_of(entry: &Entry) -> Result<Entry, NoMemory>
@@ -53,7 +53,7 @@ fn copy_of(entry: &Entry) -> Result<Entry, NoMemory>
 // Whether an entry's answer and moment of acknowledgement are such as it may have, where this reply
 // is due and the call is an fsync of a live node or not.
 fn is_answer(is_flush: bool, due: &Reply, entry: &Entry) -> bool
-    ensures { (result ≡ true) ↔ IsAnswered is_flush due.now entry.now }
+    ensures { (result ≡ true) ↔ HasDueAnswer is_flush due.now entry.now }
 {
     let replied = if is_flush {
         is_fsync_reply(&entry.reply)

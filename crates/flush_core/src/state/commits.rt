@@ -7,7 +7,7 @@ ghost use Rattle.flush_core.specs.Closure.{every_entry, AreRaised};
 ghost use Rattle.flush_core.specs.NodeSets.{has_node};
 ghost use Rattle.flush_core.specs.Flights.{flight_as};
 ghost use Rattle.flush_core.specs.Past.{IsPast};
-ghost use Rattle.flush_core.specs.State.{kept_flushes, nodes_in};
+ghost use Rattle.flush_core.specs.State.{kept_flushes, tree_has};
 
 use super::State;
 use crate::event::{CommitList, Refused};
@@ -23,7 +23,7 @@ use sfs_tree::Tree;
 use std::alloc::Global;
 
 impl State {
-    ghost use Rattle.flush_core.specs.Machine.{Begins};
+    ghost use Rattle.flush_core.specs.Machine.{BeginsFlight};
     ghost use Rattle.flush_core.specs.State.{Answers, IsRaisedTo, machine_of, inodes_of};
 
     // Begins a commit.
@@ -53,7 +53,7 @@ impl State {
 
     // A flight as it begins.
     fn flight(&mut self, commit: u64, node: NodeId, stamp: Stamp) -> Result<InFlight, NoMemory>
-        ensures begins { IfOk result (λ flight. Begins (machine_of self.old) commit (record { node = node.0; stamp = stamp.0 }) (flight_as flight)) }
+        ensures begins { IfOk result (λ flight. BeginsFlight (machine_of self.old) commit (record { node = node.0; stamp = stamp.0 }) (flight_as flight)) }
         ensures same { self.new ≡ self.old }
     {
         let past = self.story.take_past()?;
@@ -221,7 +221,7 @@ fn raised_all(
 
 // The nodes of a tree.
 fn nodes_of(alloc: Global, tree: &Tree) -> Result<NodeSet, NoMemory>
-    ensures { IfOk result (λ nodes. has_node nodes ≡ nodes_in tree.now) }
+    ensures { IfOk result (λ nodes. has_node nodes ≡ tree_has tree.now) }
 {
     let mut nodes = NodeSet::new(alloc);
     let mut last = None;

@@ -1,7 +1,6 @@
 -- The rows of a place are the same, or the lists are not.
-use Rattle.std.proofs.Common.{◌≡◌, ℕ, ◌+◌, ◌<◌, length, take, get_or, IsTrue, true, false, refl, sym, ap, ◌∙◌, arith}
-use Rattle.area_pair.specs.Rows.{mentions, place_of, numbered, AreAlike}
-use Rattle.area_pair.specs.declared.area.Row.{Row}
+use Rattle.std.proofs.Common.{◌≡◌, ◌+◌, ◌<◌, length, get_or, IsTrue, true, false, sym, ap, ◌∙◌, arith}
+use Rattle.area_pair.specs.Rows.{place_of, by_mention, AreAlike}
 use Rattle.area_pair.proofs.Alike.{numbered_at, alike_more, shorter}
 use Rattle.area_pair.proofs.same.same_when_numbered.Goals as goal
 
@@ -11,7 +10,7 @@ returns-then-not-are_alike c = (λ e. absurd (let never : false ≡ true = e in 
     differ : IsTrue c.are_alike.result → ⊥
     differ e = let never : true ≡ false = sym e ∙ c.if-not-are_alike.true in cc
 
-    alike : numbered c.args.rows.now ≡ numbered c.args.others.now → AreAlike c.index-rows-place.result c.inode_among-inode.result c.index-others-place.result c.inode_among-other_inode.result
+    alike : by_mention c.args.rows.now ≡ by_mention c.args.others.now → AreAlike c.index-rows-place.result c.inode_among-inode.result c.index-others-place.result c.inode_among-other_inode.result
     alike same =
         let row = c.index-rows-place.result in
         let place = c.loop-place.place in
@@ -30,7 +29,7 @@ loop-place-preserved c =
     let lt : place < length c.args.rows.now = c.loop-place-test.true in
     let lt_other : place < length c.args.others.now = omega arith in
     let alike = c.are_alike.ensures.0 c.if-not-are_alike.false in
-    alike_more (numbered c.args.rows.now) (numbered c.args.others.now) place row row (shorter c.args.rows.now place lt) (shorter c.args.others.now place lt_other)
+    alike_more (by_mention c.args.rows.now) (by_mention c.args.others.now) place row row (shorter c.args.rows.now place lt) (shorter c.args.others.now place lt_other)
     (numbered_at c.args.rows.now place row c.inode_among-inode.result row lt c.index-rows-place.is (c.inode_among-inode.ensures ∙ ap (λ nodes. place_of row.node.0 nodes + 1) c.nodes_of-known.ensures.nodes)
     ∙ alike
     ∙ sym (numbered_at c.args.others.now place c.index-others-place.result c.inode_among-other_inode.result row lt_other c.index-others-place.is

@@ -1,5 +1,6 @@
 use Rattle.std.proofs.Common.{ℕ, Option, sym, subst}
-use Rattle.area_pair.specs.Put.{TearsOnly, TearsGate}
+use Rattle.area_pair.specs.Put.{TearsGate}
+use Rattle.sfs_dev.specs.Steps.{TearsOnly}
 use Rattle.area_pair.specs.declared.area.Area.{Area}
 use Rattle.area_pair.proofs.steps.close.Goals as goal
 

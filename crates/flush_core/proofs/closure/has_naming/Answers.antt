@@ -1,5 +1,5 @@
 use Rattle.std.proofs.Common.{arith, refl}
-use Rattle.flush_core.specs.Engine.{Names}
+use Rattle.flush_core.specs.Engine.{NamesUnflushed}
 use Rattle.flush_core.proofs.Listed.{one_at, more_hold}
 use Rattle.flush_core.proofs.closure.has_naming.Goals as goal
 use Rattle.flush_core.proofs.closure.has_naming.Goals.{else-change-node-via-then-change-node+else-get-change, else-change-node-via-else-change-node}
@@ -10,7 +10,7 @@ returns-then-get-change c =
 
 pub loop-change-preserved : goal.loop-change-preserved
 loop-change-preserved c =
-    more_hold (λ change. Names c.args.cut.now c.args.node change → ⊥) c.args.changes.now c.loop-change.change-index c.change-item.result c.change-item.result c.loop-change-test.true c.change-item.is c.loop-change.invariant
+    more_hold (λ change. NamesUnflushed c.args.cut.now c.args.node change → ⊥) c.args.changes.now c.loop-change.change-index c.change-item.result c.change-item.result c.loop-change-test.true c.change-item.is c.loop-change.invariant
     (λ names. elim c.else-change-node.branch [
       | else-change-node-via-then-change-node+else-get-change w ↦ let le = names.unflushed in omega (arith, w.get.ensures)
       | else-change-node-via-else-change-node w ↦ w.if-change-node.false names.child

@@ -2,8 +2,8 @@
 use Rattle.std.proofs.Common.{List, [], None, refl, sym, subst, ◌∙◌}
 use Rattle.sfs_tree.specs.declared.history.Entry.{Entry}
 use Rattle.scalefs_run.specs.First.{first_tree}
-use Rattle.scalefs_run.specs.Safe.{IsSafe}
-use Rattle.scalefs_run.specs.Stands.{Stands}
+use Rattle.scalefs_run.specs.Safe.{CrashInvariant}
+use Rattle.scalefs_run.specs.RunInvariant.{RunInvariant}
 use Rattle.scalefs_run.specs.declared.flush.Store.{Store}
 use Rattle.scalefs_run.proofs.Begun.{stands_first}
 use Rattle.scalefs_run.proofs.Survived.{safe_first, told_here}
@@ -19,16 +19,16 @@ returns-clause-begins g c =
     let tree = c.in_ok-tree.tree in
     let store : Store = record { areas = c.in_ok-areas.areas; on_disk = c.in_ok-on_disk.on_disk; failed = None } in
     let opened = c.in_ok-areas.ensures in
-    let stands : Stands before.faults before.now (first_tree share rows) [] tree store after = stands_first share rows tree store after before.faults before.now opened.sound c.in_ok-tree.ensures c.in_ok-on_disk.ensures refl opened.read opened.calm c.open.ensures.goes.later in
+    let stands : RunInvariant before.faults before.now (first_tree share rows) [] tree store after = stands_first share rows tree store after before.faults before.now opened.sound c.in_ok-tree.ensures c.in_ok-on_disk.ensures refl opened.read opened.cause.kept c.open.ensures.advances.later in
     record {
       opened = rows;
-      told = opened.rows;
+      content = opened.rows;
       none = c.new.ensures.items;
-      stands = subst (λ (h : List Entry). Stands before.faults before.now (first_tree share rows) h tree store after) (sym c.new.ensures.items) stands;
-      safe = λ only tells counts.
-          let content = told_here before.told tells in
+      invariant = subst (λ (h : List Entry). RunInvariant before.faults before.now (first_tree share rows) h tree store after) (sym c.new.ensures.items) stands;
+      crash_invariant = λ only tells counts.
+          let content = told_here before.content tells in
           let moments = c.open.ensures.moments only counts content.0 content.1 in
           let same = opened.rows content.0 content.1 in
-          let safe : IsSafe before.faults before.now (first_tree share rows) [] store after = safe_first share before.faults before.now rows store before after opened.sound (opened.settled tells only) (λ k image ge le left. moments k image ge le left ∙ sym same) in
-          subst (λ (h : List Entry). IsSafe before.faults before.now (first_tree share rows) h store after) (sym c.new.ensures.items) safe;
+          let safe : CrashInvariant before.faults before.now (first_tree share rows) [] store after = safe_first share before.faults before.now rows store before after opened.sound (opened.settled tells only) (λ k image ge le left. moments k image ge le left ∙ sym same) in
+          subst (λ (h : List Entry). CrashInvariant before.faults before.now (first_tree share rows) h store after) (sym c.new.ensures.items) safe;
     }

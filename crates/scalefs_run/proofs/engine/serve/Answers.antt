@@ -9,13 +9,13 @@ on_err : {A E : Type 0} {X : Type 0} (r : Result A E) → X → OnErr r X
 on_err (Ok v) x = tt
 on_err (Err e) x = x
 
-pub returns-in_err-serve_phase-clause-stands : goal.returns-in_err-serve_phase-clause-stands
-returns-in_err-serve_phase-clause-stands g c start from first h = c.in_err-serve_phase.ensures.stands start from first (c.loop-phase.invariant.still start from first h)
+pub returns-in_err-serve_phase-clause-invariant : goal.returns-in_err-serve_phase-clause-invariant
+returns-in_err-serve_phase-clause-invariant g c start from first h = c.in_err-serve_phase.ensures.invariant start from first (c.loop-phase.invariant.still start from first h)
 
-pub returns-in_err-serve_phase-clause-safe : goal.returns-in_err-serve_phase-clause-safe
-returns-in_err-serve_phase-clause-safe g c start from first h counts safe =
+pub returns-in_err-serve_phase-clause-crash_invariant : goal.returns-in_err-serve_phase-clause-crash_invariant
+returns-in_err-serve_phase-clause-crash_invariant g c start from first h counts safe =
     let invariant = c.loop-phase.invariant in
-    c.in_err-serve_phase.ensures.safe start from first (invariant.still start from first h) counts (invariant.safe start from first h (let later = c.in_err-serve_phase.ensures.goes.later in omega arith) safe)
+    c.in_err-serve_phase.ensures.crash_invariant start from first (invariant.still start from first h) counts (invariant.crash_invariant start from first h (let later = c.in_err-serve_phase.ensures.advances.later in omega arith) safe)
 
 pub returns-in_err-serve_phase-clause-err : goal.returns-in_err-serve_phase-clause-err
 returns-in_err-serve_phase-clause-err g c =
@@ -28,11 +28,11 @@ loop-phase-preserved g c =
     let served = c.in_ok-serve_phase.ensures in
     let somehow = invariant.somehow in
     record {
-      large = let same = served.goes.size in let large = invariant.large in omega arith;
-      somehow = (somehow.0, somehow.1, somehow.2, served.stands somehow.0 somehow.1 somehow.2 somehow.3);
-      still = λ start from first h. served.stands start from first (invariant.still start from first h);
-      safe = λ start from first h counts safe. served.safe start from first (invariant.still start from first h) counts (invariant.safe start from first h (let later = served.goes.later in omega arith) safe);
+      large = let same = served.advances.size in let large = invariant.large in omega arith;
+      somehow = (somehow.0, somehow.1, somehow.2, served.invariant somehow.0 somehow.1 somehow.2 somehow.3);
+      still = λ start from first h. served.invariant start from first (invariant.still start from first h);
+      crash_invariant = λ start from first h counts safe. served.crash_invariant start from first (invariant.still start from first h) counts (invariant.crash_invariant start from first h (let later = served.advances.later in omega arith) safe);
       follows = follows_next c.args.phases.now c.loop-phase.phase-index c.phase-item.result c.loop-phase.engine.entries.items c.serve_phase.new.engine.entries.items
           (let test = c.loop-phase-test.true in let end = c.loop-phase.auto.phase-index-end in omega arith) c.phase-item.is invariant.follows served.ok;
-      goes = GoesOn-trans _ _ _ invariant.goes served.goes;
+      advances = GoesOn-trans _ _ _ invariant.advances served.advances;
     }

@@ -3,25 +3,17 @@ use Rattle.std.proofs.Common.{◌≡◌, Vec, Global, vec_len, arith, ℕ, true,
 use Rattle.sfs_base.specs.declared.numbers.CoreId.{CoreId}
 use Rattle.sfs_tree.specs.declared.call.Call.{Call}
 use Rattle.sfs_tree.specs.declared.history.Entry.{Entry}
-use Rattle.sfs_tree.specs.Tree.{TreeState}
 use Rattle.area_pair.specs.Settled.{ReadsAs}
 use Rattle.scalefs_run.specs.Replies.{is_fsync}
-use Rattle.scalefs_run.specs.Stands.{Stands}
+use Rattle.scalefs_run.specs.RunInvariant.{RunInvariant}
 use Rattle.scalefs_run.specs.declared.engine.Engine.{Engine}
 use Rattle.scalefs_run.specs.declared.flush.Flushed.{Flushed}
-use Rattle.scalefs_run.specs.Safe.{IsSafe}
-use Rattle.sfs_tree.specs.Sound.{IsSound}
-use Rattle.sfs_tree.proofs.SoundTrees.{calls_keep_sound}
+use Rattle.scalefs_run.specs.Safe.{CrashInvariant}
 use Rattle.scalefs_run.proofs.Called.{pushed_entry, entries_kept, called_stands, called_safe, flushed_stands, flushed_safe}
 use Rattle.scalefs_run.proofs.engine.serve_call.Goals as goal
 
-pub answer-reply-requires-clause-sound : goal.answer-reply-requires-clause-sound
-answer-reply-requires-clause-sound g c κs within_place =
-    let somehow = c.requires.stands in
-    let so_far = somehow.3 in
-    let cores = so_far.cores in
-    let within = c.requires.core in
-    subst (λ (t : TreeState). IsSound t) (sym c.in_ok-reply.ensures.tree) (calls_keep_sound c.args.engine.now.tree c.args.core.0 c.args.call so_far.sound (omega arith)).sound
+pub answer-requires-clause-sound : goal.answer-requires-clause-sound
+answer-requires-clause-sound g c κs within_place = c.requires.invariant.3.sound.sound
 
 stamped : (entries : Vec Entry Global) (history : List Entry) (n : ℕ) → entries.items ≡ history → n ≡ vec_len entries → length history ≡ n
 stamped entries history n is len = ap length (sym is) ∙ omega (arith, entries.ok.0)
@@ -38,10 +30,10 @@ returns-clause-ok g c =
     let view = g.D.Disk.view in
     let old = c.args.engine.now in
     let disk = c.args.disk.now in
-    let flushed = c.answer-reply.result in
-    let mid : Engine = record { alloc = old.alloc; store = old.store; tree = c.step.new.self; entries = c.reserve.new.self } in
-    let new = c.answer-reply.new.engine in
-    let kept : new.entries.items ≡ old.entries.items = entries_kept c.args.call (c.answer-reply.new.disk ≡ disk) c.in_ok-reply.reply mid new (view disk) (view c.answer-reply.new.disk) flushed old.entries.items c.in_ok-reserve.ensures.items c.answer-reply.ensures.other c.answer-reply.ensures.fsync in
+    let flushed = c.in_ok-flushed.flushed in
+    let mid : Engine = record old { entries = c.reserve.new.self } in
+    let new = c.answer.new.engine in
+    let kept : new.entries.items ≡ old.entries.items = entries_kept c.args.core c.args.call (c.answer.new.disk ≡ disk) mid new (view disk) (view c.answer.new.disk) flushed old.entries.items c.in_ok-reserve.ensures.items c.in_ok-flushed.ensures.other c.in_ok-flushed.ensures.fsync in
     let entry = pushed_entry c.len.result c.args.core c.args.call flushed in
     record {
       entry = entry;
@@ -50,63 +42,59 @@ returns-clause-ok g c =
       call_is = refl;
     }
 
-pub returns-clause-stands : goal.returns-clause-stands
-returns-clause-stands g c start from first so_far =
+pub returns-clause-invariant : goal.returns-clause-invariant
+returns-clause-invariant g c start from first so_far =
     let view = g.D.Disk.view in
     let old = c.args.engine.now in
     let history = old.entries.items in
     let disk = c.args.disk.now in
-    let disk_after = c.answer-reply.new.disk in
+    let disk_after = c.answer.new.disk in
     let before = view disk in
     let after = view disk_after in
     let core = c.args.core in
     let call = c.args.call in
-    let reply = c.in_ok-reply.reply in
-    let flushed = c.answer-reply.result in
-    let mid : Engine = record { alloc = old.alloc; store = old.store; tree = c.step.new.self; entries = c.reserve.new.self } in
-    let new = c.answer-reply.new.engine in
+    let flushed = c.in_ok-flushed.flushed in
+    let mid : Engine = record old { entries = c.reserve.new.self } in
+    let new = c.answer.new.engine in
     let Same = disk_after ≡ disk in
-    let tree_is = c.in_ok-reply.ensures.tree in
     let kept = c.in_ok-reserve.ensures.items in
-    let items = entries_kept call Same reply mid new before after flushed history kept c.answer-reply.ensures.other c.answer-reply.ensures.fsync in
+    let items = entries_kept core call Same mid new before after flushed history kept c.in_ok-flushed.ensures.other c.in_ok-flushed.ensures.fsync in
     let all = all_pushed history new.entries.items c.push_reserved.new.self.items c.len.result core call flushed items (stamped new.entries history c.len.result items c.len.ensures) c.push_reserved.ensures.items in
-    subst (λ (l : List Entry). Stands start from first l new.tree new.store after) all
-    (elim (is_fsync call) as (λ b. is_fsync call ≡ b → Stands start from first (history ++ pushed_entry (length history) core call flushed ∷ []) new.tree new.store after) [
+    subst (λ (l : List Entry). RunInvariant start from first l new.tree new.store after) all
+    (elim (is_fsync call) as (λ b. is_fsync call ≡ b → RunInvariant start from first (history ++ pushed_entry (length history) core call flushed ∷ []) new.tree new.store after) [
       | true ↦ λ is.
-          flushed_stands start from first old mid new before after so_far core call reply flushed c.requires.core tree_is kept refl is c.requires.ready Same (c.answer-reply.ensures.fsync is) c.answer-reply.ensures.goes
+          flushed_stands start from first old mid new before after so_far core call flushed c.requires.core refl kept refl is c.requires.ready Same (c.in_ok-flushed.ensures.fsync is) c.answer.ensures.advances
           (λ same. ap (λ d. (view d).faults) same) (λ same current rows reads. subst (λ d. ReadsAs (view d) current rows) (sym same) reads)
       | false ↦ λ none.
-          called_stands start from first old mid new before after so_far core call reply flushed c.requires.core tree_is kept refl none c.in_ok-reply.ensures.ok Same (c.answer-reply.ensures.other none)
-          (λ same h t s stands. subst (λ d. Stands start from first h t s (view d)) (sym same) stands)
+          called_stands start from first old mid new before after so_far core call flushed c.requires.core refl kept refl none Same (c.in_ok-flushed.ensures.other none)
+          (λ same h t s stands. subst (λ d. RunInvariant start from first h t s (view d)) (sym same) stands)
     ] refl)
 
-pub returns-clause-safe : goal.returns-clause-safe
-returns-clause-safe g c start from first so_far counts safe =
+pub returns-clause-crash_invariant : goal.returns-clause-crash_invariant
+returns-clause-crash_invariant g c start from first so_far counts safe =
     let view = g.D.Disk.view in
     let old = c.args.engine.now in
     let history = old.entries.items in
     let disk = c.args.disk.now in
-    let disk_after = c.answer-reply.new.disk in
+    let disk_after = c.answer.new.disk in
     let before = view disk in
     let after = view disk_after in
     let core = c.args.core in
     let call = c.args.call in
-    let reply = c.in_ok-reply.reply in
-    let flushed = c.answer-reply.result in
-    let mid : Engine = record { alloc = old.alloc; store = old.store; tree = c.step.new.self; entries = c.reserve.new.self } in
-    let new = c.answer-reply.new.engine in
+    let flushed = c.in_ok-flushed.flushed in
+    let mid : Engine = record old { entries = c.reserve.new.self } in
+    let new = c.answer.new.engine in
     let Same = disk_after ≡ disk in
-    let tree_is = c.in_ok-reply.ensures.tree in
     let kept = c.in_ok-reserve.ensures.items in
-    let items = entries_kept call Same reply mid new before after flushed history kept c.answer-reply.ensures.other c.answer-reply.ensures.fsync in
+    let items = entries_kept core call Same mid new before after flushed history kept c.in_ok-flushed.ensures.other c.in_ok-flushed.ensures.fsync in
     let all = all_pushed history new.entries.items c.push_reserved.new.self.items c.len.result core call flushed items (stamped new.entries history c.len.result items c.len.ensures) c.push_reserved.ensures.items in
-    subst (λ (l : List Entry). IsSafe start from first l new.store after) all
-    (elim (is_fsync call) as (λ b. is_fsync call ≡ b → IsSafe start from first (history ++ pushed_entry (length history) core call flushed ∷ []) new.store after) [
+    subst (λ (l : List Entry). CrashInvariant start from first l new.store after) all
+    (elim (is_fsync call) as (λ b. is_fsync call ≡ b → CrashInvariant start from first (history ++ pushed_entry (length history) core call flushed ∷ []) new.store after) [
       | true ↦ λ is.
-          flushed_safe start from first old mid new before after so_far core call reply flushed c.requires.core tree_is kept refl is c.requires.ready Same (c.answer-reply.ensures.fsync is) c.answer-reply.ensures.goes
+          flushed_safe start from first old mid new before after so_far core call flushed c.requires.core refl kept refl is c.requires.ready Same (c.in_ok-flushed.ensures.fsync is) c.answer.ensures.advances
           (λ same. ap (λ d. (view d).faults) same) (λ same current rows reads. subst (λ d. ReadsAs (view d) current rows) (sym same) reads)
-          counts (λ same h s kept. subst (λ d. IsSafe start from first h s (view d)) (sym same) kept) safe
+          counts (λ same h s kept. subst (λ d. CrashInvariant start from first h s (view d)) (sym same) kept) safe
       | false ↦ λ none.
-          called_safe start from first old mid new before after so_far core call reply flushed c.requires.core tree_is kept refl none c.in_ok-reply.ensures.ok Same (c.answer-reply.ensures.other none)
-          (λ same h s kept. subst (λ d. IsSafe start from first h s (view d)) (sym same) kept) safe
+          called_safe start from first old mid new before after so_far core call flushed c.requires.core refl kept refl none Same (c.in_ok-flushed.ensures.other none)
+          (λ same h s kept. subst (λ d. CrashInvariant start from first h s (view d)) (sym same) kept) safe
     ] refl)

@@ -10,13 +10,13 @@ on_err : {A E : Type 0} {X : Type 0} (r : Result A E) → X → OnErr r X
 on_err (Ok v) x = tt
 on_err (Err e) x = x
 
-pub returns-in_err-serve_worker-clause-stands : goal.returns-in_err-serve_worker-clause-stands
-returns-in_err-serve_worker-clause-stands g c start from first h = c.in_err-serve_worker.ensures.stands start from first (c.loop-core.invariant.still start from first h)
+pub returns-in_err-serve_worker-clause-invariant : goal.returns-in_err-serve_worker-clause-invariant
+returns-in_err-serve_worker-clause-invariant g c start from first h = c.in_err-serve_worker.ensures.invariant start from first (c.loop-core.invariant.still start from first h)
 
-pub returns-in_err-serve_worker-clause-safe : goal.returns-in_err-serve_worker-clause-safe
-returns-in_err-serve_worker-clause-safe g c start from first h counts safe =
+pub returns-in_err-serve_worker-clause-crash_invariant : goal.returns-in_err-serve_worker-clause-crash_invariant
+returns-in_err-serve_worker-clause-crash_invariant g c start from first h counts safe =
     let invariant = c.loop-core.invariant in
-    c.in_err-serve_worker.ensures.safe start from first (invariant.still start from first h) counts (invariant.safe start from first h (let later = c.in_err-serve_worker.ensures.goes.later in omega arith) safe)
+    c.in_err-serve_worker.ensures.crash_invariant start from first (invariant.still start from first h) counts (invariant.crash_invariant start from first h (let later = c.in_err-serve_worker.ensures.advances.later in omega arith) safe)
 
 pub returns-in_err-serve_worker-clause-err : goal.returns-in_err-serve_worker-clause-err
 returns-in_err-serve_worker-clause-err g c =
@@ -28,12 +28,12 @@ loop-core-preserved g c =
     let served = c.in_ok-serve_worker.ensures in
     let somehow = invariant.somehow in
     record {
-      large = let same = served.goes.size in let large = invariant.large in omega arith;
-      somehow = (somehow.0, somehow.1, somehow.2, served.stands somehow.0 somehow.1 somehow.2 somehow.3);
-      still = λ start from first h. served.stands start from first (invariant.still start from first h);
-      safe = λ start from first h counts safe. served.safe start from first (invariant.still start from first h) counts (invariant.safe start from first h (let later = served.goes.later in omega arith) safe);
+      large = let same = served.advances.size in let large = invariant.large in omega arith;
+      somehow = (somehow.0, somehow.1, somehow.2, served.invariant somehow.0 somehow.1 somehow.2 somehow.3);
+      still = λ start from first h. served.invariant start from first (invariant.still start from first h);
+      crash_invariant = λ start from first h counts safe. served.crash_invariant start from first (invariant.still start from first h) counts (invariant.crash_invariant start from first h (let later = served.advances.later in omega arith) safe);
       made = up_to_more c.loop-core.core c.args.phase.now c.args.engine.now.entries.items c.loop-core.engine.entries.items c.serve_worker.new.engine.entries.items invariant.made served.ok;
-      goes = GoesOn-trans _ _ _ invariant.goes served.goes;
+      advances = GoesOn-trans _ _ _ invariant.advances served.advances;
     }
 
 pub returns-clause-ok : goal.returns-clause-ok

@@ -5,9 +5,9 @@ use Rattle.sfs_base.specs.declared.numbers.CoreId.{CoreId}
 use Rattle.sfs_tree.specs.declared.call.Call.{Call}
 use Rattle.sfs_tree.specs.declared.history.Entry.{Entry}
 use Rattle.script.specs.Limits.{calls_left}
-use Rattle.script.specs.Walks.{Standing, call_of, started, commands_of}
+use Rattle.script.specs.Walks.{Position, call_of, started, commands_of}
 use Rattle.scalefs_run.specs.Calls.{Called}
-use Rattle.script.specs.Ready.{StandsReady}
+use Rattle.script.specs.Ready.{PositionReady}
 use Rattle.script.proofs.ReadyLemmas.{started_ready, taken_ready}
 use Rattle.script.proofs.EndLemmas.{calls_left-falls}
 use Rattle.scalefs_run.specs.Made.{Grown, AtWork}
@@ -20,21 +20,21 @@ loop-call-init g c =
     let worker_is : c.new-worker.result ≡ started (commands_of c.args.core c.args.phase.now) = c.new-worker.ensures ∙ ap (λ n. started (commands_of n c.args.phase.now)) c.from.ensures in
     record {
       large = c.requires.large;
-      somehow = c.requires.stands;
+      somehow = c.requires.invariant;
       still = λ start from first stands. stands;
-      safe = λ start from first stands counts safe. safe;
-      made = subst (λ (w : Standing). Grown history history (AtWork c.args.core c.args.phase.now w)) (sym worker_is) (at_first c.args.core c.args.phase.now history);
-      ready = subst (λ (w : Standing). StandsReady w) (sym worker_is) (started_ready c.args.core c.args.phase.now c.requires.ready);
-      goes = GoesOn-refl _;
+      crash_invariant = λ start from first stands counts safe. safe;
+      made = subst (λ (w : Position). Grown history history (AtWork c.args.core c.args.phase.now w)) (sym worker_is) (at_first c.args.core c.args.phase.now history);
+      ready = subst (λ (w : Position). PositionReady w) (sym worker_is) (started_ready c.args.core c.args.phase.now c.requires.ready);
+      advances = GoesOn-refl _;
     }
 
-pub returns-in_err-serve_call-clause-stands : goal.returns-in_err-serve_call-clause-stands
-returns-in_err-serve_call-clause-stands g c start from first h = c.in_err-serve_call.ensures.stands start from first (c.loop-call.invariant.still start from first h)
+pub returns-in_err-serve_call-clause-invariant : goal.returns-in_err-serve_call-clause-invariant
+returns-in_err-serve_call-clause-invariant g c start from first h = c.in_err-serve_call.ensures.invariant start from first (c.loop-call.invariant.still start from first h)
 
-pub returns-in_err-serve_call-clause-safe : goal.returns-in_err-serve_call-clause-safe
-returns-in_err-serve_call-clause-safe g c start from first h counts safe =
+pub returns-in_err-serve_call-clause-crash_invariant : goal.returns-in_err-serve_call-clause-crash_invariant
+returns-in_err-serve_call-clause-crash_invariant g c start from first h counts safe =
     let invariant = c.loop-call.invariant in
-    c.in_err-serve_call.ensures.safe start from first (invariant.still start from first h) counts (invariant.safe start from first h (let later = c.in_err-serve_call.ensures.goes.later in omega arith) safe)
+    c.in_err-serve_call.ensures.crash_invariant start from first (invariant.still start from first h) counts (invariant.crash_invariant start from first h (let later = c.in_err-serve_call.ensures.advances.later in omega arith) safe)
 
 -- where the entry of the call stands
 placed : (entries : Vec Entry Global) (place : ℕ) → place ≡ vec_len entries → length entries.items ≡ place
@@ -46,8 +46,8 @@ reply_at core call old new place found called at is = ap (λ (e : Entry). e.repl
 
 pub loop-call-smaller : goal.loop-call-smaller
 loop-call-smaller g c =
-    let next : call_of c.loop-call.worker.progress ≡ Some c.in-Some.call = sym c.in_ok-call.ensures ∙ c.in-Some.is in
-    subst (λ (w : Standing). calls_left w < calls_left c.loop-call.worker) (sym c.take.ensures) (calls_left-falls c.loop-call.worker c.index.result.now.reply c.in-Some.call next)
+    let next : call_of c.loop-call.worker.walk ≡ Some c.in-Some.call = sym c.in_ok-call.ensures ∙ c.in-Some.is in
+    subst (λ (w : Position). calls_left w < calls_left c.loop-call.worker) (sym c.take.ensures) (calls_left-falls c.loop-call.worker c.index.result.now.reply c.in-Some.call next)
 
 pub loop-call-preserved : goal.loop-call-preserved
 loop-call-preserved g c =
@@ -58,16 +58,16 @@ loop-call-preserved g c =
     let new = c.serve_call.new.engine.entries.items in
     let core : CoreId = record { 0 = c.args.core } in
     let call = c.in-Some.call in
-    let next : call_of c.loop-call.worker.progress ≡ Some call = sym c.in_ok-call.ensures ∙ c.in-Some.is in
+    let next : call_of c.loop-call.worker.walk ≡ Some call = sym c.in_ok-call.ensures ∙ c.in-Some.is in
     let found = c.index.result.now in
     let reply_is = reply_at core call old.items new c.len-place.result found served.ok (placed old c.len-place.result c.len-place.ensures) c.index.ensures in
     let stands_at = at_next core c.args.phase.now c.loop-call.worker call c.args.engine.now.entries.items old.items new found.reply invariant.made next served.ok reply_is in
     record {
-      large = let same = served.goes.size in let large = invariant.large in omega arith;
-      somehow = (somehow.0, somehow.1, somehow.2, served.stands somehow.0 somehow.1 somehow.2 somehow.3);
-      still = λ start from first h. served.stands start from first (invariant.still start from first h);
-      safe = λ start from first h counts safe. served.safe start from first (invariant.still start from first h) counts (invariant.safe start from first h (let later = served.goes.later in omega arith) safe);
-      made = subst (λ (w : Standing). Grown c.args.engine.now.entries.items new (AtWork c.args.core c.args.phase.now w)) (sym c.take.ensures) stands_at;
-      ready = subst (λ (w : Standing). StandsReady w) (sym c.take.ensures) (taken_ready c.loop-call.worker found.reply invariant.ready);
-      goes = GoesOn-trans _ _ _ invariant.goes served.goes;
+      large = let same = served.advances.size in let large = invariant.large in omega arith;
+      somehow = (somehow.0, somehow.1, somehow.2, served.invariant somehow.0 somehow.1 somehow.2 somehow.3);
+      still = λ start from first h. served.invariant start from first (invariant.still start from first h);
+      crash_invariant = λ start from first h counts safe. served.crash_invariant start from first (invariant.still start from first h) counts (invariant.crash_invariant start from first h (let later = served.advances.later in omega arith) safe);
+      made = subst (λ (w : Position). Grown c.args.engine.now.entries.items new (AtWork c.args.core c.args.phase.now w)) (sym c.take.ensures) stands_at;
+      ready = subst (λ (w : Position). PositionReady w) (sym c.take.ensures) (taken_ready c.loop-call.worker found.reply invariant.ready);
+      advances = GoesOn-trans _ _ _ invariant.advances served.advances;
     }

@@ -1,5 +1,5 @@
 use Rattle.std.proofs.Common.{Err, ℕ, sym, ap, subst}
-use Rattle.sfs_base.specs.Ends.{Rose}
+use Rattle.sfs_base.specs.Ends.{HasRisen}
 use Rattle.scalefs_run.specs.Outcome.{HasReadFault, IsOf}
 use Rattle.scalefs_run.specs.declared.outcome.Status.{Status}
 use Rattle.std.specs.Prelude.{List}
@@ -13,7 +13,7 @@ pub returns-in-Err-clause-err : goal.returns-in-Err-clause-err
 returns-in-Err-clause-err g c =
     let left = g.S.Source.left c.args.source.now in
     let rest = g.S.Source.left c.read_all.new.source in
-    let failed = Rose (g.S.Source.faults c.args.source.now) (g.S.Source.faults c.read_all.new.source) in
+    let failed = HasRisen (g.S.Source.faults c.args.source.now) (g.S.Source.faults c.read_all.new.source) in
     let given = c.in-Err.ensures in
     let taken = given.taken in
     let found = read_fault failed left rest taken.0 c.in-Err.fault taken.1 taken.2 (λ is. given.cause (ap Err is)) in

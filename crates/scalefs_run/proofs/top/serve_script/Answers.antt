@@ -1,6 +1,6 @@
 -- Each way in which a script ends that was read.
 use Rattle.std.proofs.Common.{◌≡◌, List, Some, None, refl, sym, ap, subst, ◌∙◌}
-use Rattle.sfs_base.specs.Ends.{Rose}
+use Rattle.sfs_base.specs.Ends.{HasRisen}
 use Rattle.sfs_tree.specs.declared.history.Entry.{Entry}
 use Rattle.area_pair.specs.Fault.{IsFault}
 use Rattle.area_pair.specs.declared.open.OpenFault.{OpenFault}
@@ -9,10 +9,10 @@ use Rattle.scalefs_run.specs.declared.outcome.Status.TheVariants.{Done, DiskFaul
 use Rattle.script.specs.declared.commands.Line.{Line}
 use Rattle.script.specs.Follows.{Follows, FollowsSoFar}
 use Rattle.std.specs.List.{All}
-use Rattle.scalefs_run.specs.Beyond.{beyond, IsWithin}
+use Rattle.scalefs_run.specs.Beyond.{beyond, HaveCores}
 use Rattle.scalefs_run.proofs.Within.{all_within}
 use Rattle.scalefs_run.specs.Outcome.{HasText, workers_status}
-use Rattle.scalefs_run.specs.Crash.{AreDated, Survives}
+use Rattle.scalefs_run.specs.Crash.{AcksRise, Survives}
 use Rattle.scalefs_run.specs.Served.{Served}
 use Rattle.scalefs_run.proofs.Serving.{served_none, served_run, write_status, write_history, workers_read, workers_command, none_so_far}
 use Rattle.scalefs_run.proofs.Survived.{survives_none, survives_run, survives_opened}
@@ -26,8 +26,8 @@ returns-in-Err-DiskFailed-clause-served g c =
     let new = view c.mount.new.disk in
     let sink = c.args.sink.now in
     let phases = c.args.script.now in
-    let rose : Rose old.faults new.faults = subst (λ (f : OpenFault). IsFault f old.faults new.faults) c.in-Err-DiskFailed.field-0-is c.in-Err-DiskFailed.ensures.cause in
-    subst (λ (h : List Entry). Served (workers_status (beyond 2 phases)) c.args.share phases ⊥ (Rose (g.K.Sink.faults sink) (g.K.Sink.faults sink)) (g.K.Sink.written sink) (g.K.Sink.written sink) old new DiskFault h) (sym c.new.ensures)
+    let rose : HasRisen old.faults new.faults = subst (λ (f : OpenFault). IsFault f old.faults new.faults) c.in-Err-DiskFailed.field-0-is c.in-Err-DiskFailed.ensures.cause in
+    subst (λ (h : List Entry). Served (workers_status (beyond 2 phases)) c.args.share phases ⊥ (HasRisen (g.K.Sink.faults sink) (g.K.Sink.faults sink)) (g.K.Sink.written sink) (g.K.Sink.written sink) old new DiskFault h) (sym c.new.ensures)
     (served_none (workers_status (beyond 2 phases)) c.args.share phases ⊥ _ (g.K.Sink.written sink) (g.K.Sink.written sink) old new DiskFault (rose, workers_read (beyond 2 phases)) refl refl refl)
 
 pub returns-in-Err-NoMemory-clause-served : goal.returns-in-Err-NoMemory-clause-served
@@ -37,7 +37,7 @@ returns-in-Err-NoMemory-clause-served g c =
     let new = view c.mount.new.disk in
     let sink = c.args.sink.now in
     let phases = c.args.script.now in
-    subst (λ (h : List Entry). Served (workers_status (beyond 2 phases)) c.args.share phases ⊥ (Rose (g.K.Sink.faults sink) (g.K.Sink.faults sink)) (g.K.Sink.written sink) (g.K.Sink.written sink) old new NoMemory h) (sym c.new-in-Err-NoMemory.ensures)
+    subst (λ (h : List Entry). Served (workers_status (beyond 2 phases)) c.args.share phases ⊥ (HasRisen (g.K.Sink.faults sink) (g.K.Sink.faults sink)) (g.K.Sink.written sink) (g.K.Sink.written sink) old new NoMemory h) (sym c.new-in-Err-NoMemory.ensures)
     (served_none (workers_status (beyond 2 phases)) c.args.share phases ⊥ _ (g.K.Sink.written sink) (g.K.Sink.written sink) old new NoMemory (workers_command (beyond 2 phases)) (none_so_far phases) refl refl)
 
 pub returns-clause-served : goal.returns-clause-served
@@ -57,22 +57,22 @@ returns-clause-served g c =
     let engine = c.serve-served.new.engine in
     let history = engine.entries.items in
     let begins = c.in-Ok.ensures.begins in
-    let still = c.serve-served.ensures.stands in
-    subst (λ (d : Status). Served d share phases ⊥ (Rose (faults was) (faults is)) (written was) (written is) old new status c.from_entries-history.result) (sym (ap workers_status none))
-    (subst (λ (h : List Entry). Served Done share phases ⊥ (Rose (faults was) (faults is)) (written was) (written is) old new status h) (sym c.from_entries-history.ensures)
+    let still = c.serve-served.ensures.invariant in
+    subst (λ (d : Status). Served d share phases ⊥ (HasRisen (faults was) (faults is)) (written was) (written is) old new status c.from_entries-history.result) (sym (ap workers_status none))
+    (subst (λ (h : List Entry). Served Done share phases ⊥ (HasRisen (faults was) (faults is)) (written was) (written is) old new status h) (sym c.from_entries-history.ensures)
     (elim c.match-served.branch [
       | in-Err w ↦
-          subst (λ (s : Status). Served Done share phases ⊥ (Rose (faults was) (faults is)) (written was) (written is) old new s history) (sym w.status-is)
+          subst (λ (s : Status). Served Done share phases ⊥ (HasRisen (faults was) (faults is)) (written was) (written is) old new s history) (sym w.status-is)
           (served_run share phases _ (written was) (written is) c.in-Ok.engine engine old mid new NoMemory begins still tt (subst (λ (p : List (List Line)). FollowsSoFar p history) c.phases-2.ensures w.in-Err.ensures.err) (ap written w.sink-is))
       | in-Ok-served w ↦
           let ended = w.write_history-status.ensures in
           let given = w.write_history-status.result in
           let last = w.write_history-status.new.sink in
-          let served = served_run share phases (Rose (faults was) (faults last)) (written was) (written last) c.in-Ok.engine engine old mid new given begins still
+          let served = served_run share phases (HasRisen (faults was) (faults last)) (written was) (written last) c.in-Ok.engine engine old mid new given begins still
           (write_status _ _ given ended.status) (write_history _ phases history given ended.status (subst (λ (p : List (List Line)). Follows p history) c.phases-2.ensures w.in-Ok-served.ensures.ok))
           (subst (λ (h : List Entry). HasText h (written was) (written last) given) c.from_entries-history.ensures ended.text) in
-          subst (λ (s : Status). Served Done share phases ⊥ (Rose (faults was) (faults is)) (written was) (written is) old new s history) (sym w.status-is)
-          (subst (λ k. Served Done share phases ⊥ (Rose (faults was) (faults k)) (written was) (written k) old new given history) (sym w.sink-is) served)
+          subst (λ (s : Status). Served Done share phases ⊥ (HasRisen (faults was) (faults is)) (written was) (written is) old new s history) (sym w.status-is)
+          (subst (λ k. Served Done share phases ⊥ (HasRisen (faults was) (faults k)) (written was) (written k) old new given history) (sym w.sink-is) served)
     ]))
 
 pub returns-in-Err-DiskFailed-clause-survives : goal.returns-in-Err-DiskFailed-clause-survives
@@ -94,15 +94,15 @@ returns-clause-survives g c =
     let new = g.D.Disk.view c.serve-served.new.disk in
     let served = c.serve-served.ensures in
     subst (λ (h : List Entry). Survives c.args.share old new h) (sym c.from_entries-history.ensures)
-    (survives_run c.args.share c.in-Ok.engine c.serve-served.new.engine old mid new c.in-Ok.ensures.begins served.safe served.goes.later)
+    (survives_run c.args.share c.in-Ok.engine c.serve-served.new.engine old mid new c.in-Ok.ensures.begins served.crash_invariant served.advances.later)
 
-pub returns-clause-dated : goal.returns-clause-dated
-returns-clause-dated g c =
+pub returns-clause-acks : goal.returns-clause-acks
+returns-clause-acks g c =
     let old = g.D.Disk.view c.args.disk.now in
     let new = g.D.Disk.view c.serve-served.new.disk in
     let begins = c.in-Ok.ensures.begins in
-    subst (λ (h : List Entry). AreDated old.now h new.now) (sym c.from_entries-history.ensures)
-    (c.serve-served.ensures.stands old.faults old.now (Rattle.scalefs_run.specs.First.first_tree c.args.share begins.opened) begins.stands).dated
+    subst (λ (h : List Entry). AcksRise old.now h new.now) (sym c.from_entries-history.ensures)
+    (c.serve-served.ensures.invariant old.faults old.now (Rattle.scalefs_run.specs.First.first_tree c.args.share begins.opened) begins.invariant).acks
 
 pub returns-in-Some-clause-served : goal.returns-in-Some-clause-served
 returns-in-Some-clause-served g c =
@@ -114,7 +114,7 @@ returns-in-Some-clause-served g c =
     let found : beyond 2 phases ≡ Some c.in-Some.asked = ap (beyond 2) (sym c.phases.ensures) ∙ sym c.first_beyond.ensures ∙ c.in-Some.is in
     let due : workers_status (beyond 2 phases) ≡ TooManyWorkers c.from.result c.from-in-Some.result =
     ap workers_status found ∙ ap (λ n. TooManyWorkers n 2) (sym c.from.ensures) ∙ ap (TooManyWorkers c.from.result) (sym c.from-in-Some.ensures) in
-    subst (λ (h : List Entry). Served (workers_status (beyond 2 phases)) c.args.share phases ⊥ (Rose (g.K.Sink.faults sink) (g.K.Sink.faults sink)) (g.K.Sink.written sink) (g.K.Sink.written sink) old new (TooManyWorkers c.from.result c.from-in-Some.result) h) (sym c.new-in-Some.ensures)
+    subst (λ (h : List Entry). Served (workers_status (beyond 2 phases)) c.args.share phases ⊥ (HasRisen (g.K.Sink.faults sink) (g.K.Sink.faults sink)) (g.K.Sink.written sink) (g.K.Sink.written sink) old new (TooManyWorkers c.from.result c.from-in-Some.result) h) (sym c.new-in-Some.ensures)
     (served_none (workers_status (beyond 2 phases)) c.args.share phases ⊥ _ (g.K.Sink.written sink) (g.K.Sink.written sink) old new (TooManyWorkers c.from.result c.from-in-Some.result) due refl refl refl)
 
 pub returns-in-Some-clause-survives : goal.returns-in-Some-clause-survives
@@ -126,4 +126,4 @@ returns-in-Some-clause-survives g c =
 pub serve-served-requires-clause-within : goal.serve-served-requires-clause-within
 serve-served-requires-clause-within g c κs within =
     let none : beyond 2 c.args.script.now ≡ None = ap (beyond 2) (sym c.phases.ensures) ∙ sym c.first_beyond.ensures ∙ c.in_default.is in
-    subst (λ (p : List (List Line)). All (IsWithin 2) p) (sym c.phases-2.ensures) (all_within 2 c.args.script.now none)
+    subst (λ (p : List (List Line)). All (HaveCores 2) p) (sym c.phases-2.ensures) (all_within 2 c.args.script.now none)

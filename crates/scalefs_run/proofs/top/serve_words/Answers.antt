@@ -1,6 +1,6 @@
 -- Each way in which a run ends.
 use Rattle.std.proofs.Common.{◌≡◌, ◌/◌, List, map, string_bytes, sym, ap, subst, ◌∙◌}
-use Rattle.sfs_base.specs.Ends.{Rose}
+use Rattle.sfs_base.specs.Ends.{HasRisen}
 use Rattle.sfs_tree.specs.declared.history.Entry.{Entry}
 use Rattle.scalefs_run.specs.declared.outcome.Status.TheVariants.{BadWords}
 use Rattle.scalefs_run.specs.Crash.{Survives}
@@ -14,8 +14,8 @@ pub returns-in-Err-clause-served : goal.returns-in-Err-clause-served
 returns-in-Err-clause-served g c =
     let words = map string_bytes c.args.words.now in
     let left = g.S.Source.left c.args.source.now in
-    let Read = Rose (g.S.Source.faults c.args.source.now) (g.S.Source.faults c.args.source.now) in
-    let Wrote = Rose (g.K.Sink.faults c.args.sink.now) (g.K.Sink.faults c.args.sink.now) in
+    let Read = HasRisen (g.S.Source.faults c.args.source.now) (g.S.Source.faults c.args.source.now) in
+    let Wrote = HasRisen (g.K.Sink.faults c.args.sink.now) (g.K.Sink.faults c.args.sink.now) in
     let written = g.K.Sink.written c.args.sink.now in
     let disk = g.D.Disk.view c.args.disk.now in
     subst (λ (h : List Entry). ServedScript words left Read Wrote written written disk disk (BadWords c.in-Err.place) h) (sym c.new.ensures)
@@ -31,8 +31,8 @@ pub returns-in-Err-read_script-clause-served : goal.returns-in-Err-read_script-c
 returns-in-Err-read_script-clause-served g c =
     let words = map string_bytes c.args.words.now in
     let left = g.S.Source.left c.args.source.now in
-    let Read = Rose (g.S.Source.faults c.args.source.now) (g.S.Source.faults c.read_script.new.source) in
-    let Wrote = Rose (g.K.Sink.faults c.args.sink.now) (g.K.Sink.faults c.args.sink.now) in
+    let Read = HasRisen (g.S.Source.faults c.args.source.now) (g.S.Source.faults c.read_script.new.source) in
+    let Wrote = HasRisen (g.K.Sink.faults c.args.sink.now) (g.K.Sink.faults c.args.sink.now) in
     let written = g.K.Sink.written c.args.sink.now in
     let disk = g.D.Disk.view c.args.disk.now in
     let found = c.in-Err-read_script.ensures.err in
@@ -49,8 +49,8 @@ pub returns-in-Ok-read_script-clause-served : goal.returns-in-Ok-read_script-cla
 returns-in-Ok-read_script-clause-served g c =
     let words = map string_bytes c.args.words.now in
     let left = g.S.Source.left c.args.source.now in
-    let Read = Rose (g.S.Source.faults c.args.source.now) (g.S.Source.faults c.read_script.new.source) in
-    let Wrote = Rose (g.K.Sink.faults c.args.sink.now) (g.K.Sink.faults c.serve_script.new.sink) in
+    let Read = HasRisen (g.S.Source.faults c.args.source.now) (g.S.Source.faults c.read_script.new.source) in
+    let Wrote = HasRisen (g.K.Sink.faults c.args.sink.now) (g.K.Sink.faults c.serve_script.new.sink) in
     let nodes = c.in-Ok.nodes in
     let found = c.in-Ok-read_script.ensures.ok in
     served_read words left found.0 c.in-Ok-read_script.script Read Wrote (g.K.Sink.written c.args.sink.now) (g.K.Sink.written c.serve_script.new.sink) (g.D.Disk.view c.args.disk.now) (g.D.Disk.view c.serve_script.new.disk)

@@ -1,11 +1,11 @@
 use Rattle.std.proofs.Common.{◌+◌, ◌-◌, ◌≤◌, length}
-use Rattle.sfs_base.specs.Ends.{Takes}
+use Rattle.std.specs.Io.KnownBytes.{Consumes}
 use Rattle.sfs_base.specs.declared.transfer.TheConstants.{PIECE}
 use Rattle.sfs_base.proofs.transfer.read_all.Given as goal
 
 abbrev pub invariant-loop-piece : goal.invariant-loop-piece
 invariant-loop-piece g l = record {
-  taken : Takes (g.S.Source.left l.fn.source) l.bytes.items (g.S.Source.left l.source);
+  taken : Consumes (g.S.Source.left l.fn.source) (g.S.Source.left l.source) l.bytes.items;
   bounded : length l.bytes.items ≤ l.most + PIECE;
   never_falls : g.S.Source.faults l.fn.source ≤ g.S.Source.faults l.source;
 }

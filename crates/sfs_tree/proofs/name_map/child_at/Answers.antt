@@ -2,7 +2,7 @@ use Rattle.std.proofs.Common.{true, false, bytes_eq, map, sym, ap, ◌∙◌, ar
 use Rattle.std.proofs.Math.ListN.{drop_of_length-le}
 use Rattle.std.specs.Cmp.Lexicographic.{nat_list_cmp_total}
 use Rattle.sfs_tree.specs.Order.{name_cmp}
-use Rattle.sfs_tree.specs.NameRow.{entry_of}
+use Rattle.sfs_tree.specs.NameRow.{name_and_child}
 use Rattle.sfs_tree.proofs.Search.{first_if}
 use Rattle.sfs_tree.proofs.RowsByName.{find-at_place, find-at_row}
 use Rattle.sfs_tree.proofs.name_map.child_at.Goals as goal
@@ -10,7 +10,7 @@ use Rattle.sfs_tree.proofs.name_map.child_at.Goals as goal
 pub returns-then-place-rows : goal.returns-then-place-rows
 returns-then-place-rows c =
     sym (find-at_place c.args.rows.now c.args.name.now c.args.place c.requires.sorted c.requires.place
-    ∙ ap (λ rows. first_if {R = name_cmp} nat_list_cmp_total c.args.name.now (map entry_of rows)) (drop_of_length-le c.args.rows.now (omega arith)))
+    ∙ ap (λ rows. first_if {R = name_cmp} nat_list_cmp_total c.args.name.now (map name_and_child rows)) (drop_of_length-le c.args.rows.now (omega arith)))
 
 pub returns-then-eq : goal.returns-then-eq
 returns-then-eq c =

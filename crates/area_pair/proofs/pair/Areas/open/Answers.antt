@@ -30,7 +30,7 @@ returns-in_err-close-clause-moments g c =
     let rows = c.in_ok-rows.rows.items in
     let stale = c.stale_in.result in
     let finds : Finds seen current rows stale = record { current_is = c.current_in-current.ensures; rows_are = c.in_ok-rows.ensures; stale_is = c.stale_in.ensures } in
-    open_moments start looked c.look.ensures.rests seen c.in_ok-seen.ensures.ok current rows stale finds end c.look.ensures.goes c.close.ensures.goes c.close.ensures.torn
+    open_moments start looked c.look.ensures.rests seen c.in_ok-seen.ensures.ok current rows stale finds end c.look.ensures.advances c.close.ensures.advances c.close.ensures.torn
 
 pub returns-clause-moments : goal.returns-clause-moments
 returns-clause-moments g c =
@@ -43,7 +43,7 @@ returns-clause-moments g c =
     let rows = c.in_ok-rows.rows.items in
     let stale = c.stale_in.result in
     let finds : Finds seen current rows stale = record { current_is = c.current_in-current.ensures; rows_are = c.in_ok-rows.ensures; stale_is = c.stale_in.ensures } in
-    open_moments start looked c.look.ensures.rests seen c.in_ok-seen.ensures.ok current rows stale finds end c.look.ensures.goes c.close.ensures.goes c.close.ensures.torn
+    open_moments start looked c.look.ensures.rests seen c.in_ok-seen.ensures.ok current rows stale finds end c.look.ensures.advances c.close.ensures.advances c.close.ensures.torn
 
 pub returns-clause-rows : goal.returns-clause-rows
 returns-clause-rows g c =

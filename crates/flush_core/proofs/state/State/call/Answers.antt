@@ -3,9 +3,9 @@ use Rattle.sfs_tree.specs.declared.history.Entry.{Entry}
 use Rattle.sfs_tree.specs.History.{MayCome}
 use Rattle.flush_core.specs.declared.event.Event.TheVariants as event
 use Rattle.flush_core.specs.declared.event.Refused.TheVariants as refused
-use Rattle.flush_core.specs.Machine.{IsRefused, Takes}
+use Rattle.flush_core.specs.Machine.{IsRefused, Accepts}
 use Rattle.flush_core.specs.State.{KeptState, machine_of}
-use Rattle.flush_core.specs.Story.{StoryState, end_of, with_entry, IsReady}
+use Rattle.flush_core.specs.Story.{StoryState, end_of, with_entry, IsReadyPast}
 use Rattle.flush_core.specs.contracts.state.State as shown
 use Rattle.flush_core.proofs.Stories.{past_sound, past_core, joined_ready}
 use Rattle.flush_core.proofs.Called.{not_legal, may_come, takes_call}
@@ -35,13 +35,13 @@ join-requires-clause-may c =
 
 pub join-requires-clause-past : goal.join-requires-clause-past
 join-requires-clause-past c =
-    subst (λ (st : StoryState). IsReady st.first (with_entry st c.in_ok-copy_of.field-0).history c.add.new.self) (sym c.take_past.ensures.same)
-    (subst (λ (e : Entry). IsReady c.self.inside.story.first (c.self.inside.story.history ++ e ∷ []) c.add.new.self) (sym c.in_ok-copy_of.ensures)
+    subst (λ (st : StoryState). IsReadyPast st.first (with_entry st c.in_ok-copy_of.field-0).history c.add.new.self) (sym c.take_past.ensures.same)
+    (subst (λ (e : Entry). IsReadyPast c.self.inside.story.first (c.self.inside.story.history ++ e ∷ []) c.add.new.self) (sym c.in_ok-copy_of.ensures)
     (joined_ready c.self.inside.story.first c.self.inside.story.history c.in_ok-past.past c.in_ok-past.ensures.past c.args.entry.now (may_come (shown.the_view c.self.inside) c.in_ok-past.past c.in_ok-past.ensures.past
     c.args.entry.now (ap (λ (s : KeptState). s.crashed) c.self.view_is ∙ c.requires.running) (search rules) (subst (λ (s : KeptState). c.args.entry.now.core.0 < length s.first.made) (sym c.self.view_is) c.requires.core) c.flushes-is_flush.result c.flushes-is_flush.ensures c.in_ok-reply.reply c.in_ok-reply.ensures.reply (c.is_answer.ensures.0 c.if-not-is_answer.false)) c.add.new.self c.in_ok-reply.ensures.grows))
 
 pub returns : goal.returns
-returns c = subst (λ (s : KeptState). Takes (machine_of s) (event.Call c.args.entry.now) (machine_of (record (shown.the_view c.self.inside) { first = c.join.new.self.first; entries = c.join.new.self.history }))) c.self.view_is (takes_call (shown.the_view c.self.inside) c.in_ok-past.past c.in_ok-past.ensures.past
+returns c = subst (λ (s : KeptState). Accepts (machine_of s) (event.Call c.args.entry.now) (machine_of (record (shown.the_view c.self.inside) { first = c.join.new.self.first; entries = c.join.new.self.history }))) c.self.view_is (takes_call (shown.the_view c.self.inside) c.in_ok-past.past c.in_ok-past.ensures.past
     c.args.entry.now (ap (λ (s : KeptState). s.crashed) c.self.view_is ∙ c.requires.running) (search rules) (subst (λ (s : KeptState). c.args.entry.now.core.0 < length s.first.made) (sym c.self.view_is) c.requires.core) c.flushes-is_flush.result c.flushes-is_flush.ensures c.in_ok-reply.reply c.in_ok-reply.ensures.reply (c.is_answer.ensures.0 c.if-not-is_answer.false) _ (λ i. record (shown.the_view c.self.inside) {
       first = (joined i).first;
       entries = (joined i).history;

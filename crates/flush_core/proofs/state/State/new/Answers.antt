@@ -1,5 +1,5 @@
 use Rattle.std.proofs.Common.{None, false, map}
-use Rattle.flush_core.specs.State.{nodes_in}
+use Rattle.flush_core.specs.State.{tree_has}
 use Rattle.flush_core.specs.Flights.{flight_as}
 use Rattle.flush_core.proofs.state.State.new.Goals as goal
 
@@ -8,7 +8,7 @@ returns c = λ i. record {
   first = (c.new.ensures i).first;
   history = (c.new.ensures i).history;
   cut = c.new-2.ensures.none i;
-  inodes = nodes_in (c.new.ensures i).first;
+  inodes = tree_has (c.new.ensures i).first;
   flights = map flight_as (c.new-3.ensures.items i);
   used = c.new-4.ensures.items i;
   failed = None;

@@ -1,4 +1,4 @@
-use Rattle.std.proofs.Common.{◌+◌, ◌≤◌, drop, length, refl, arith}
+use Rattle.std.proofs.Common.{◌+◌, ◌≤◌, length, arith}
 use Rattle.sfs_base.proofs.Moves.{takes_front}
 use Rattle.sfs_base.proofs.bytes_source.SureSourceSource.read.Goals as goal
 
@@ -9,4 +9,4 @@ returns-clause-taken c =
     let count = c.min-count.result in
     let moved = rw c.deref.ensures.value at c.copy_from_slice.ensures.after in
     let fits : at + count ≤ length bytes = omega arith in
-    (drop (at + count) bytes, rw (← c.self.view_is) (takes_front bytes _ _ at count moved fits), refl)
+    rw (← c.self.view_is) (takes_front bytes _ _ at count moved fits)

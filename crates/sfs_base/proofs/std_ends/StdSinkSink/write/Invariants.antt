@@ -1,5 +1,9 @@
 use Rattle.std.proofs.Common.{◌≡◌}
+use Rattle.std.specs.Io.KnownBytes.{Keeps}
 use Rattle.sfs_base.proofs.std_ends.StdSinkSink.write.Given as goal
 
 abbrev pub invariant-loop : goal.invariant-loop
-invariant-loop g l = l.self-inside.faults ≡ l.fn.self
+invariant-loop g l = record {
+  faults : l.self.faults ≡ l.fn.self.faults;
+  keeps : Keeps (g.W.Write.contents l.fn.self.inner) (g.W.Write.contents l.self.inner);
+}

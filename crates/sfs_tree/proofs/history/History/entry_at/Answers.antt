@@ -1,6 +1,6 @@
 use Rattle.std.proofs.Common.{◌+◌, ◌<◌, ◌^◌, slice_get, OnSome, sym, ap, subst, ◌∙◌}
 use Rattle.sfs_tree.specs.Merged.{entries_in, entry_with}
-use Rattle.sfs_tree.specs.Kept.{entries_of, IsWhole}
+use Rattle.sfs_tree.specs.Kept.{kept_entries, IsWhole}
 use Rattle.sfs_tree.proofs.ByStamps.{get-by_stamps, room_for_next}
 use Rattle.sfs_tree.proofs.history.History.entry_at.Goals as goal
 
@@ -10,7 +10,7 @@ returns-in-Parts-clause-entry c =
     c.next_stamped.ensures
     ∙ ap (λ parts. entry_with (entries_in parts) c.cursor.inside.place) c.deref-in-Parts.ensures.value
     ∙ sym (get-by_stamps (entries_in c.in-Parts.parts.items) whole c.cursor.inside.place)
-    ∙ ap (λ es. slice_get es c.cursor.inside.place) (ap entries_of (sym c.in-Parts.is) ∙ c.self.view_is)
+    ∙ ap (λ es. slice_get es c.cursor.inside.place) (ap kept_entries (sym c.in-Parts.is) ∙ c.self.view_is)
     ∙ ap (slice_get c.args.self.now) c.cursor.view_is
 
 pub returns-in-Parts-clause-small : goal.returns-in-Parts-clause-small

@@ -1,6 +1,6 @@
 use Rattle.std.proofs.Common.{length, sym, ap, subst, ◌∙◌}
 use Rattle.sfs_tree.specs.Merged.{entries_in}
-use Rattle.sfs_tree.specs.Kept.{entries_of, IsWhole}
+use Rattle.sfs_tree.specs.Kept.{kept_entries, IsWhole}
 use Rattle.sfs_tree.proofs.ByStamps.{length-by_stamps}
 use Rattle.sfs_tree.proofs.history.History.len.Goals as goal
 
@@ -9,4 +9,4 @@ returns-in-Parts c =
     c.count_entries.ensures
     ∙ ap (λ parts. length (entries_in parts)) c.deref.ensures.value
     ∙ sym (length-by_stamps (entries_in c.in-Parts.parts.items) (subst IsWhole c.in-Parts.is c.self.invariant))
-    ∙ ap length (ap entries_of (sym c.in-Parts.is) ∙ c.self.view_is)
+    ∙ ap length (ap kept_entries (sym c.in-Parts.is) ∙ c.self.view_is)

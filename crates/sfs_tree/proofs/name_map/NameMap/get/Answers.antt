@@ -1,14 +1,14 @@
 use Rattle.std.proofs.Common.{sym, ap, ◌∙◌, map}
 use Rattle.std.specs.FinMap.{get, find}
 use Rattle.sfs_tree.specs.Order.{name_cmp}
-use Rattle.sfs_tree.specs.NameRow.{entry_of}
+use Rattle.sfs_tree.specs.NameRow.{name_and_child}
 use Rattle.sfs_tree.proofs.RowsByName.{get-map_of}
 use Rattle.sfs_tree.proofs.name_map.NameMap.get.Goals as goal
 
 pub returns : goal.returns
 returns c =
     c.child_at.ensures
-    ∙ ap (λ rows. find name_cmp c.bytes-2.result.now (map entry_of rows)) c.deref-2.ensures.value
-    ∙ ap (λ name. find name_cmp name (map entry_of c.self.inside.rows.items)) c.bytes-2.ensures.bytes
+    ∙ ap (λ rows. find name_cmp c.bytes-2.result.now (map name_and_child rows)) c.deref-2.ensures.value
+    ∙ ap (λ name. find name_cmp name (map name_and_child c.self.inside.rows.items)) c.bytes-2.ensures.bytes
     ∙ sym (get-map_of c.self.inside.rows.items c.args.name.now c.self.invariant)
     ∙ ap (λ m. get m c.args.name.now) c.self.view_is

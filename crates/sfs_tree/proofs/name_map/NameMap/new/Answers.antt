@@ -1,10 +1,10 @@
 use Rattle.std.proofs.Common.{ap, ◌∙◌, map, [], length}
 use Rattle.std.specs.FinMap.{from_sorted, empty_of_len, len-entries, entries-from_sorted}
 use Rattle.sfs_tree.specs.Order.{name_cmp}
-use Rattle.sfs_tree.specs.NameRow.{entry_of}
+use Rattle.sfs_tree.specs.NameRow.{name_and_child}
 use Rattle.sfs_tree.proofs.name_map.NameMap.new.Goals as goal
 
 pub returns : goal.returns
 returns c =
-    ap (λ rows. from_sorted {R = name_cmp} (map entry_of rows)) c.new.ensures.items
+    ap (λ rows. from_sorted {R = name_cmp} (map name_and_child rows)) c.new.ensures.items
     ∙ empty_of_len (from_sorted []) (len-entries _ ∙ ap length (entries-from_sorted name_cmp [] tt))

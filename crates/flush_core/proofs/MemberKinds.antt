@@ -1,0 +1,87 @@
+-- The members of an fsync's closure are directories, but for its own node.
+use Rattle.std.proofs.Common.{◌≡◌, ℕ, Bool, true, false, List, take, Some, None, ◌⊎◌, inl, inr, refl, sym, subst, ◌∙◌}
+use Rattle.sfs_tree.specs.declared.history.Entry.{Entry}
+use Rattle.sfs_tree.specs.Tree.{TreeState, is_directory}
+use Rattle.sfs_tree.specs.Effect.{Effect}
+use Rattle.sfs_tree.specs.Changes.{RowChange, added, changes_by}
+use Rattle.sfs_tree.specs.Sound.{Above}
+use Rattle.sfs_tree.specs.History.{tree_after, IsLegal}
+use Rattle.sfs_tree.specs.Laws.{IsSoundTree}
+use Rattle.sfs_tree.proofs.KeepsNodes.{directory_node}
+use Rattle.flush_core.specs.Cut.{Cut}
+use Rattle.flush_core.specs.Rules.{IsOneOf, IsChange, Birth, births_of}
+use Rattle.flush_core.specs.Closure as closure
+use Rattle.flush_core.specs.Closure.{Counts, Flush, Closure, IsConcerned}
+use Rattle.flush_core.specs.LawsInodes.{MembersAreDirectories, FilesFlushThemselves}
+use Rattle.flush_core.proofs.Own.{both}
+use Rattle.flush_core.proofs.Runs.{Run, Made}
+use Rattle.flush_core.proofs.Along.{tree_at, effect_at, tree_at-after, run_of, sound_at, nodes_at}
+use Rattle.flush_core.proofs.Lives.{live_at, ended_at}
+use Rattle.flush_core.proofs.Commit.{IsBornAt, birth_at}
+use Rattle.flush_core.proofs.Prefixes.{made_at}
+use Rattle.flush_core.proofs.Members.{other_changes, above_directory}
+
+module _ (first : TreeState) (history : List Entry) (is : IsSoundTree first) (legal : IsLegal first history) where
+  abbrev run : Run
+  run = run_of first history is legal
+
+  abbrev IsDirectory : ℕ → Type 0
+  IsDirectory node = is_directory (tree_after first history) node ≡ true
+
+  -- a directory of one of the trees is one of the last
+  pub still_directory : (t node : ℕ) → is_directory (tree_at first history t) node ≡ true → IsDirectory node
+  still_directory t node kind = (nodes_at first history t is legal node (directory_node (tree_at first history t) node kind)).1 ∙ kind
+
+  -- what changes is a directory
+  pub own_directory : (t : ℕ) (x : RowChange) → Made run t x → IsDirectory x.directory
+  own_directory t x one = still_directory t x.directory (live_at run t x one).kind
+
+  -- so is where a node is made
+  birth_directory : (birth : Birth) → IsOneOf (births_of first history) birth → IsDirectory birth.directory
+  birth_directory birth one = own_directory birth.stamp (added birth.stamp birth.directory born.name birth.node None) (subst (λ (f : Effect). IsOneOf (changes_by (tree_at first history birth.stamp) birth.stamp f) (added birth.stamp birth.directory born.name birth.node None)) (sym born.adds) (inl refl))
+    where
+      born : IsBornAt first history birth birth.stamp
+      born = birth_at first history birth legal one
+
+  -- and the other side of a rename, what a change ends, and those above what changes
+  other_directory : (change : RowChange) (other : ℕ) → IsChange first history change → change.other ≡ Some other → IsDirectory other
+  other_directory change other one two =
+      let own = other_changes (tree_at first history change.stamp) change.stamp (effect_at first history change.stamp) change other (made_at first history is legal change one) two in
+      subst IsDirectory own.2 (own_directory change.stamp own.0 own.1)
+
+  ended_directory : (change : RowChange) → IsChange first history change → change.ends ≡ true → IsDirectory change.child
+  ended_directory change one ends = still_directory change.stamp change.child (ended_at run change.stamp change (made_at first history is legal change one) ends).kind
+
+  directory_above : (change : RowChange) (above : List ℕ) (node : ℕ) → Above (tree_after first (take change.stamp history)) change.directory above → IsOneOf above node → IsDirectory node
+  directory_above change above node way among =
+      still_directory change.stamp node (above_directory (tree_at first history change.stamp) (sound_at first history 0 change.stamp is legal) (subst (λ (tree : TreeState). Above tree change.directory above) (sym (tree_at-after first history change.stamp)) way) node among)
+
+  module _ (counts : Counts) (cut : Cut) (inodes : ℕ → Bool) (flush : Flush) where
+    pub member_directory : {node : ℕ} → Closure first history counts cut inodes flush node → (node ≡ flush.node) ⊎ IsDirectory node
+    member_directory closure.itself = inl refl
+    member_directory (closure.other_side change other own span two) = inr (other_directory change other span.is_change two)
+    member_directory (closure.ended change own span ends) = inr (ended_directory change span.is_change ends)
+    member_directory (closure.ancestor change above node own span move way among) = inr (directory_above change above node way among)
+    member_directory (closure.birth_place birth own one none naming) = inr (birth_directory birth one)
+
+    -- a file with an inode is the one member of its own fsync, and concerns no other node
+    module _ (file : is_directory (tree_after first history) flush.node ≡ false) (has : inodes flush.node ≡ true) where
+      no_change : (change : RowChange) → IsChange first history change → change.directory ≡ flush.node → ⊥
+      no_change change one same = both (subst IsDirectory same (own_directory change.stamp change (made_at first history is legal change one))) file
+
+      member_alone : {node : ℕ} → Closure first history counts cut inodes flush node → node ≡ flush.node
+      member_alone closure.itself = refl
+      member_alone (closure.other_side change other own span two) = absurd (no_change change span.is_change (member_alone own))
+      member_alone (closure.ended change own span ends) = absurd (no_change change span.is_change (member_alone own))
+      member_alone (closure.ancestor change above node own span move way among) = absurd (no_change change span.is_change (member_alone own))
+      member_alone (closure.birth_place birth own one none naming) = absurd (both (subst (λ (y : ℕ). inodes y ≡ true) (sym (member_alone own)) has) none)
+
+      pub concerned_alone : (node : ℕ) → IsConcerned first history counts cut inodes flush node → node ≡ flush.node
+      concerned_alone node (closure.member _ own) = member_alone own
+      concerned_alone _ (closure.named change own span) = absurd (no_change change span.is_change (member_alone own))
+
+pub members_are_directories : MembersAreDirectories
+members_are_directories first history counts cut inodes flush node is legal own = member_directory first history is legal counts cut inodes flush own
+
+pub files_flush_themselves : FilesFlushThemselves
+files_flush_themselves first history counts cut inodes flush node is legal file has concerned = concerned_alone first history is legal counts cut inodes flush file has node concerned

@@ -1,0 +1,167 @@
+-- What an fsync does with the rows at the cut, and that what they name keeps an inode.
+use Rattle.std.proofs.Common.{◌≡◌, ℕ, zero, suc, ◌<◌, ◌≤◌, Bool, true, false, List, length, Some, ◌⊎◌, inl, inr, refl, sym, ap, subst, ◌∙◌, arith}
+use Rattle.std.specs.Prelude.{max}
+use Rattle.std.proofs.Math.Nat.{le-max_left, max-le}
+use Rattle.std.specs.FinMap.{FinMap, get}
+use Rattle.sfs_tree.specs.declared.history.Entry.{Entry}
+use Rattle.sfs_tree.specs.Order.{key_cmp}
+use Rattle.sfs_tree.specs.Tree.{TreeState, row_of}
+use Rattle.sfs_tree.specs.Changes.{RowChange}
+use Rattle.sfs_tree.specs.History.{IsLegal}
+use Rattle.sfs_tree.specs.Laws.{IsSoundTree}
+use Rattle.flush_core.specs.Cut.{Cut, cut_of, rows_at_cut, counted_rows_at_cut}
+use Rattle.flush_core.specs.Rules.{IsChange}
+use Rattle.flush_core.specs.Closure.{Counts, Flush, Closure, IsConcerned, named, IsNamedIn, IsRaised, AreInodesAfter}
+use Rattle.flush_core.proofs.Own.{both, stamp_of}
+use Rattle.flush_core.proofs.Runs.{Run, Made, Seen, below_or}
+use Rattle.flush_core.proofs.Seen.{ahead, behind}
+use Rattle.flush_core.proofs.Along.{tree_at, effect_at, run_of, change_in, change_of}
+use Rattle.flush_core.proofs.Closed.{seen_of, seen_end}
+use Rattle.flush_core.proofs.Children.{row_came}
+use Rattle.flush_core.proofs.NamedRows.{row_went}
+
+-- A change of a directory that names a node, from its cut to below its raised cut.
+pub record IsBetween (r : Run) (cut raised : ℕ → ℕ) (node : ℕ) : Type 0 where
+  pub stamp : ℕ
+  pub change : RowChange
+  pub made : Made r stamp change
+  pub child : change.child ≡ node
+  pub from : cut change.directory ≤ stamp
+  pub below : stamp < raised change.directory
+
+-- a row at a raised cut is one at the cut, or such a change names its child
+pub raised_row : (r : Run) (cut raised : ℕ → ℕ) (s : Seen r cut) (now : Seen r raised) → ((d : ℕ) → cut d ≤ raised d) → (t h : ℕ) (k : List ℕ) (a : ℕ) → get (now.rows t) (h, k) ≡ Some a → (get (s.rows t) (h, k) ≡ Some a) ⊎ IsBetween r cut raised a
+raised_row r cut raised s now up zero h k a row = inl (ahead r cut s zero h k (omega arith) ∙ sym (ahead r raised now zero h k (omega arith)) ∙ row)
+raised_row r cut raised s now up (suc t) h k a row = elim (below_or t (cut h)) [
+  | inl lt ↦ inl (let le = up h in ahead r cut s (suc t) h k (omega arith) ∙ sym (ahead r raised now (suc t) h k (omega arith)) ∙ row)
+  | inr le ↦ elim (below_or t (raised h)) [
+    | inr past ↦ still le (raised_row r cut raised s now up t h k a (sym (behind r raised now t h k past) ∙ row))
+    | inl lt ↦ elim (row_came (r.tree t) (r.core t) t (r.sound t) (r.effect t) (r.makes t) h k a (sym (ap (λ (tree : TreeState). row_of tree h k) (r.next t)) ∙ sym (ahead r raised now (suc t) h k (omega arith)) ∙ row)) [
+      | inl was ↦ still le (raised_row r cut raised s now up t h k a (ahead r raised now t h k (omega arith) ∙ was))
+      | inr came ↦ inr (record {
+        stamp = t;
+        change = came.0;
+        made = came.1;
+        child = came.3;
+        from = subst (λ (d : ℕ). cut d ≤ t) (sym came.2) le;
+        below = subst (λ (d : ℕ). t < raised d) (sym came.2) lt;
+      })
+    ]
+  ]
+]
+  where
+    still : cut h ≤ t → (get (s.rows t) (h, k) ≡ Some a) ⊎ IsBetween r cut raised a → (get (s.rows (suc t)) (h, k) ≡ Some a) ⊎ IsBetween r cut raised a
+    still le was = elim was [ inl there ↦ inl (behind r cut s t h k le ∙ there) | inr between ↦ inr between ]
+
+-- a row at a cut is one at a raised cut, or such a change names its child
+pub kept_row : (r : Run) (cut raised : ℕ → ℕ) (s : Seen r cut) (now : Seen r raised) → ((d : ℕ) → cut d ≤ raised d) → (t h : ℕ) (k : List ℕ) (a : ℕ) → get (s.rows t) (h, k) ≡ Some a → (get (now.rows t) (h, k) ≡ Some a) ⊎ IsBetween r cut raised a
+kept_row r cut raised s now up zero h k a row = inl (ahead r raised now zero h k (omega arith) ∙ sym (ahead r cut s zero h k (omega arith)) ∙ row)
+kept_row r cut raised s now up (suc t) h k a row = elim (below_or t (cut h)) [
+  | inl lt ↦ inl (let le = up h in ahead r raised now (suc t) h k (omega arith) ∙ sym (ahead r cut s (suc t) h k (omega arith)) ∙ row)
+  | inr le ↦ elim (kept_row r cut raised s now up t h k a (sym (behind r cut s t h k le) ∙ row)) [
+    | inr between ↦ inr between
+    | inl was ↦ elim (below_or t (raised h)) [
+      | inr past ↦ inl (behind r raised now t h k past ∙ was)
+      | inl lt ↦ elim (row_went (r.tree t) (r.core t) t (r.sound t) (r.effect t) (r.makes t) (r.fits t) h k a (sym (ahead r raised now t h k (omega arith)) ∙ was)) [
+        | inl stays ↦ inl (ahead r raised now (suc t) h k (omega arith) ∙ ap (λ (tree : TreeState). row_of tree h k) (r.next t) ∙ stays)
+        | inr went ↦ inr (record {
+          stamp = t;
+          change = went.0;
+          made = went.1;
+          child = went.3;
+          from = subst (λ (d : ℕ). cut d ≤ t) (sym went.2) le;
+          below = subst (λ (d : ℕ). t < raised d) (sym went.2) lt;
+        })
+      ]
+    ]
+  ]
+]
+
+module _ (first : TreeState) (history : List Entry) (counts : Counts) (flush : Flush) (cut raised : Cut) (inodes : ℕ → Bool) (is : IsSoundTree first) (legal : IsLegal first history) (all : (t : ℕ) → t < flush.stamp → counts t ≡ true) (raise : IsRaised first history counts cut inodes flush raised) where
+  abbrev run : Run
+  run = run_of first history is legal
+
+  abbrev IsMember : ℕ → Type 0
+  IsMember node = Closure first history counts cut inodes flush node
+
+  pub up : (d : ℕ) → cut_of cut d ≤ cut_of raised d
+  up d = elim (raise.other d) [
+    | inl own ↦ let e = raise.member d own in let le = le-max_left (cut_of cut d) flush.stamp in omega arith
+    | inr e ↦ omega arith
+  ]
+
+  -- a stamp from a cut to below the raised one is in a member's span
+  in_span : (d t : ℕ) → cut_of cut d ≤ t → t < cut_of raised d → IsMember d × (t < flush.stamp)
+  in_span d t from lt = elim (raise.other d) [
+    | inl own ↦ (own, below_stamp (raise.member d own))
+    | inr e ↦ absurd (no_less e)
+  ]
+    where
+      no_less : cut_of raised d ≡ cut_of cut d → ⊥
+      no_less e = omega arith
+
+      below_stamp : cut_of raised d ≡ max (cut_of cut d) flush.stamp → t < flush.stamp
+      below_stamp e = elim (below_or t flush.stamp) [
+        | inl less ↦ less
+        | inr more ↦ absurd (let le = max-le from more in no_less_than e le)
+      ]
+        where
+          no_less_than : cut_of raised d ≡ max (cut_of cut d) flush.stamp → max (cut_of cut d) flush.stamp ≤ t → ⊥
+          no_less_than e le = omega arith
+
+  -- the child of a change between the two cuts is concerned
+  pub between_concerned : (node : ℕ) → IsBetween run (cut_of cut) (cut_of raised) node → IsConcerned first history counts cut inodes flush node
+  between_concerned node b =
+      let there = in_span b.change.directory b.stamp b.from b.below in
+      subst (IsConcerned first history counts cut inodes flush) b.child (named b.change there.0 (record {
+        is_change = change_in first history b.stamp b.change legal b.made;
+        counted = all b.change.stamp (let lt = there.1 in let e = same in omega arith);
+        from = subst (λ (t : ℕ). cut_of cut b.change.directory ≤ t) (sym same) b.from;
+        below = subst (λ (t : ℕ). t < flush.stamp) (sym same) there.1;
+      }))
+    where
+      same : b.change.stamp ≡ b.stamp
+      same = stamp_of (tree_at first history b.stamp) b.stamp (effect_at first history b.stamp) b.change b.made
+
+  -- a change between the two cuts is no nearer than that
+  pub is_between : (change : RowChange) → IsChange first history change → cut_of cut change.directory ≤ change.stamp → change.stamp < cut_of raised change.directory → IsConcerned first history counts cut inodes flush change.child
+  is_between change one from below = between_concerned change.child (record { stamp = change.stamp; change = change; made = change_of first history change legal one; child = refl; from = from; below = below })
+
+  -- the change between them is one of the history that does not lie below the cut
+  pub between_change : (node : ℕ) (b : IsBetween run (cut_of cut) (cut_of raised) node) → IsChange first history b.change × (cut_of cut b.change.directory ≤ b.change.stamp)
+  between_change node b =
+      let same = stamp_of (tree_at first history b.stamp) b.stamp (effect_at first history b.stamp) b.change b.made in
+      (change_in first history b.stamp b.change legal b.made, subst (λ (t : ℕ). cut_of cut b.change.directory ≤ t) (sym same) b.from)
+
+  -- past the last stamp the rows are those at the cut
+  at_end : (c : Cut) (d : ℕ) (m : List ℕ) → get ((seen_of first history is legal c).rows (length history)) (d, m) ≡ get (rows_at_cut first history c) (d, m)
+  at_end c d m = ap (λ (rows : FinMap key_cmp ℕ). get rows (d, m)) (seen_end first history is legal c)
+
+  -- a row at the raised cut is one at the cut, or a change between the two names its child
+  pub row_raised : (directory : ℕ) (name : List ℕ) (node : ℕ) → get (rows_at_cut first history raised) (directory, name) ≡ Some node → (get (rows_at_cut first history cut) (directory, name) ≡ Some node) ⊎ IsBetween run (cut_of cut) (cut_of raised) node
+  row_raised directory name node row = elim (raised_row run (cut_of cut) (cut_of raised) (seen_of first history is legal cut) (seen_of first history is legal raised) up (length history) directory name node (at_end raised directory name ∙ row)) [
+    | inl there ↦ inl (sym (at_end cut directory name) ∙ there)
+    | inr between ↦ inr between
+  ]
+
+  -- and the other way round
+  pub row_before : (directory : ℕ) (name : List ℕ) (node : ℕ) → get (rows_at_cut first history cut) (directory, name) ≡ Some node → (get (rows_at_cut first history raised) (directory, name) ≡ Some node) ⊎ IsBetween run (cut_of cut) (cut_of raised) node
+  row_before directory name node row = elim (kept_row run (cut_of cut) (cut_of raised) (seen_of first history is legal cut) (seen_of first history is legal raised) up (length history) directory name node (at_end cut directory name ∙ row)) [
+    | inl there ↦ inl (sym (at_end raised directory name) ∙ there)
+    | inr between ↦ inr between
+  ]
+
+  -- where the rows at the raised cut are those by the entries that count, what they name has an inode
+  module _ (after : ℕ → Bool) (sets : AreInodesAfter first history counts cut inodes flush raised after) (same_rows : rows_at_cut first history raised ≡ counted_rows_at_cut first history counts raised)
+      (had : (node : ℕ) → IsNamedIn (rows_at_cut first history cut) node → inodes node ≡ true) where
+    counted_row : (node : ℕ) → IsNamedIn (rows_at_cut first history raised) node → IsNamedIn (counted_rows_at_cut first history counts raised) node
+    counted_row node row = subst (λ (rows : FinMap key_cmp ℕ). IsNamedIn rows node) same_rows row
+
+    pub named_after : (node : ℕ) → IsNamedIn (rows_at_cut first history raised) node → after node ≡ true
+    named_after node row = elim (inodes node) as (λ b. inodes node ≡ b → after node ≡ true) [
+      | true ↦ λ has. elim (after node) as (λ b. after node ≡ b → b ≡ true) [ true ↦ λ _. refl | false ↦ λ gone. absurd (((sets.leaves node has).0 gone).1.unnamed (counted_row node row)) ] refl
+      | false ↦ λ none. elim (row_raised row.directory row.name node row.row) [
+        | inl before ↦ absurd (both (had node (record { directory = row.directory; name = row.name; row = before })) none)
+        | inr between ↦ (sets.enters node none).1 (between_concerned node between, inl (counted_row node row))
+      ]
+    ] refl

@@ -1,0 +1,4 @@
+// The calls that a worker makes for its commands.
+mod calls;
+mod steps;
+pub mod worker;

@@ -1,0 +1,110 @@
+-- What the rules on bytes and pointers say.
+use Rattle.std.proofs.Common.{◌≡◌, ◌≢◌, ℕ, zero, suc, ◌+◌, ◌-◌, ◌*◌, ◌/◌, ◌%◌, ◌<◌, ◌≤◌, Bool, true, false, not, cond, eqb, leb, ltb, ◌&&◌, ◌||◌, List, [], length, get_or, slice_index, Option, None, Some, is_some, refl, sym, ap, ◌∙◌, subst, arith, inl, inr, ◌⊎◌}
+use Rattle.std.proofs.lemmas.Bool.{cases_Bool, cases_order, cond_both, cond-false, cond-true, ne_eqb, eqb-true, eqb-false, eq-eqb, and_left, and_right, and_cases, and_parts, or_from, or_parts, or_cases, not_from_true, not_from_false, not-false, both_ways, leb-true, ltb-true, le-leb, lt-ltb, or_left, or_right, and_from}
+use Rattle.sfs_image.specs.Inode.{inode_fault}
+use Rattle.sfs_image.specs.Part.{Part, inode_in, pointer_at, is_free_part, is_file_part, is_directory_part}
+use Rattle.sfs_image.specs.Rules.{any_below, breaks_record, breaks_root, breaks_size, is_data_block, is_good_pointer, first_covered, breaks_pointers, stands_below, is_held_before, breaks_apart, breaks_tail, breaks_slots, breaks_bytes_rule}
+use Rattle.sfs_image.specs.Seen.{PLACES}
+use Rattle.sfs_image.specs.Super.{Layout, data_start}
+use Rattle.sfs_image.proofs.Basics.{any_below-none, any_below-from}
+
+-- where both of two tests are not passed and the first is passed the second is not
+second_fails : (x y : Bool) → (x && y) ≡ false → x ≡ true → y ≡ false
+second_fails true y fails passes = fails
+second_fails false y fails passes = absurd cc
+
+-- a free inode is no file and no directory
+free_is_none : (part : Part) → is_free_part part ≡ true → (is_file_part part ≡ false) × (is_directory_part part ≡ false)
+free_is_none part free =
+    let kind : (inode_in part).kind ≡ 0 = eqb-true _ _ free in
+    (ne_eqb _ _ (λ one. let e : 0 ≡ 1 = sym kind ∙ one in omega arith), ne_eqb _ _ (λ two. let e : 0 ≡ 2 = sym kind ∙ two in omega arith))
+
+-- A free inode breaks no rule but the first, and inode 0 the second.
+pub free_breaks_none : (rule : ℕ) (layout : Layout) (parts : ℕ → Part) (i : ℕ) → rule ≢ 1 → i ≢ 0 → is_free_part (parts i) ≡ true → breaks_bytes_rule rule layout parts i ≡ false
+free_breaks_none rule layout parts i later inner free =
+    let kinds = free_is_none (parts i) free in
+    let used : not (is_free_part (parts i)) ≡ false = not_from_true (is_free_part (parts i)) free in
+    let Holds : Bool → Type 0 = λ b. b ≡ false in
+    cond-false (eqb rule 1) _ _ (ne_eqb rule 1 later)
+    ∙ cond_both (eqb rule 2) _ _ Holds (λ _. and_left (eqb i 0) _ (ne_eqb i 0 inner))
+    (λ _. cond_both (eqb rule 3) _ _ Holds (λ _. or_from _ _ (and_left (is_file_part (parts i)) _ kinds.0) (and_left (is_directory_part (parts i)) _ kinds.1))
+    (λ _. cond_both (eqb rule 4) _ _ Holds (λ _. and_left _ (any_below PLACES _) used)
+    (λ _. cond_both (eqb rule 5) _ _ Holds (λ _. and_left _ (any_below PLACES _) used)
+    (λ _. cond_both (eqb rule 6) _ _ Holds (λ _. and_left (is_file_part (parts i) && _) _ (and_left (is_file_part (parts i)) _ kinds.0))
+    (λ _. and_right (eqb rule 7) _ (and_left (is_directory_part (parts i)) _ kinds.1))))))
+
+-- the blocks of an inode that holds none twice, nor any that an inode below it holds too, stand nowhere before
+module _ (parts : ℕ → Part) (i p : ℕ) (used : is_free_part (parts i) ≡ false) (keeps : breaks_apart parts i ≡ false) (within : p < PLACES) (there : pointer_at (parts i) p ≢ 0) where
+  neither : (any_below i (λ j. stands_below PLACES (parts j) (pointer_at (parts i) p)) ≡ false) × (stands_below p (parts i) (pointer_at (parts i) p) ≡ false)
+  neither =
+      let each = second_fails (not (is_free_part (parts i))) (any_below PLACES (is_held_before parts i)) keeps (not_from_false (is_free_part (parts i)) used) in
+      let here = any_below-none PLACES (is_held_before parts i) each p within in
+      or_parts (any_below i (λ j. stands_below PLACES (parts j) (pointer_at (parts i) p))) (stands_below p (parts i) (pointer_at (parts i) p))
+      (second_fails (not (eqb (pointer_at (parts i) p) 0)) _ here (not_from_false (eqb (pointer_at (parts i) p) 0) (ne_eqb (pointer_at (parts i) p) 0 there)))
+
+  none_below : (j q : ℕ) → j < i → q < PLACES → pointer_at (parts j) q ≢ pointer_at (parts i) p
+  none_below j q below place =
+      eqb-false _ _ (any_below-none PLACES (λ k. eqb (pointer_at (parts j) k) (pointer_at (parts i) p)) (any_below-none i (λ m. stands_below PLACES (parts m) (pointer_at (parts i) p)) neither.0 j below) q place)
+
+  none_before : (q : ℕ) → q < p → pointer_at (parts i) q ≢ pointer_at (parts i) p
+  none_before q before = eqb-false _ _ (any_below-none p (λ k. eqb (pointer_at (parts i) k) (pointer_at (parts i) p)) neither.1 q before)
+
+-- Where no inode breaks the fifth rule each block has one place of one inode.
+pub apart_from_rule : (parts : ℕ → Part) (i j p q : ℕ) → breaks_apart parts i ≡ false → breaks_apart parts j ≡ false → is_free_part (parts i) ≡ false → is_free_part (parts j) ≡ false → p < PLACES → q < PLACES →
+    pointer_at (parts i) p ≢ 0 → pointer_at (parts i) p ≡ pointer_at (parts j) q → (i ≡ j) × (p ≡ q)
+apart_from_rule parts i j p q first second used taken within inside there same =
+    elim (cases_order i j) [
+      | inl e ↦ (e, (elim (cases_order p q) [
+        | inl place ↦ place
+        | inr (inl before) ↦ absurd (none_before parts j q taken second inside held_too p before (ap (λ (m : ℕ). pointer_at (parts m) p) (sym e) ∙ same))
+        | inr (inr after) ↦ absurd (none_before parts i p used first within there q after (ap (λ (m : ℕ). pointer_at (parts m) q) e ∙ sym same))
+      ]))
+      | inr (inl below) ↦ absurd (none_below parts j q taken second inside held_too i p below within same)
+      | inr (inr above) ↦ absurd (none_below parts i p used first within there j q above inside (sym same))
+    ]
+  where
+    held_too : pointer_at (parts j) q ≢ 0
+    held_too none = there (same ∙ none)
+
+-- An inode keeps the fifth rule where each of its blocks stands at no other place of it or of an inode below it.
+pub rule_from_apart : (parts : ℕ → Part) (i : ℕ) → ((j p q : ℕ) → j ≤ i → p < PLACES → q < PLACES → pointer_at (parts i) p ≢ 0 → pointer_at (parts i) p ≡ pointer_at (parts j) q → (i ≡ j) × (p ≡ q)) → breaks_apart parts i ≡ false
+rule_from_apart parts i apart =
+    and_right (not (is_free_part (parts i))) _
+    (any_below-from PLACES (is_held_before parts i)
+    (λ p within. elim (cases_Bool (eqb (pointer_at (parts i) p) 0)) [
+      | inl hole ↦ and_left _ _ (not_from_true (eqb (pointer_at (parts i) p) 0) hole)
+      | inr some ↦ and_right _ _ (or_from _ _
+          (any_below-from i _ (λ j below. any_below-from PLACES _ (λ q inside. ne_eqb _ _ (λ same. let both = apart j p q (omega arith) within inside (eqb-false _ _ some) (sym same) in let e = both.0 in omega arith))))
+          (any_below-from p _ (λ q before. ne_eqb _ _ (λ same. let both = apart i p q (omega arith) within (omega arith) (eqb-false _ _ some) (sym same) in let e = both.1 in omega arith))))
+    ]))
+
+-- Where an inode in use keeps the fourth rule each pointer names a block of the data area and covers a byte below the size.
+pub good_from_rule : (layout : Layout) (part : Part) (p : ℕ) → breaks_pointers layout part ≡ false → is_free_part part ≡ false → p < PLACES → pointer_at part p ≢ 0 →
+    (data_start layout ≤ pointer_at part p) × (pointer_at part p < layout.blocks) × (first_covered p < (inode_in part).size)
+good_from_rule layout part p keeps used within there =
+    let each = second_fails (not (is_free_part part)) (any_below PLACES (λ place. not (is_good_pointer layout part place))) keeps (not_from_false (is_free_part part) used) in
+    let good = not_false_true (is_good_pointer layout part p) (any_below-none PLACES (λ place. not (is_good_pointer layout part place)) each p within) in
+    let both = and_parts (is_data_block layout (pointer_at part p)) _ (some_passes (eqb (pointer_at part p) 0) _ good (ne_eqb (pointer_at part p) 0 there)) in
+    let ends = and_parts (leb (data_start layout) (pointer_at part p)) _ both.0 in
+    (leb-true (data_start layout) (pointer_at part p) ends.0, ltb-true (pointer_at part p) layout.blocks ends.1, ltb-true (first_covered p) (inode_in part).size both.1)
+  where
+    not_false_true : (b : Bool) → not b ≡ false → b ≡ true
+    not_false_true true h = refl
+    not_false_true false h = absurd cc
+
+    some_passes : (x y : Bool) → (x || y) ≡ true → x ≡ false → y ≡ true
+    some_passes x y passes fails = elim (or_cases x y passes) [ inl first ↦ absurd (both_ways x fails first) | inr second ↦ second ]
+
+-- An inode keeps the fourth rule where each of its pointers does so.
+pub rule_from_good : (layout : Layout) (part : Part) →
+    ((p : ℕ) → p < PLACES → pointer_at part p ≢ 0 → (data_start layout ≤ pointer_at part p) × (pointer_at part p < layout.blocks) × (first_covered p < (inode_in part).size)) → breaks_pointers layout part ≡ false
+rule_from_good layout part good =
+    and_right (not (is_free_part part)) _
+    (any_below-from PLACES _
+    (λ p within. not_from_true (is_good_pointer layout part p)
+    (elim (cases_Bool (eqb (pointer_at part p) 0)) [
+      | inl hole ↦ or_left (eqb (pointer_at part p) 0) _ hole
+      | inr some ↦ (let facts = good p within (eqb-false _ _ some) in
+          or_right (eqb (pointer_at part p) 0) _
+          (and_from _ _ (and_from _ _ (le-leb (data_start layout) (pointer_at part p) facts.0) (lt-ltb (pointer_at part p) layout.blocks facts.1)) (lt-ltb (first_covered p) (inode_in part).size facts.2)))
+    ])))

@@ -1,0 +1,134 @@
+-- Which parts an image stands for, whatever journal slots are open in it.
+use Rattle.std.specs.Prelude.{◌≡◌, ◌≢◌, ◌⊎◌, ℕ, ◌+◌, ◌*◌, ◌<◌, ◌≤◌, ◌==◌, true, false, All, List, [], ◌∷◌, length, map, take, drop, Option, None, Some, option_map, unwrap_or, if◌then◌else◌}
+use Rattle.std.specs.List.{range_with_len, flat_map, find}
+use Rattle.sfs_image.specs.Bytes.{part}
+use Rattle.sfs_image.specs.Journal.{Entry, head_of, numbers_of, numbers_fault}
+use Rattle.sfs_image.specs.Part.{Part, IsGathered, pointer_at}
+use Rattle.sfs_image.specs.Settled.{Body, Stamped, newest, body_in, image_block, journal_slot, layout_of, slot_byte, slot_count, super_fault_of, table_record}
+use Rattle.sfs_image.specs.Super.{Layout, IsLayout, data_start}
+
+-- an inode and its part
+pub record InodePart : Type 0 where
+  pub inode : ℕ
+  pub part : Part
+
+-- What a journal slot's body stands for: a commit stamp, and inodes with the parts that they have from this commit on.
+pub record Transaction : Type 0 where
+  pub stamp : ℕ
+  pub parts : List InodePart
+
+-- the body of a transaction, which has the records of its parts
+abbrev pub transaction_body : Transaction → Body
+transaction_body one = record { stamp = one.stamp; entries = map (λ own. record { inode = own.inode; bytes = own.part.raw }) one.parts }
+
+-- the part that a slot's transaction gives inode i, under the transaction's commit stamp
+abbrev pub part_given : ℕ → Option Transaction → Option (Stamped Part)
+part_given i None = None
+part_given i (Some one) = option_map (λ own. record { stamp = one.stamp; value = own.part }) (find (λ own. own.inode == i) one.parts)
+
+-- the part that the open slots of a disk give inode i, that under the greatest commit stamp; each slot by its number is open
+-- with a transaction or is closed
+abbrev pub given : Layout → (ℕ → Option Transaction) → ℕ → Option Part
+given layout opened i = option_map (λ newest. newest.value) (newest (map (λ k. part_given i (opened k)) (range_with_len 0 (slot_count layout))))
+
+-- the part of inode i with what the open slots give
+abbrev pub with_opened : Layout → (ℕ → Option Transaction) → (ℕ → Part) → ℕ → Part
+with_opened layout opened parts i = unwrap_or (given layout opened i) (parts i)
+
+-- a slot's gate is closed
+abbrev pub IsShut : List ℕ → Type 0
+IsShut slot = (head_of (part 0 4096 slot)).gate ≡ false
+
+-- behind a slot's gate stands the body of a transaction, with nothing wrong in it
+pub record HasBody (inodes : ℕ) (one : Transaction) (slot : List ℕ) : Type 0 where
+  pub count : (head_of (part 0 4096 slot)).count ≤ inodes
+  pub numbers : numbers_fault inodes (numbers_of inodes slot) ≡ None
+  pub body : body_in inodes slot ≡ transaction_body one
+
+-- a slot is open and has the body of a transaction
+pub record IsOpenWith (inodes : ℕ) (one : Transaction) (slot : List ℕ) : Type 0 where
+  pub gate : (head_of (part 0 4096 slot)).gate ≡ true
+  pub whole : HasBody inodes one slot
+
+-- a slot is closed, or open with a transaction
+abbrev pub IsSlotOf : ℕ → Option Transaction → List ℕ → Type 0
+IsSlotOf inodes None slot = IsShut slot
+IsSlotOf inodes (Some one) slot = IsOpenWith inodes one slot
+
+-- no two open slots have one commit stamp
+abbrev pub HaveOwnStamps : Layout → (ℕ → Option Transaction) → Type 0
+HaveOwnStamps layout opened =
+    (j k : ℕ) (one other : Transaction) → j < slot_count layout → k < slot_count layout → opened j ≡ Some one → opened k ≡ Some other → one.stamp ≡ other.stamp → j ≡ k
+
+-- each pointer of a part names a block of the data area
+abbrev pub PointsToData : Layout → Part → Type 0
+PointsToData layout part = (place : ℕ) → pointer_at part place ≢ 0 → (data_start layout ≤ pointer_at part place) × (pointer_at part place < layout.blocks)
+
+-- An image stands for these parts with those slots open: its superblock is that of the layout and each slot is closed or has
+-- its transaction; the table has the record of each inode that no open slot has; and what the pointers of each part reach,
+-- with the open transactions, is there, in the data area.
+pub record IsImageOf (layout : Layout) (opened : ℕ → Option Transaction) (parts : ℕ → Part) (image : List ℕ) : Type 0 where
+  pub sound : super_fault_of image ≡ None
+  pub divided : layout_of image ≡ layout
+  pub slots : (k : ℕ) → k < slot_count layout → IsSlotOf layout.inodes (opened k) (journal_slot layout image k)
+  pub stamps : HaveOwnStamps layout opened
+  pub table : (i : ℕ) → i < layout.inodes → given layout opened i ≡ None → table_record layout image i ≡ (parts i).raw
+  pub gathered : (i : ℕ) → i < layout.inodes → IsGathered (image_block image) (with_opened layout opened parts i)
+  pub pointers : (i : ℕ) → i < layout.inodes → PointsToData layout (with_opened layout opened parts i)
+
+-- two lists of bytes are the same but for the n bytes from byte `at` on
+pub record AgreesOutside (at n : ℕ) (old new : List ℕ) : Type 0 where
+  pub before : take at new ≡ take at old
+  pub behind : drop (at + n) new ≡ drop (at + n) old
+  pub size : length new ≡ length old
+
+-- m bytes from byte `from` on and n bytes from byte `at` on have none in common
+abbrev pub LiesApart : ℕ → ℕ → ℕ → ℕ → Type 0
+LiesApart from m at n = (from + m ≤ at) ⊎ (at + n ≤ from)
+
+-- the slots of a disk with another transaction, or none, in one of them
+abbrev pub with_slot : (ℕ → Option Transaction) → ℕ → Option Transaction → ℕ → Option Transaction
+with_slot opened k one j = if j == k then one else opened j
+
+-- A transaction may come to the open ones: its commit stamp is none of theirs, and greater than that of each which gives an inode
+-- that it gives too; and its parts are gathered from these blocks and point to data.
+pub record MayOpen (layout : Layout) (opened : ℕ → Option Transaction) (one : Transaction) (store : ℕ → List ℕ) : Type 0 where
+  pub own : (j : ℕ) (other : Transaction) → j < slot_count layout → opened j ≡ Some other → other.stamp ≢ one.stamp
+  pub newer : (i j : ℕ) (other ours : Stamped Part) → j < slot_count layout → part_given i (opened j) ≡ Some other → part_given i (Some one) ≡ Some ours → other.stamp < ours.stamp
+  pub gathered : All (λ (inner : InodePart). IsGathered store inner.part) one.parts
+  pub pointers : All (λ (inner : InodePart). PointsToData layout inner.part) one.parts
+
+-- A slot may be closed whose transaction has a lesser commit stamp than each other which gives an inode that it gives too, and
+-- which gives no inode alone whose record is not in the table.
+pub record MayShut (layout : Layout) (opened : ℕ → Option Transaction) (k : ℕ) (image : List ℕ) : Type 0 where
+  pub older : (i j : ℕ) (other ours : Stamped Part) → j < slot_count layout → j ≢ k → part_given i (opened j) ≡ Some other → part_given i (opened k) ≡ Some ours → ours.stamp < other.stamp
+  pub table : (i : ℕ) (ours : Stamped Part) → i < layout.inodes → part_given i (opened k) ≡ Some ours → given layout (with_slot opened k None) i ≡ None → table_record layout image i ≡ ours.value.raw
+
+-- A write of one byte at the gate of slot k, which is closed and has the whole body of a transaction, opens it.
+pub record OpensGate (layout : Layout) (opened : ℕ → Option Transaction) (k : ℕ) (one : Transaction) (old new : List ℕ) : Type 0 where
+  pub within : k < slot_count layout
+  pub written : AgreesOutside (slot_byte layout k) 1 old new
+  pub shut : opened k ≡ None
+  pub whole : HasBody layout.inodes one (journal_slot layout old k)
+  pub may : MayOpen layout opened one (image_block old)
+  pub gate : (head_of (part 0 4096 (journal_slot layout new k))).gate ≡ true
+
+-- A write of one byte at the gate of slot k shuts it.
+pub record ShutsGate (layout : Layout) (opened : ℕ → Option Transaction) (k : ℕ) (old new : List ℕ) : Type 0 where
+  pub within : k < slot_count layout
+  pub written : AgreesOutside (slot_byte layout k) 1 old new
+  pub may : MayShut layout opened k old
+  pub gate : (head_of (part 0 4096 (journal_slot layout new k))).gate ≡ false
+
+-- a block and the bytes that are written to it
+pub record FreshBlock : Type 0 where
+  pub block : ℕ
+  pub bytes : List ℕ
+
+-- these blocks stand in a store
+abbrev pub StandIn : (ℕ → List ℕ) → List FreshBlock → Type 0
+StandIn store fresh = All (λ one. store one.block ≡ one.bytes) fresh
+
+-- In each store that has the old part and the fresh blocks the new part's record gathers the new part.
+abbrev pub TurnsInto : List FreshBlock → Part → Part → Type 0
+TurnsInto fresh old new = (store : ℕ → List ℕ) → StandIn store fresh → IsGathered store old → IsGathered store new
