@@ -17,7 +17,7 @@ use Rattle.absorb.specs.Net.{IsNetRow, IsNet}
 use Rattle.image_tree.specs.Slots.{looked_up, name_count, in_blocks}
 use Rattle.image_tree.specs.Renamed.{Numbering}
 use Rattle.image_tree.specs.Stands.{row_on, ShowsNode, IsUnused, HoldsApart, StandsForTree}
-use Rattle.image_tree.specs.Commit.{net_row, row_after, slot_after, new_rows, filled, slots_after, Commit, blank, seen_before, IsAside, HasBlock, hole, kept, fresh, ComesBy, had, enters, IsCommit, GivesNumbers, MayFollow}
+use Rattle.image_tree.specs.Commit.{row_in_net, brought_row, slot_after, new_rows, filled, slots_after, Commit, blank, seen_before, IsAside, HasBlock, hole, kept, fresh, ComesBy, had, enters, IsCommit, GivesNumbers, MayFollow}
 use Rattle.image_tree.specs.Laws.{CommitsKeepStanding}
 use Rattle.image_tree.proofs.Basics.{some_is, none_some, both_true_first}
 use Rattle.image_tree.proofs.Paired.{count_paired}
@@ -42,9 +42,9 @@ pub record HasSlots (num : Numbering) (tree : TreeState) (node : ℕ) (slots : L
 -- the slots of a directory after its net
 module _ (num after : Numbering) (old new : TreeState) (x : ℕ) (net : List NetRow) (is_net : IsNet (names_of x old.rows) (names_of x new.rows) net) (alike : (n : List ℕ) (y : ℕ) → row_of old x n ≡ Some y → row_of new x n ≡ Some y → ◌≡◌ {A = Row} (row_on num old n y) (row_on after new n y)) where
   abbrev new_row : NetRow → Option Row
-  new_row row = cond (is_none row.before) (row_after after new row) None
+  new_row row = cond (is_none row.before) (brought_row after new row) None
 
-  after_named : (row : NetRow) (made : Row) → row_after after new row ≡ Some made → made.name ≡ row.name
+  after_named : (row : NetRow) (made : Row) → brought_row after new row ≡ Some made → made.name ≡ row.name
   after_named row made is = by_child (number_of row.after) is
     where
       by_child : (o : Option ℕ) → option_map (row_on after new row.name) o ≡ Some made → made.name ≡ row.name
@@ -54,14 +54,14 @@ module _ (num after : Numbering) (old new : TreeState) (x : ℕ) (net : List Net
   new_named : (row : NetRow) (made : Row) → new_row row ≡ Some made → made.name ≡ row.name
   new_named row made is = by_test (is_none row.before) is
     where
-      by_test : (b : Bool) → cond b (row_after after new row) None ≡ Some made → made.name ≡ row.name
+      by_test : (b : Bool) → cond b (brought_row after new row) None ≡ Some made → made.name ≡ row.name
       by_test true e = after_named row made e
       by_test false e = absurd (none_some e)
 
   slot_named : (row made : Row) → slot_after after new net (Some row) ≡ Some made → made.name ≡ row.name
-  slot_named row made is = by_net (net_row row.name net) refl is
+  slot_named row made is = by_net (row_in_net row.name net) refl is
     where
-      by_net : (o : Option NetRow) → net_row row.name net ≡ o → option_map_or (row_after after new) o (Some row) ≡ Some made → made.name ≡ row.name
+      by_net : (o : Option NetRow) → row_in_net row.name net ≡ o → option_map_or (brought_row after new) o (Some row) ≡ Some made → made.name ≡ row.name
       by_net None e same = ap (λ (r : Row). r.name) (sym (some_is same))
       by_net (Some r) e same = after_named r made same ∙ (net_row_is (names_of x old.rows) (names_of x new.rows) net is_net row.name r e).0
 
@@ -86,7 +86,7 @@ module _ (num after : Numbering) (old new : TreeState) (x : ℕ) (net : List Net
     names_once : HasNamesOnce net
     names_once = once_ascending net is_net.ascending
 
-    untouched : (n : List ℕ) → net_row n net ≡ None → After n
+    untouched : (n : List ℕ) → row_in_net n net ≡ None → After n
     untouched n none =
         let made = is_made new_row new_named n net names_once in
         let zero : name_count n (map Some (new_rows after new net)) ≡ 0 = made.counted ∙ ap (λ o. one_if_some (option_and_then new_row o)) none in
@@ -104,18 +104,18 @@ module _ (num after : Numbering) (old new : TreeState) (x : ℕ) (net : List Net
         by_child : (o : Option ℕ) → row_of old x n ≡ o → slot_after after new net (option_map (row_on num old n) o) ≡ option_map (row_on after new n) (row_of new x n)
         by_child None e = sym (ap (option_map (row_on after new n)) (sym same ∙ e))
         by_child (Some y) e =
-            ap (λ o. option_map_or (row_after after new) o (Some (row_on num old n y))) none
+            ap (λ o. option_map_or (brought_row after new) o (Some (row_on num old n y))) none
             ∙ ap Some (alike n y e (sym same ∙ e))
             ∙ sym (ap (option_map (row_on after new n)) (sym same ∙ e))
 
-    touched : (n : List ℕ) (row : NetRow) → net_row n net ≡ Some row → After n
+    touched : (n : List ℕ) (row : NetRow) → row_in_net n net ≡ Some row → After n
     touched n row is =
         by_before row.before refl
       where
         found : (row.name ≡ n) × IsNetRow (names_of x old.rows) (names_of x new.rows) row
         found = net_row_is (names_of x old.rows) (names_of x new.rows) net is_net n row is
 
-        then_row : row_after after new row ≡ option_map (row_on after new n) (row_of new x n)
+        then_row : brought_row after new row ≡ option_map (row_on after new n) (row_of new x n)
         then_row =
             ap (λ m. option_map (row_on after new m) (number_of row.after)) found.0
             ∙ ap (option_map (row_on after new n)) (found.1.after ∙ ap (get (names_of x new.rows)) found.0 ∙ later_row n)
@@ -131,11 +131,11 @@ module _ (num after : Numbering) (old new : TreeState) (x : ℕ) (net : List Net
             let b = count_changed (slot_after after new net) refl slot_named n slots in
             let c = count_filled n (changed slots) (new_rows after new net) in
             let d = made.counted in
-            let f = at_most (option_and_then new_row (net_row n net)) in
+            let f = at_most (option_and_then new_row (row_in_net n net)) in
             record {
               looked =
                   looked_filled_new n (changed slots) (new_rows after new net) (omega arith)
-                  ∙ made.looked ∙ ap (option_and_then new_row) is ∙ ap (λ o. cond (is_none o) (row_after after new row) None) e ∙ then_row;
+                  ∙ made.looked ∙ ap (option_and_then new_row) is ∙ ap (λ o. cond (is_none o) (brought_row after new row) None) e ∙ then_row;
               once = omega arith;
             }
           where
@@ -144,7 +144,7 @@ module _ (num after : Numbering) (old new : TreeState) (x : ℕ) (net : List Net
             at_most (Some row) = omega arith
         by_before (Some y) e =
             let made = is_made new_row new_named n net names_once in
-            let zero : name_count n (map Some (new_rows after new net)) ≡ 0 = made.counted ∙ ap (λ o. one_if_some (option_and_then new_row o)) is ∙ ap (λ o. one_if_some (cond (is_none o) (row_after after new row) None)) e in
+            let zero : name_count n (map Some (new_rows after new net)) ≡ 0 = made.counted ∙ ap (λ o. one_if_some (option_and_then new_row o)) is ∙ ap (λ o. one_if_some (cond (is_none o) (brought_row after new row) None)) e in
             let c = count_filled n (changed slots) (new_rows after new net) in
             let d = count_changed (slot_after after new net) refl slot_named n slots in
             let f = h.once n in
@@ -153,15 +153,15 @@ module _ (num after : Numbering) (old new : TreeState) (x : ℕ) (net : List Net
                   looked_filled_old n (changed slots) (new_rows after new net) zero
                   ∙ looked_in_changed n
                   ∙ ap (λ o. slot_after after new net (option_map (row_on num old n) o)) (was ∙ ap number_of e)
-                  ∙ ap (λ o. option_map_or (row_after after new) o (Some (row_on num old n y.0))) is
+                  ∙ ap (λ o. option_map_or (brought_row after new) o (Some (row_on num old n y.0))) is
                   ∙ then_row;
               once = omega arith;
             }
 
     by_name : (n : List ℕ) → After n
-    by_name n = by_row (net_row n net) refl
+    by_name n = by_row (row_in_net n net) refl
       where
-        by_row : (o : Option NetRow) → net_row n net ≡ o → After n
+        by_row : (o : Option NetRow) → row_in_net n net ≡ o → After n
         by_row None e = untouched n e
         by_row (Some row) e = touched n row e
 

@@ -19,7 +19,7 @@ use Rattle.absorb.specs.Net.{IsNetRow, IsNet}
 use Rattle.image_tree.specs.Slots.{in_blocks}
 use Rattle.image_tree.specs.Renamed.{Numbering}
 use Rattle.image_tree.specs.Stands.{row_on, IsUnused, StandsForTree}
-use Rattle.image_tree.specs.Commit.{net_row, row_after, slot_after, new_rows, filled, slots_after, Commit, blank, seen_before, IsBuilt, IsAside, HasBlock, hole, kept, fresh, ComesBy, had, enters, IsCommit}
+use Rattle.image_tree.specs.Commit.{row_in_net, brought_row, slot_after, new_rows, filled, slots_after, Commit, blank, seen_before, IsBuiltAnew, IsAside, HasBlock, hole, kept, fresh, ComesBy, had, enters, IsCommit}
 use Rattle.image_tree.specs.Elsewhere.{Elsewhere, commit_there, ConcernsItsChanges, AgreesBefore, IsTouched, FollowsThere}
 use Rattle.image_tree.specs.Laws.{PlannedCommitsHoldElsewhere}
 use Rattle.image_tree.proofs.Basics.{some_is, none_some, true_false}
@@ -37,19 +37,19 @@ same_names : (tree other : TreeState) (x : ℕ) → ((n : List ℕ) → row_of o
 same_names tree other x rows = same_map nat_list_cmp_total name_cmp-IsAntisymmetric (names_of x other.rows) (names_of x tree.rows) (λ n. get-names_where x (λ _. true) other.rows n ∙ rows n ∙ sym (get-names_where x (λ _. true) tree.rows n))
 
 -- slots after a net, under numbers and in trees that agree on the children that it brings
-module _ (num other_num : Numbering) (tree other : TreeState) (earlier later : FinMap name_cmp ℕ) (alike : (n : List ℕ) (row : NetRow) → IsNetRow earlier later row → row_after other_num other row ≡ row_after num tree row) where
+module _ (num other_num : Numbering) (tree other : TreeState) (earlier later : FinMap name_cmp ℕ) (alike : (n : List ℕ) (row : NetRow) → IsNetRow earlier later row → brought_row other_num other row ≡ brought_row num tree row) where
   new_rows_alike : (net : List NetRow) → All (IsNetRow earlier later) net → new_rows other_num other net ≡ new_rows num tree net
   new_rows_alike [] all = refl
   new_rows_alike (row ∷ rows) all =
       ap (λ o. cons_option (cond (is_none row.before) o None) (new_rows other_num other rows)) (alike row.name row (All-head (IsNetRow earlier later) row rows all))
-      ∙ ap (cons_option (cond (is_none row.before) (row_after num tree row) None)) (new_rows_alike rows (All-tail (IsNetRow earlier later) row rows all))
+      ∙ ap (cons_option (cond (is_none row.before) (brought_row num tree row) None)) (new_rows_alike rows (All-tail (IsNetRow earlier later) row rows all))
 
   module _ (net : List NetRow) (is : IsNet earlier later net) where
     slot_alike : (slot : Option Row) → slot_after other_num other net slot ≡ slot_after num tree net slot
     slot_alike None = refl
-    slot_alike (Some row) = by_net (net_row row.name net) refl
+    slot_alike (Some row) = by_net (row_in_net row.name net) refl
       where
-        by_net : (o : Option NetRow) → net_row row.name net ≡ o → option_map_or (row_after other_num other) o (Some row) ≡ option_map_or (row_after num tree) o (Some row)
+        by_net : (o : Option NetRow) → row_in_net row.name net ≡ o → option_map_or (brought_row other_num other) o (Some row) ≡ option_map_or (brought_row num tree) o (Some row)
         by_net None e = refl
         by_net (Some r) e = alike row.name r (net_row_is earlier later net is row.name r e).1
 
@@ -65,7 +65,7 @@ module _ (commit : Commit) (old new : TreeState) (image next : SeenInodes) (ther
   rows_stay : (d : ℕ) → commit.concerns d ≡ false → (n : List ℕ) → row_of old d n ≡ row_of new d n
   rows_stay d other n =
       sym (get-names_where d (λ _. true) old.rows n)
-      ∙ no_net_row (names_of d old.rows) (names_of d new.rows) (commit.nets d) (c.nets d) n (ap (net_row n) (w.nets d other))
+      ∙ no_net_row (names_of d old.rows) (names_of d new.rows) (commit.nets d) (c.nets d) n (ap (row_in_net n) (w.nets d other))
       ∙ get-names_where d (λ _. true) new.rows n
 
   nets_there : (x : ℕ) → IsNet (names_of x there.old.rows) (names_of x there.new.rows) (commit.nets x)
@@ -93,7 +93,7 @@ module _ (commit : Commit) (old new : TreeState) (image next : SeenInodes) (ther
   links_there x concerned = links_alike new there.new f.kinds x (f.nodes x concerned).0 (naming_there x concerned)
 
   -- a row that the commit brings is the same there
-  after_there : (x : ℕ) (n : List ℕ) (row : NetRow) → IsNetRow (names_of x old.rows) (names_of x new.rows) row → row_after there.after there.new row ≡ row_after commit.after new row
+  after_there : (x : ℕ) (n : List ℕ) (row : NetRow) → IsNetRow (names_of x old.rows) (names_of x new.rows) row → brought_row there.after there.new row ≡ brought_row commit.after new row
   after_there x n row is = by_child (number_of row.after) refl
     where
       before_is : number_of row.before ≡ row_of old x row.name
@@ -137,13 +137,13 @@ module _ (commit : Commit) (old new : TreeState) (image next : SeenInodes) (ther
       by_way (had was) = st.within x i was
       by_way (enters _ lt _) = lt
 
-  built_there : (x i : ℕ) → there.after x ≡ Some i → commit.concerns x ≡ true → IsBuilt (commit_there commit there) there.new x (seen_before (commit_there commit there) there.image x) (there.next.seen i)
+  built_there : (x i : ℕ) → there.after x ≡ Some i → commit.concerns x ≡ true → IsBuiltAnew (commit_there commit there) there.new x (seen_before (commit_there commit there) there.image x) (there.next.seen i)
   built_there x i is concerned =
       let planned = sym (f.numbers x concerned) ∙ is in
       let b = c.built x i planned concerned in
       let same = as_planned x i (within_there x i concerned planned) concerned (inr planned) in
-      subst (IsBuilt (commit_there commit there) there.new x (seen_before (commit_there commit there) there.image x)) (sym same)
-      (subst (λ (s : Seen). IsBuilt (commit_there commit there) there.new x s (next.seen i)) (sym (before_there x concerned)) (record {
+      subst (IsBuiltAnew (commit_there commit there) there.new x (seen_before (commit_there commit there) there.image x)) (sym same)
+      (subst (λ (s : Seen). IsBuiltAnew (commit_there commit there) there.new x s (next.seen i)) (sym (before_there x concerned)) (record {
         kind = b.kind ∙ ap kind_byte (sym (f.kinds x));
         links = b.links ∙ links_there x concerned;
         size = b.size;

@@ -13,9 +13,10 @@ use Rattle.sfs_image.specs.Slot.{Row, kind_byte}
 use Rattle.sfs_image.specs.Seen.{SeenInodes}
 use Rattle.image_tree.specs.Slots.{name_count}
 use Rattle.image_tree.specs.ImageTree.{NOTHING_MADE, shows_directory, is_used, image_rows}
-use Rattle.image_tree.specs.Stands.{BUCKET_ROWS}
+use Rattle.sfs_tree.specs.Verdict.{BUCKET_ROWS}
+use Rattle.sfs_tree.specs.Verdict.{BUCKET_ROWS}
 use Rattle.image_tree.specs.Keeps.{ruled_tree, IsDirectoryInode, MayName, MayStand, KeepsRules}
-use Rattle.image_tree.specs.Rules.{has_name_twice, has_overfull_bucket, is_misplaced, has_misplaced_row, names_root, is_named_twice, has_wrong_links, is_unreached, breaks_tree_rule, BYTE_RULES, RULES, InodeFault, fault_by, first_fault, breaks_rule, KeepsByteRules}
+use Rattle.image_tree.specs.Rules.{has_name_twice, has_overfull_bucket, is_misplaced, has_misplaced_row, names_root, is_named_twice, has_wrong_links, is_unreached, breaks_tree_rule, BYTE_RULES, RULES, TreeFault, fault_by, first_fault, breaks_rule, KeepsByteRules}
 use Rattle.image_tree.specs.Laws.{NoFaultIsRulesKept}
 use Rattle.image_tree.proofs.Basics.{none_some, true_false}
 use Rattle.image_tree.proofs.SlotRows.{bytes_are, count_slot}
@@ -76,7 +77,7 @@ module _ (p : ℕ → Bool) where
         ] refl
       ] refl e
 
-module _ (f : ℕ → Option InodeFault) where
+module _ (f : ℕ → Option TreeFault) where
   gather_none : (a n : ℕ) → ((k : ℕ) → a ≤ k → k < a + n → f k ≡ None) → filter_map f (range_with_len a n) ≡ []
   gather_none a zero h = refl
   gather_none a (suc n) h = ap (λ o. cons_option o (filter_map f (range_with_len (a + 1) n))) (h a (omega arith) (omega arith)) ∙ gather_none (a + 1) n (λ k le lt. h k (omega arith) (omega arith))
@@ -85,7 +86,7 @@ module _ (f : ℕ → Option InodeFault) where
   none_gathered a zero e k le lt = absurd (omega arith)
   none_gathered a (suc n) e k le lt = by_first (f a) refl e (none_gathered (a + 1) n)
     where
-      by_first : (o : Option InodeFault) → f a ≡ o → slice_get (cons_option o (filter_map f (range_with_len (a + 1) n))) 0 ≡ None → (slice_get (filter_map f (range_with_len (a + 1) n)) 0 ≡ None → (k : ℕ) → a + 1 ≤ k → k < a + 1 + n → f k ≡ None) → f k ≡ None
+      by_first : (o : Option TreeFault) → f a ≡ o → slice_get (cons_option o (filter_map f (range_with_len (a + 1) n))) 0 ≡ None → (slice_get (filter_map f (range_with_len (a + 1) n)) 0 ≡ None → (k : ℕ) → a + 1 ≤ k → k < a + 1 + n → f k ≡ None) → f k ≡ None
       by_first (Some x) is e rest = absurd (none_some (sym e))
       by_first None is e rest = elim (nat_eq a k) as (λ b. nat_eq a k ≡ b → f k ≡ None) [
         | true ↦ λ u. ap f (sym (eqb-true _ _ u)) ∙ is
@@ -95,13 +96,13 @@ module _ (f : ℕ → Option InodeFault) where
 module _ (breaks : ℕ → ℕ → Bool) (count : ℕ) where
   -- where no inode breaks a rule there is no first fault
   no_fault : ((rule i : ℕ) → 1 ≤ rule → i < count → breaks rule i ≡ false) → first_fault breaks count ≡ None
-  no_fault h = ap (λ (l : List InodeFault). slice_get l 0) (gather_none (fault_by breaks count) 1 RULES (λ rule le lt. ap (option_map (λ i. record { rule = rule; inode = i })) (find_none (breaks rule) 0 count (λ i _ less. h rule i le (omega arith)))))
+  no_fault h = ap (λ (l : List TreeFault). slice_get l 0) (gather_none (fault_by breaks count) 1 RULES (λ rule le lt. ap (option_map (λ i. record { rule = rule; inode = i })) (find_none (breaks rule) 0 count (λ i _ less. h rule i le (omega arith)))))
 
   -- and where there is none, no inode breaks one
   no_break : first_fault breaks count ≡ None → (rule i : ℕ) → 1 ≤ rule → rule < 15 → i < count → breaks rule i ≡ false
   no_break none rule i le lt less = none_found (breaks rule) 0 count (unmapped (find (breaks rule) (range_with_len 0 count)) (none_gathered (fault_by breaks count) 1 RULES none rule le (omega arith))) i (omega arith) (omega arith)
     where
-      unmapped : (o : Option ℕ) → ◌≡◌ {A = Option InodeFault} (option_map (λ i. record { rule = rule; inode = i }) o) None → o ≡ None
+      unmapped : (o : Option ℕ) → ◌≡◌ {A = Option TreeFault} (option_map (λ i. record { rule = rule; inode = i }) o) None → o ≡ None
       unmapped None e = refl
       unmapped (Some i) e = absurd (none_some (sym e))
 

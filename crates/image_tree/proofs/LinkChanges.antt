@@ -19,7 +19,7 @@ use Rattle.sfs_tree.proofs.Names.{get-names_where}
 use Rattle.sfs_tree.proofs.RowFacts.{is_here}
 use Rattle.absorb.specs.declared.nets.NetRow.{NetRow}
 use Rattle.absorb.specs.Net.{IsNetRow, IsNet}
-use Rattle.image_tree.specs.Commit.{net_row}
+use Rattle.image_tree.specs.Commit.{row_in_net}
 use Rattle.image_tree.specs.LinkChanges.{NetChange, net_changes, counted_row, gained, lost, AreAllNets}
 use Rattle.image_tree.specs.Laws.{NetsGiveLinks}
 use Rattle.image_tree.proofs.Basics.{none_some, true_false}
@@ -140,20 +140,20 @@ elsewhere k d [] other = tt
 elsewhere k d (row ∷ rows) other = (λ same. other (ap (λ (z : Key). z.0) same), elsewhere k d rows other)
 
 -- a name without a row in the net of a directory, and back
-no_change : (d : ℕ) (n : List ℕ) (net : List NetRow) → net_row n net ≡ None → NotAmong (d, n) (in_directory d net)
+no_change : (d : ℕ) (n : List ℕ) (net : List NetRow) → row_in_net n net ≡ None → NotAmong (d, n) (in_directory d net)
 unfolding NotAmong
 no_change d n [] none = tt
 no_change d n (row ∷ rows) none =
-    elim (bytes_eq n row.name) as (λ b. bytes_eq n row.name ≡ b → cond b (Some row) (net_row n rows) ≡ None → NotAmong (d, n) (in_directory d (row ∷ rows))) [
+    elim (bytes_eq n row.name) as (λ b. bytes_eq n row.name ≡ b → cond b (Some row) (row_in_net n rows) ≡ None → NotAmong (d, n) (in_directory d (row ∷ rows))) [
       | true ↦ λ t e. absurd (none_some (sym e))
       | false ↦ λ t e. (λ same. true_false (ap (bytes_eq n) (ap (λ (z : Key). z.1) same) ∙ bytes_same n) t, no_change d n rows e)
     ] refl none
 
-change_none : (d : ℕ) (n : List ℕ) (net : List NetRow) → NotAmong (d, n) (in_directory d net) → net_row n net ≡ None
+change_none : (d : ℕ) (n : List ℕ) (net : List NetRow) → NotAmong (d, n) (in_directory d net) → row_in_net n net ≡ None
 unfolding NotAmong
 change_none d n [] apart = refl
 change_none d n (row ∷ rows) apart =
-    elim (bytes_eq n row.name) as (λ b. bytes_eq n row.name ≡ b → cond b (Some row) (net_row n rows) ≡ None) [
+    elim (bytes_eq n row.name) as (λ b. bytes_eq n row.name ≡ b → cond b (Some row) (row_in_net n rows) ≡ None) [
       | true ↦ λ t. absurd (apart.0 (ap (λ (m : List ℕ). (d, m)) (sym (bytes_are n row.name t))))
       | false ↦ λ t. change_none d n rows apart.1
     ] refl
@@ -213,10 +213,10 @@ module _ (old new : TreeState) (nets : ℕ → List NetRow) (each : (d : ℕ) �
       ∙ no_net_row (names_of k.0 old.rows) (names_of k.0 new.rows) (nets k.0) (each k.0) k.1 no_row
       ∙ get-names_where k.0 (λ _. true) new.rows k.1
     where
-      no_row : net_row k.1 (nets k.0) ≡ None
-      no_row = elim (list_any (λ member. nat_eq member k.0) members) as (λ b. list_any (λ member. nat_eq member k.0) members ≡ b → net_row k.1 (nets k.0) ≡ None) [
+      no_row : row_in_net k.1 (nets k.0) ≡ None
+      no_row = elim (list_any (λ member. nat_eq member k.0) members) as (λ b. list_any (λ member. nat_eq member k.0) members ≡ b → row_in_net k.1 (nets k.0) ≡ None) [
         | true ↦ λ t. change_none k.0 k.1 (nets k.0) (own_net k members t apart)
-        | false ↦ λ t. ap (net_row k.1) (others k.0 t)
+        | false ↦ λ t. ap (row_in_net k.1) (others k.0 t)
       ] refl
 
 -- rows that pass a test, with those that went, are those before with those that came

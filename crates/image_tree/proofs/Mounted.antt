@@ -23,7 +23,8 @@ use Rattle.sfs_image.specs.Seen.{SeenInodes}
 use Rattle.image_tree.specs.Slots.{looked_up, name_count}
 use Rattle.image_tree.specs.ImageTree.{Making, NOTHING_MADE, shows_directory, image_rows, is_node, is_used, node_shown, nodes_where, tree_where, image_tree, tree_with_orphans}
 use Rattle.image_tree.specs.Renamed.{Numbering, IsMet, root, named}
-use Rattle.image_tree.specs.Stands.{inode_under, row_on, ShowsNode, IsUnused, StandsForTree, IsStorable, BUCKET_ROWS}
+use Rattle.image_tree.specs.Stands.{inode_under, row_on, ShowsNode, IsUnused, StandsForTree, IsStorable}
+use Rattle.sfs_tree.specs.Verdict.{BUCKET_ROWS}
 use Rattle.image_tree.specs.Keeps.{ruled_tree, IsDirectoryInode, MayName, MayStand, KeepsRules}
 use Rattle.image_tree.specs.Mount.{own_numbers, ShowsByKind, HasNoOrphans}
 use Rattle.image_tree.specs.Laws.{RulesMakeStanding}

@@ -9,7 +9,8 @@ use Rattle.sfs_image.specs.Slot.{Row, kind_byte}
 use Rattle.sfs_image.specs.Seen.{SeenInodes}
 use Rattle.image_tree.specs.Slots.{name_count}
 use Rattle.image_tree.specs.ImageTree.{NOTHING_MADE, image_rows, image_tree}
-use Rattle.image_tree.specs.Stands.{HoldsApart, BUCKET_ROWS}
+use Rattle.image_tree.specs.Stands.{HoldsApart}
+use Rattle.sfs_tree.specs.Verdict.{BUCKET_ROWS}
 
 -- an inode of an image is a directory
 abbrev pub IsDirectoryInode : SeenInodes → ℕ → Type 0

@@ -12,7 +12,7 @@ use Rattle.image_tree.specs.Elsewhere.{Elsewhere, commit_there, ConcernsItsChang
 use Rattle.absorb.specs.declared.nets.NetRow.{NetRow}
 use Rattle.image_tree.specs.LinkChanges.{gained, lost, linking, net_changes, AreAllNets}
 use Rattle.image_tree.specs.Mount.{ShowsByKind, StandsByItself}
-use Rattle.image_tree.specs.Rules.{BYTE_RULES, KeepsByteRules, inode_fault}
+use Rattle.image_tree.specs.Rules.{BYTE_RULES, KeepsByteRules, tree_fault}
 use Rattle.image_tree.specs.Commit.{Commit, IsCommit, MayFollow}
 
 -- A tree under other numbers is sound where the first is, and has its shape.
@@ -44,7 +44,7 @@ RulesMakeStanding = (image : SeenInodes) (making : Making) → KeepsRules image 
 
 -- The first fault is none exactly where the rules hold, those on bytes being given.
 abbrev pub NoFaultIsRulesKept : Type 0
-NoFaultIsRulesKept = (image : SeenInodes) (breaks_byte_rule : ℕ → ℕ → Bool) → KeepsByteRules image → ((rule i : ℕ) → 1 ≤ rule → rule ≤ BYTE_RULES → i < image.count → breaks_byte_rule rule i ≡ false) → (inode_fault breaks_byte_rule image ≡ None) ↔ KeepsRules image
+NoFaultIsRulesKept = (image : SeenInodes) (breaks_byte_rule : ℕ → ℕ → Bool) → KeepsByteRules image → ((rule i : ℕ) → 1 ≤ rule → rule ≤ BYTE_RULES → i < image.count → breaks_byte_rule rule i ≡ false) → (tree_fault breaks_byte_rule image ≡ None) ↔ KeepsRules image
 
 -- A commit that was planned in one state is one in each other state that agrees with it on what it concerns.
 abbrev pub PlannedCommitsHoldElsewhere : Type 0

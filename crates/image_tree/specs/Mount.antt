@@ -7,7 +7,7 @@ use Rattle.sfs_image.specs.Slot.{kind_byte}
 use Rattle.sfs_image.specs.Seen.{SeenInodes}
 use Rattle.image_tree.specs.ImageTree.{Making, is_used, image_rows, image_tree, tree_with_orphans}
 use Rattle.image_tree.specs.Renamed.{Numbering}
-use Rattle.image_tree.specs.Stands.{size_of, IsUnused, IsStorable, StandsForTree}
+use Rattle.image_tree.specs.Stands.{own_size, IsUnused, IsStorable, StandsForTree}
 
 -- the numbering of an image's own tree: each inode in use is its own node
 abbrev pub own_numbers : SeenInodes → Numbering
@@ -17,7 +17,7 @@ own_numbers image i = if nat_lt i image.count && is_used image i then Some i els
 -- free one holds no block.
 pub record ShowsByKind (image : SeenInodes) : Type 0 where
   pub kinds : (i : ℕ) → i < image.count → (image.seen i).kind ≢ 0 → ((image.seen i).kind ≡ kind_byte File) ⊎ ((image.seen i).kind ≡ kind_byte Directory)
-  pub sizes : (i : ℕ) → i < image.count → (image.seen i).kind ≢ 0 → (image.seen i).size ≡ size_of (image.seen i)
+  pub sizes : (i : ℕ) → i < image.count → (image.seen i).kind ≢ 0 → (image.seen i).size ≡ own_size (image.seen i)
   pub files : (i : ℕ) → i < image.count → (image.seen i).kind ≡ kind_byte File → (image.seen i).slots ≡ []
   pub unused : (i : ℕ) → i < image.count → (image.seen i).kind ≡ 0 → IsUnused (image.seen i)
 

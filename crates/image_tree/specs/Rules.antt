@@ -8,7 +8,8 @@ use Rattle.sfs_image.specs.Slot.{Row, kind_byte}
 use Rattle.sfs_image.specs.Seen.{SeenInodes}
 use Rattle.image_tree.specs.Slots.{name_count}
 use Rattle.image_tree.specs.ImageTree.{shows_directory, is_used, image_rows}
-use Rattle.image_tree.specs.Stands.{BUCKET_ROWS, HoldsApart}
+use Rattle.image_tree.specs.Stands.{HoldsApart}
+use Rattle.sfs_tree.specs.Verdict.{BUCKET_ROWS}
 use Rattle.image_tree.specs.Keeps.{ruled_tree, IsDirectoryInode}
 
 -- whether a row in a slot of an inode passes a test
@@ -67,16 +68,16 @@ abbrev pub BYTE_RULES : ℕ
 BYTE_RULES = 7
 
 -- a fault among inodes: the rule that is broken, from 1 on, and the inode that breaks it
-pub record InodeFault : Type 0 where
+pub record TreeFault : Type 0 where
   pub rule : ℕ
   pub inode : ℕ
 
 -- the least inode that breaks a rule, as a fault
-abbrev pub fault_by : (ℕ → ℕ → Bool) → ℕ → ℕ → Option InodeFault
+abbrev pub fault_by : (ℕ → ℕ → Bool) → ℕ → ℕ → Option TreeFault
 fault_by breaks count rule = option_map (λ i. record { rule = rule; inode = i }) (find (breaks rule) (range_with_len 0 count))
 
 -- the first fault: of the least rule that an inode breaks, and of that the least inode
-abbrev pub first_fault : (ℕ → ℕ → Bool) → ℕ → Option InodeFault
+abbrev pub first_fault : (ℕ → ℕ → Bool) → ℕ → Option TreeFault
 first_fault breaks count = slice_get (filter_map (fault_by breaks count) (range_with_len 1 RULES)) 0
 
 -- whether an inode breaks a rule, where the rules on bytes are given
@@ -84,8 +85,8 @@ abbrev pub breaks_rule : (ℕ → ℕ → Bool) → SeenInodes → ℕ → ℕ �
 breaks_rule breaks_byte_rule image rule i = if nat_lt BYTE_RULES rule then breaks_tree_rule image rule i else breaks_byte_rule rule i
 
 -- the first fault of an image's inodes
-abbrev pub inode_fault : (ℕ → ℕ → Bool) → SeenInodes → Option InodeFault
-inode_fault breaks_byte_rule image = first_fault (breaks_rule breaks_byte_rule image) image.count
+abbrev pub tree_fault : (ℕ → ℕ → Bool) → SeenInodes → Option TreeFault
+tree_fault breaks_byte_rule image = first_fault (breaks_rule breaks_byte_rule image) image.count
 
 -- What the rules on bytes say that the rules across inodes build on: the root is a directory, and no block is held twice.
 pub record KeepsByteRules (image : SeenInodes) : Type 0 where
