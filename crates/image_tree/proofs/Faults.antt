@@ -99,7 +99,7 @@ module _ (breaks : ℕ → ℕ → Bool) (count : ℕ) where
   no_fault h = ap (λ (l : List TreeFault). slice_get l 0) (gather_none (fault_by breaks count) 1 RULES (λ rule le lt. ap (option_map (λ i. record { rule = rule; inode = i })) (find_none (breaks rule) 0 count (λ i _ less. h rule i le (omega arith)))))
 
   -- and where there is none, no inode breaks one
-  no_break : first_fault breaks count ≡ None → (rule i : ℕ) → 1 ≤ rule → rule < 15 → i < count → breaks rule i ≡ false
+  pub no_break : first_fault breaks count ≡ None → (rule i : ℕ) → 1 ≤ rule → rule < 15 → i < count → breaks rule i ≡ false
   no_break none rule i le lt less = none_found (breaks rule) 0 count (unmapped (find (breaks rule) (range_with_len 0 count)) (none_gathered (fault_by breaks count) 1 RULES none rule le (omega arith))) i (omega arith) (omega arith)
     where
       unmapped : (o : Option ℕ) → ◌≡◌ {A = Option TreeFault} (option_map (λ i. record { rule = rule; inode = i }) o) None → o ≡ None

@@ -7,8 +7,10 @@ pub mod LinkChanges
 pub mod Mounted
 pub mod NetRows
 pub mod Paired
+pub mod Parts
 pub mod Renaming
 pub mod Shapes
 pub mod SlotRows
 pub mod SlotsAfter
 pub mod Standing
+pub mod WholeImages

@@ -1,5 +1,5 @@
 -- The laws of what an image stands for, each of which a function of the module laws proves.
-use Rattle.std.specs.Prelude.{◌≡◌, ◌↔◌, ℕ, ◌+◌, ◌<◌, ◌≤◌, Bool, false, List, None}
+use Rattle.std.specs.Prelude.{◌≡◌, ◌↔◌, ℕ, ◌+◌, ◌<◌, ◌≤◌, Bool, false, List, Some, None}
 use Rattle.sfs_tree.specs.Tree.{TreeState, links_of}
 use Rattle.sfs_tree.specs.Sound.{IsSound}
 use Rattle.sfs_tree.specs.Shape.{shape_of}
@@ -11,6 +11,7 @@ use Rattle.image_tree.specs.Keeps.{KeepsRules}
 use Rattle.image_tree.specs.Elsewhere.{Elsewhere, commit_there, ConcernsItsChanges, AgreesBefore, FollowsThere}
 use Rattle.absorb.specs.declared.nets.NetRow.{NetRow}
 use Rattle.image_tree.specs.LinkChanges.{gained, lost, linking, net_changes, AreAllNets}
+use Rattle.image_tree.specs.Image.{image_inodes, tree_of, IsMounted, HasGoodBytes, IsReadAsTree}
 use Rattle.image_tree.specs.Mount.{ShowsByKind, StandsByItself}
 use Rattle.image_tree.specs.Rules.{BYTE_RULES, KeepsByteRules, tree_fault}
 use Rattle.image_tree.specs.Commit.{Commit, IsCommit, MayFollow}
@@ -55,3 +56,11 @@ PlannedCommitsHoldElsewhere = (commit : Commit) (old new : TreeState) (image nex
 abbrev pub NetsGiveLinks : Type 0
 NetsGiveLinks = (old new : TreeState) (nets : ℕ → List NetRow) (members : List ℕ) (node : ℕ) → AreAllNets old new nets members
     → links_of new node + lost (linking new node) (net_changes nets members) ≡ links_of old node + gained (linking new node) (net_changes nets members)
+
+-- An image that has a tree is mounted: its tree is sound, and it stands for it.
+abbrev pub TreesOfImagesAreMounted : Type 0
+TreesOfImagesAreMounted = (image : List ℕ) (share : ℕ) (tree : TreeState) → tree_of image share ≡ Some tree → IsMounted image share tree
+
+-- An image with good bytes whose inodes stand for a sound tree has no fault, and a tree of that shape.
+abbrev pub StandingImagesAreRead : Type 0
+StandingImagesAreRead = (image : List ℕ) (share : ℕ) (num : Numbering) (tree : TreeState) → HasGoodBytes image → IsSound tree → IsStorable num tree → StandsForTree num tree (image_inodes image) → IsReadAsTree image share tree

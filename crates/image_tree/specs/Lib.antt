@@ -1,5 +1,6 @@
 pub mod Commit
 pub mod Elsewhere
+pub mod Image
 pub mod ImageTree
 pub mod Keeps
 pub mod Laws

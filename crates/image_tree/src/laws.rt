@@ -1,6 +1,7 @@
 // What is proved of the definitions: each function's contract is a law.
 ghost use Rattle.image_tree.specs.Laws.{RenamedTreesHaveOneShape, StandingImagesShow, CommitsKeepStanding};
 ghost use Rattle.image_tree.specs.Laws.{RulesMakeStanding, NoFaultIsRulesKept, PlannedCommitsHoldElsewhere, NetsGiveLinks};
+ghost use Rattle.image_tree.specs.Laws.{TreesOfImagesAreMounted, StandingImagesAreRead};
 
 /// A tree under other numbers is sound where the first is, and has its shape.
 pub fn renamed_trees_have_one_shape()
@@ -35,4 +36,14 @@ pub fn planned_commits_hold_elsewhere()
 /// Nets give each node's link count.
 pub fn nets_give_links()
     ensures { NetsGiveLinks }
+{}
+
+/// An image that has a tree is mounted: its tree is sound, and it stands for it.
+pub fn trees_of_images_are_mounted()
+    ensures { TreesOfImagesAreMounted }
+{}
+
+/// An image with good bytes whose inodes stand for a sound tree has no fault, and a tree of that shape.
+pub fn standing_images_are_read()
+    ensures { StandingImagesAreRead }
 {}
