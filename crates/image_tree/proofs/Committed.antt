@@ -1,7 +1,7 @@
 -- A commit keeps an image standing: for the next tree.
 use Rattle.std.proofs.Common.{◌≡◌, ◌≢◌, ℕ, ◌+◌, ◌<◌, ◌≤◌, Bool, true, false, cond, ◌&&◌, List, map, Option, Some, None, option_map, inl, inr, refl, sym, ap, subst, ◌∙◌, arith, count_by, nat_eq}
 use borrow.Author.Tests.{eqb-true}
-use Rattle.std.specs.Prelude.{is_none}
+use Rattle.std.specs.Prelude.{is_none, ◌↔◌}
 use Rattle.std.specs.Option.{option_and_then, option_map_or}
 use Rattle.std.specs.FinMap.{FinMap, get, entries}
 use Rattle.sfs_base.specs.declared.numbers.NodeId.{NodeId}
@@ -11,13 +11,13 @@ use Rattle.sfs_tree.specs.Tree.{TreeState, row_of, is_directory, is_directory_ki
 use Rattle.sfs_tree.specs.Sound.{IsSound}
 use Rattle.sfs_tree.proofs.Names.{get-names_where}
 use Rattle.sfs_image.specs.Slot.{Row, kind_byte}
-use Rattle.sfs_image.specs.Seen.{Seen, SeenInodes}
+use Rattle.sfs_image.specs.Seen.{Seen, SeenInodes, PLACES}
 use Rattle.absorb.specs.declared.nets.NetRow.{NetRow}
 use Rattle.absorb.specs.Net.{IsNetRow, IsNet}
 use Rattle.image_tree.specs.Slots.{looked_up, name_count, in_blocks}
 use Rattle.image_tree.specs.Renamed.{Numbering}
 use Rattle.image_tree.specs.Stands.{row_on, ShowsNode, IsUnused, HoldsApart, StandsForTree}
-use Rattle.image_tree.specs.Commit.{net_row, row_after, slot_after, new_rows, filled, slots_after, Commit, blank, seen_before, IsAside, HasBlock, hole, kept, fresh, ComesBy, had, enters, IsCommit, MayFollow}
+use Rattle.image_tree.specs.Commit.{row_in_net, brought_row, slot_after, new_rows, filled, slots_after, Commit, blank, seen_before, IsAside, HasBlock, hole, kept, fresh, ComesBy, had, enters, IsCommit, GivesNumbers, MayFollow}
 use Rattle.image_tree.specs.Laws.{CommitsKeepStanding}
 use Rattle.image_tree.proofs.Basics.{some_is, none_some, both_true_first}
 use Rattle.image_tree.proofs.Paired.{count_paired}
@@ -42,9 +42,9 @@ pub record HasSlots (num : Numbering) (tree : TreeState) (node : ℕ) (slots : L
 -- the slots of a directory after its net
 module _ (num after : Numbering) (old new : TreeState) (x : ℕ) (net : List NetRow) (is_net : IsNet (names_of x old.rows) (names_of x new.rows) net) (alike : (n : List ℕ) (y : ℕ) → row_of old x n ≡ Some y → row_of new x n ≡ Some y → ◌≡◌ {A = Row} (row_on num old n y) (row_on after new n y)) where
   abbrev new_row : NetRow → Option Row
-  new_row row = cond (is_none row.before) (row_after after new row) None
+  new_row row = cond (is_none row.before) (brought_row after new row) None
 
-  after_named : (row : NetRow) (made : Row) → row_after after new row ≡ Some made → made.name ≡ row.name
+  after_named : (row : NetRow) (made : Row) → brought_row after new row ≡ Some made → made.name ≡ row.name
   after_named row made is = by_child (number_of row.after) is
     where
       by_child : (o : Option ℕ) → option_map (row_on after new row.name) o ≡ Some made → made.name ≡ row.name
@@ -54,14 +54,14 @@ module _ (num after : Numbering) (old new : TreeState) (x : ℕ) (net : List Net
   new_named : (row : NetRow) (made : Row) → new_row row ≡ Some made → made.name ≡ row.name
   new_named row made is = by_test (is_none row.before) is
     where
-      by_test : (b : Bool) → cond b (row_after after new row) None ≡ Some made → made.name ≡ row.name
+      by_test : (b : Bool) → cond b (brought_row after new row) None ≡ Some made → made.name ≡ row.name
       by_test true e = after_named row made e
       by_test false e = absurd (none_some e)
 
   slot_named : (row made : Row) → slot_after after new net (Some row) ≡ Some made → made.name ≡ row.name
-  slot_named row made is = by_net (net_row row.name net) refl is
+  slot_named row made is = by_net (row_in_net row.name net) refl is
     where
-      by_net : (o : Option NetRow) → net_row row.name net ≡ o → option_map_or (row_after after new) o (Some row) ≡ Some made → made.name ≡ row.name
+      by_net : (o : Option NetRow) → row_in_net row.name net ≡ o → option_map_or (brought_row after new) o (Some row) ≡ Some made → made.name ≡ row.name
       by_net None e same = ap (λ (r : Row). r.name) (sym (some_is same))
       by_net (Some r) e same = after_named r made same ∙ (net_row_is (names_of x old.rows) (names_of x new.rows) net is_net row.name r e).0
 
@@ -86,7 +86,7 @@ module _ (num after : Numbering) (old new : TreeState) (x : ℕ) (net : List Net
     names_once : HasNamesOnce net
     names_once = once_ascending net is_net.ascending
 
-    untouched : (n : List ℕ) → net_row n net ≡ None → After n
+    untouched : (n : List ℕ) → row_in_net n net ≡ None → After n
     untouched n none =
         let made = is_made new_row new_named n net names_once in
         let zero : name_count n (map Some (new_rows after new net)) ≡ 0 = made.counted ∙ ap (λ o. one_if_some (option_and_then new_row o)) none in
@@ -104,18 +104,18 @@ module _ (num after : Numbering) (old new : TreeState) (x : ℕ) (net : List Net
         by_child : (o : Option ℕ) → row_of old x n ≡ o → slot_after after new net (option_map (row_on num old n) o) ≡ option_map (row_on after new n) (row_of new x n)
         by_child None e = sym (ap (option_map (row_on after new n)) (sym same ∙ e))
         by_child (Some y) e =
-            ap (λ o. option_map_or (row_after after new) o (Some (row_on num old n y))) none
+            ap (λ o. option_map_or (brought_row after new) o (Some (row_on num old n y))) none
             ∙ ap Some (alike n y e (sym same ∙ e))
             ∙ sym (ap (option_map (row_on after new n)) (sym same ∙ e))
 
-    touched : (n : List ℕ) (row : NetRow) → net_row n net ≡ Some row → After n
+    touched : (n : List ℕ) (row : NetRow) → row_in_net n net ≡ Some row → After n
     touched n row is =
         by_before row.before refl
       where
         found : (row.name ≡ n) × IsNetRow (names_of x old.rows) (names_of x new.rows) row
         found = net_row_is (names_of x old.rows) (names_of x new.rows) net is_net n row is
 
-        then_row : row_after after new row ≡ option_map (row_on after new n) (row_of new x n)
+        then_row : brought_row after new row ≡ option_map (row_on after new n) (row_of new x n)
         then_row =
             ap (λ m. option_map (row_on after new m) (number_of row.after)) found.0
             ∙ ap (option_map (row_on after new n)) (found.1.after ∙ ap (get (names_of x new.rows)) found.0 ∙ later_row n)
@@ -131,11 +131,11 @@ module _ (num after : Numbering) (old new : TreeState) (x : ℕ) (net : List Net
             let b = count_changed (slot_after after new net) refl slot_named n slots in
             let c = count_filled n (changed slots) (new_rows after new net) in
             let d = made.counted in
-            let f = at_most (option_and_then new_row (net_row n net)) in
+            let f = at_most (option_and_then new_row (row_in_net n net)) in
             record {
               looked =
                   looked_filled_new n (changed slots) (new_rows after new net) (omega arith)
-                  ∙ made.looked ∙ ap (option_and_then new_row) is ∙ ap (λ o. cond (is_none o) (row_after after new row) None) e ∙ then_row;
+                  ∙ made.looked ∙ ap (option_and_then new_row) is ∙ ap (λ o. cond (is_none o) (brought_row after new row) None) e ∙ then_row;
               once = omega arith;
             }
           where
@@ -144,7 +144,7 @@ module _ (num after : Numbering) (old new : TreeState) (x : ℕ) (net : List Net
             at_most (Some row) = omega arith
         by_before (Some y) e =
             let made = is_made new_row new_named n net names_once in
-            let zero : name_count n (map Some (new_rows after new net)) ≡ 0 = made.counted ∙ ap (λ o. one_if_some (option_and_then new_row o)) is ∙ ap (λ o. one_if_some (cond (is_none o) (row_after after new row) None)) e in
+            let zero : name_count n (map Some (new_rows after new net)) ≡ 0 = made.counted ∙ ap (λ o. one_if_some (option_and_then new_row o)) is ∙ ap (λ o. one_if_some (cond (is_none o) (brought_row after new row) None)) e in
             let c = count_filled n (changed slots) (new_rows after new net) in
             let d = count_changed (slot_after after new net) refl slot_named n slots in
             let f = h.once n in
@@ -153,15 +153,15 @@ module _ (num after : Numbering) (old new : TreeState) (x : ℕ) (net : List Net
                   looked_filled_old n (changed slots) (new_rows after new net) zero
                   ∙ looked_in_changed n
                   ∙ ap (λ o. slot_after after new net (option_map (row_on num old n) o)) (was ∙ ap number_of e)
-                  ∙ ap (λ o. option_map_or (row_after after new) o (Some (row_on num old n y.0))) is
+                  ∙ ap (λ o. option_map_or (brought_row after new) o (Some (row_on num old n y.0))) is
                   ∙ then_row;
               once = omega arith;
             }
 
     by_name : (n : List ℕ) → After n
-    by_name n = by_row (net_row n net) refl
+    by_name n = by_row (row_in_net n net) refl
       where
-        by_row : (o : Option NetRow) → net_row n net ≡ o → After n
+        by_row : (o : Option NetRow) → row_in_net n net ≡ o → After n
         by_row None e = untouched n e
         by_row (Some row) e = touched n row e
 
@@ -171,6 +171,58 @@ module _ (num after : Numbering) (old new : TreeState) (x : ℕ) (net : List Net
       looked = λ n. looked_in_blocks n (slots_after after new net slots) ∙ (by_name n).looked;
       once = λ n. subst (λ (k : ℕ). k ≤ 1) (sym (count_in_blocks n (slots_after after new net slots))) (by_name n).once;
     }
+
+-- a node has one link count in two trees that agree on its rows, on the rows that name it, and on kinds
+module _ (old new : TreeState) (kinds : (x : ℕ) → kind_of new x ≡ kind_of old x) (x : ℕ) (rows : (n : List ℕ) → row_of new x n ≡ row_of old x n) (naming : (d : ℕ) (n : List ℕ) → (row_of new d n ≡ Some x) ↔ (row_of old d n ≡ Some x)) where
+  same_directory : (y : ℕ) → is_directory new y ≡ is_directory old y
+  same_directory y = kind_directory new y ∙ ap is_directory_kind (kinds y) ∙ sym (kind_directory old y)
+
+  at : (tree : TreeState) (k : Key) (y d : ℕ) → k.0 ≡ d → get tree.rows k ≡ Some y → row_of tree d k.1 ≡ Some y
+  at tree k y d same is = subst (λ (e : ℕ). row_of tree e k.1 ≡ Some y) same is
+
+  back_at : (tree : TreeState) (k : Key) (y d : ℕ) → k.0 ≡ d → row_of tree d k.1 ≡ Some y → get tree.rows k ≡ Some y
+  back_at tree k y d same is = subst (λ (e : ℕ). row_of tree e k.1 ≡ Some y) (sym same) is
+
+  directories_alike : count_by (holds_directory old x) (entries old.rows) ≡ count_by (holds_directory new x) (entries new.rows)
+  directories_alike = count_alike (holds_directory old x) (holds_directory new x) old.rows new.rows (λ k y is passes.
+      let here : k.0 ≡ x = eqb-true _ _ (both_true_first (nat_eq k.0 x) (is_directory old y) passes) in
+      (back_at new k y x here (rows k.1 ∙ at old k y x here is), ap (λ b. nat_eq k.0 x && b) (same_directory y) ∙ passes)) (λ k y is passes.
+      let here : k.0 ≡ x = eqb-true _ _ (both_true_first (nat_eq k.0 x) (is_directory new y) passes) in
+      (back_at old k y x here (sym (rows k.1) ∙ at new k y x here is), ap (λ b. nat_eq k.0 x && b) (sym (same_directory y)) ∙ passes))
+
+  naming_alike : count_of old.rows x ≡ count_of new.rows x
+  naming_alike = count_alike (names_it x) (names_it x) old.rows new.rows (λ k y is passes.
+      let child : y ≡ x = eqb-true _ _ passes in
+      ((naming k.0 k.1).1 (is ∙ ap Some child) ∙ ap Some (sym child), passes)) (λ k y is passes.
+      let child : y ≡ x = eqb-true _ _ passes in
+      ((naming k.0 k.1).0 (is ∙ ap Some child) ∙ ap Some (sym child), passes))
+
+  pub links_alike : links_of old x ≡ links_of new x
+  links_alike =
+      ap (λ b. cond b (2 + count_by (holds_directory old x) (entries old.rows)) (count_of old.rows x)) (sym (same_directory x))
+      ∙ ap (λ n. cond (is_directory new x) (2 + n) (count_of old.rows x)) directories_alike
+      ∙ ap (cond (is_directory new x) (2 + count_by (holds_directory new x) (entries new.rows))) naming_alike
+
+-- the numbers after a commit: no two nodes have one, and each is within the image
+module _ (commit : Commit) (old : TreeState) (image : SeenInodes) (st : StandsForTree commit.before old image) (numbers : GivesNumbers commit image) where
+  pub number_once : (x y i : ℕ) → commit.after x ≡ Some i → commit.after y ≡ Some i → x ≡ y
+  number_once x y i a b = by_ways (numbers.comes x i a) (numbers.comes y i b)
+    where
+      taken : (z : ℕ) → commit.before z ≡ Some i → IsUnused (image.seen i) → ⊥
+      taken z is free = not_used (kind_of old z) (sym (st.each z i is).kind ∙ free.kind)
+
+      by_ways : ComesBy commit image x i → ComesBy commit image y i → x ≡ y
+      by_ways (had p) (had q) = st.once x y i p q
+      by_ways (had p) (enters _ _ free) = absurd (taken x p free)
+      by_ways (enters _ _ free) (had q) = absurd (taken y q free)
+      by_ways (enters p _ _) (enters q _ _) = numbers.once x y i p q a b
+
+  pub number_within : (x i : ℕ) → commit.after x ≡ Some i → i < image.count
+  number_within x i is = by_way (numbers.comes x i is)
+    where
+      by_way : ComesBy commit image x i → i < image.count
+      by_way (had p) = st.within x i p
+      by_way (enters _ lt _) = lt
 
 module _ (commit : Commit) (old new : TreeState) (image next : SeenInodes) (st : StandsForTree commit.before old image) (s : IsSound old) (c : IsCommit commit old new image next) (m : MayFollow commit.after old new) where
   -- a node with a number before and after keeps it
@@ -214,42 +266,12 @@ module _ (commit : Commit) (old new : TreeState) (image next : SeenInodes) (st :
         once = λ n. subst (λ (k : ℕ). k ≤ 1) (sym (ap (name_count n) b.slots)) (h.once n);
       }
 
-  same_directory : (x : ℕ) → is_directory new x ≡ is_directory old x
-  same_directory x = kind_directory new x ∙ ap is_directory_kind (m.kinds x) ∙ sym (kind_directory old x)
-
-  -- a node aside keeps its link count
-  links_aside : (x : ℕ) → IsAside old new x → links_of old x ≡ links_of new x
-  links_aside x a =
-      ap (λ b. cond b (2 + count_by (holds_directory old x) (entries old.rows)) (count_of old.rows x)) (sym (same_directory x))
-      ∙ ap (λ n. cond (is_directory new x) (2 + n) (count_of old.rows x)) directories
-      ∙ ap (cond (is_directory new x) (2 + count_by (holds_directory new x) (entries new.rows))) naming
-    where
-      at : (tree : TreeState) (k : Key) (y d : ℕ) → k.0 ≡ d → get tree.rows k ≡ Some y → row_of tree d k.1 ≡ Some y
-      at tree k y d same is = subst (λ (e : ℕ). row_of tree e k.1 ≡ Some y) same is
-
-      back_at : (tree : TreeState) (k : Key) (y d : ℕ) → k.0 ≡ d → row_of tree d k.1 ≡ Some y → get tree.rows k ≡ Some y
-      back_at tree k y d same is = subst (λ (e : ℕ). row_of tree e k.1 ≡ Some y) (sym same) is
-
-      directories : count_by (holds_directory old x) (entries old.rows) ≡ count_by (holds_directory new x) (entries new.rows)
-      directories = count_alike (holds_directory old x) (holds_directory new x) old.rows new.rows (λ k y is passes.
-          let here : k.0 ≡ x = eqb-true _ _ (both_true_first (nat_eq k.0 x) (is_directory old y) passes) in
-          (back_at new k y x here (a.rows k.1 ∙ at old k y x here is), ap (λ b. nat_eq k.0 x && b) (same_directory y) ∙ passes)) (λ k y is passes.
-          let here : k.0 ≡ x = eqb-true _ _ (both_true_first (nat_eq k.0 x) (is_directory new y) passes) in
-          (back_at old k y x here (sym (a.rows k.1) ∙ at new k y x here is), ap (λ b. nat_eq k.0 x && b) (sym (same_directory y)) ∙ passes))
-
-      naming : count_of old.rows x ≡ count_of new.rows x
-      naming = count_alike (names_it x) (names_it x) old.rows new.rows (λ k y is passes.
-          let child : y ≡ x = eqb-true _ _ passes in
-          ((a.naming k.0 k.1).1 (is ∙ ap Some child) ∙ ap Some (sym child), passes)) (λ k y is passes.
-          let child : y ≡ x = eqb-true _ _ passes in
-          ((a.naming k.0 k.1).0 (is ∙ ap Some child) ∙ ap Some (sym child), passes))
-
   shows_aside : (x i : ℕ) → commit.before x ≡ Some i → IsAside old new x → ShowsNode commit.after new x (image.seen i)
   shows_aside x i is a =
       let e = st.each x i is in
       record {
         kind = e.kind ∙ ap kind_byte (sym (m.kinds x));
-        links = e.links ∙ links_aside x a;
+        links = e.links ∙ links_alike old new m.kinds x a.rows a.naming;
         size = e.size;
         bytes = e.bytes ∙ sym a.bytes;
         slots = λ n. e.slots n ∙ by_child n (row_of old x n) refl ∙ ap (option_map (row_on commit.after new n)) (sym (a.rows n));
@@ -266,41 +288,22 @@ module _ (commit : Commit) (old new : TreeState) (image next : SeenInodes) (st :
     | false ↦ λ t. let a = c.stays x i is t in subst (ShowsNode commit.after new x) (sym a.1) (shows_aside x i a.0 a.2)
   ] refl
 
-  number_once : (x y i : ℕ) → commit.after x ≡ Some i → commit.after y ≡ Some i → x ≡ y
-  number_once x y i a b = by_ways (c.numbers.comes x i a) (c.numbers.comes y i b)
-    where
-      taken : (z : ℕ) → commit.before z ≡ Some i → IsUnused (image.seen i) → ⊥
-      taken z is free = not_used (kind_of old z) (sym (st.each z i is).kind ∙ free.kind)
-
-      by_ways : ComesBy commit image x i → ComesBy commit image y i → x ≡ y
-      by_ways (had p) (had q) = st.once x y i p q
-      by_ways (had p) (enters _ _ free) = absurd (taken x p free)
-      by_ways (enters _ _ free) (had q) = absurd (taken y q free)
-      by_ways (enters p _ _) (enters q _ _) = c.numbers.once x y i p q a b
-
-  number_within : (x i : ℕ) → commit.after x ≡ Some i → i < image.count
-  number_within x i is = by_way (c.numbers.comes x i is)
-    where
-      by_way : ComesBy commit image x i → i < image.count
-      by_way (had p) = st.within x i p
-      by_way (enters _ lt _) = lt
-
   -- a block that is held after the commit was held there, or is fresh
   data HeldBy (i p : ℕ) : Type 0 where
     before : i < image.count → (image.seen i).blocks p ≡ (next.seen i).blocks p → HeldBy i p
     taken : commit.takes i p ≡ true → (next.seen i).blocks p ≡ commit.fresh i p → HeldBy i p
 
-  held : (i p : ℕ) → i < next.count → (next.seen i).blocks p ≢ 0 → HeldBy i p
-  held i p lt some = elim (c.rest i lt) as (λ _. HeldBy i p) [
-    | inr free ↦ absurd (some (free.blocks p))
+  held : (i p : ℕ) → i < next.count → p < PLACES → (next.seen i).blocks p ≢ 0 → HeldBy i p
+  held i p lt small some = elim (c.rest i lt) as (λ _. HeldBy i p) [
+    | inr free ↦ absurd (some (free.blocks p small))
     | inl node ↦ elim (commit.concerns node.0) as (λ b. commit.concerns node.0 ≡ b → HeldBy i p) [
-      | false ↦ λ t. let a = c.stays node.0 i node.1 t in HeldBy.before (number_within node.0 i node.1) (ap (λ (seen : Seen). seen.blocks p) (sym a.1))
-      | true ↦ λ t. by_block node.0 node.1 (c.blocks.has node.0 i p node.1 t)
+      | false ↦ λ t. let a = c.stays node.0 i node.1 t in HeldBy.before (number_within commit old image st c.numbers node.0 i node.1) (ap (λ (seen : Seen). seen.blocks p) (sym a.1))
+      | true ↦ λ t. by_block node.0 node.1 (c.blocks.has node.0 i p small node.1 t)
     ] refl
   ]
     where
       by_number : (x : ℕ) → commit.after x ≡ Some i → ComesBy commit image x i → (next.seen i).blocks p ≡ (seen_before commit image x).blocks p → HeldBy i p
-      by_number x is (had was) same = HeldBy.before (number_within x i is) (sym (same ∙ ap (λ (o : Option ℕ). (option_map_or image.seen o blank).blocks p) was))
+      by_number x is (had was) same = HeldBy.before (number_within commit old image st c.numbers x i is) (sym (same ∙ ap (λ (o : Option ℕ). (option_map_or image.seen o blank).blocks p) was))
       by_number x is (enters none _ _) same = absurd (some (same ∙ ap (λ (o : Option ℕ). (option_map_or image.seen o blank).blocks p) none))
 
       by_block : (x : ℕ) → commit.after x ≡ Some i → HasBlock commit i p (seen_before commit image x) (next.seen i) → HeldBy i p
@@ -309,19 +312,19 @@ module _ (commit : Commit) (old new : TreeState) (image next : SeenInodes) (st :
       by_block x is (fresh takes same) = HeldBy.taken takes same
 
   blocks_apart : HoldsApart next
-  blocks_apart i p j q lt less some same = by_holders (held i p lt some) (held j q less (λ zero. some (same ∙ zero)))
+  blocks_apart i p j q lt less small tiny some same = by_holders (held i p lt small some) (held j q less tiny (λ zero. some (same ∙ zero)))
     where
       by_holders : HeldBy i p → HeldBy j q → (i ≡ j) × (p ≡ q)
-      by_holders (before a e) (before b f) = st.apart i p j q a b (λ zero. some (sym e ∙ zero)) (e ∙ same ∙ sym f)
-      by_holders (before a e) (taken t f) = absurd (c.blocks.unheld j q i p t a (e ∙ same ∙ f))
-      by_holders (taken t e) (before b f) = absurd (c.blocks.unheld i p j q t b (f ∙ sym same ∙ e))
+      by_holders (before a e) (before b f) = st.apart i p j q a b small tiny (λ zero. some (sym e ∙ zero)) (e ∙ same ∙ sym f)
+      by_holders (before a e) (taken t f) = absurd (c.blocks.unheld j q i p t a small (e ∙ same ∙ f))
+      by_holders (taken t e) (before b f) = absurd (c.blocks.unheld i p j q t b tiny (f ∙ sym same ∙ e))
       by_holders (taken t e) (taken u f) = c.blocks.once i p j q t u (sym e ∙ same ∙ f)
 
   pub stands_after : StandsForTree commit.after new next
   stands_after = record {
     root = m.root;
-    once = number_once;
-    within = λ x i is. subst (λ (n : ℕ). i < n) (sym c.count) (number_within x i is);
+    once = number_once commit old image st c.numbers;
+    within = λ x i is. subst (λ (n : ℕ). i < n) (sym c.count) (number_within commit old image st c.numbers x i is);
     named = m.named;
     each = shows_each;
     rest = c.rest;

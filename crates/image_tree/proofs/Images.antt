@@ -16,7 +16,7 @@ use Rattle.sfs_tree.proofs.Joined.{key_cmp_total, same_key, find-append}
 use Rattle.sfs_image.specs.Slot.{Row, kind_byte, kind_of}
 use Rattle.sfs_image.specs.Seen.{SeenInodes}
 use Rattle.image_tree.specs.Slots.{looked_up}
-use Rattle.image_tree.specs.ImageTree.{Making, shows_directory, shows_file, row_in, rows_in, image_rows, is_node, node_shown, node_in, image_nodes, image_tree}
+use Rattle.image_tree.specs.ImageTree.{Making, shows_directory, shows_file, slot_row, rows_in, image_rows, is_node, node_shown, node_in, nodes_where, tree_where, image_tree}
 use Rattle.image_tree.proofs.Basics.{some_is, none_some}
 
 or_none : {X : Type 0} (o : Option X) → option_or o None ≡ o
@@ -61,20 +61,20 @@ key_apart : (d i : ℕ) (n m : List ℕ) → i ≢ d → eq_by_cmp key_cmp (d, n
 key_apart d i n m other =
     same_key d i n m ∙ elim (nat_eq d i) as (λ b. nat_eq d i ≡ b → cond b (eq_by_cmp name_cmp n m) false ≡ false) [ true ↦ λ t. absurd (other (sym (eqb-true _ _ t))) | false ↦ λ _. refl ] refl
 
-find_slot : (i : ℕ) (n : List ℕ) (slots : List (Option Row)) → find key_cmp (i, n) (filter_map (row_in i) slots) ≡ option_map (λ (row : Row). row.inode) (looked_up n slots)
+find_slot : (i : ℕ) (n : List ℕ) (slots : List (Option Row)) → find key_cmp (i, n) (filter_map (slot_row i) slots) ≡ option_map (λ (row : Row). row.inode) (looked_up n slots)
 find_slot i n [] = refl
 find_slot i n (None ∷ slots) = find_slot i n slots
 find_slot i n (Some row ∷ slots) =
-    ap (λ b. cond b (Some row.inode) (find key_cmp (i, n) (filter_map (row_in i) slots))) (key_test i n row.name)
-    ∙ elim (bytes_eq n row.name) as (λ b. cond b (Some row.inode) (find key_cmp (i, n) (filter_map (row_in i) slots)) ≡ option_map (λ (row : Row). row.inode) (cond b (Some row) (looked_up n slots))) [
+    ap (λ b. cond b (Some row.inode) (find key_cmp (i, n) (filter_map (slot_row i) slots))) (key_test i n row.name)
+    ∙ elim (bytes_eq n row.name) as (λ b. cond b (Some row.inode) (find key_cmp (i, n) (filter_map (slot_row i) slots)) ≡ option_map (λ (row : Row). row.inode) (cond b (Some row) (looked_up n slots))) [
       | true ↦ refl
       | false ↦ find_slot i n slots
     ]
 
-find_other : (d i : ℕ) (n : List ℕ) (slots : List (Option Row)) → i ≢ d → find key_cmp (d, n) (filter_map (row_in i) slots) ≡ None
+find_other : (d i : ℕ) (n : List ℕ) (slots : List (Option Row)) → i ≢ d → find key_cmp (d, n) (filter_map (slot_row i) slots) ≡ None
 find_other d i n [] other = refl
 find_other d i n (None ∷ slots) other = find_other d i n slots other
-find_other d i n (Some row ∷ slots) other = ap (λ b. cond b (Some row.inode) (find key_cmp (d, n) (filter_map (row_in i) slots))) (key_apart d i n row.name other) ∙ find_other d i n slots other
+find_other d i n (Some row ∷ slots) other = ap (λ b. cond b (Some row.inode) (find key_cmp (d, n) (filter_map (slot_row i) slots))) (key_apart d i n row.name other) ∙ find_other d i n slots other
 
 pub kind_again : (kind : Kind) → kind_of (kind_byte kind) ≡ kind
 kind_again File = refl
@@ -83,7 +83,7 @@ kind_again Directory = refl
 module _ (image : SeenInodes) where
   rows_apart : (d i : ℕ) (n : List ℕ) → i ≢ d → find key_cmp (d, n) (rows_in image i) ≡ None
   rows_apart d i n other =
-      elim (shows_directory (image.seen i)) as (λ b. find key_cmp (d, n) (cond b (filter_map (row_in i) (image.seen i).slots) []) ≡ None) [
+      elim (shows_directory (image.seen i)) as (λ b. find key_cmp (d, n) (cond b (filter_map (slot_row i) (image.seen i).slots) []) ≡ None) [
         | true ↦ find_other d i n (image.seen i).slots other
         | false ↦ refl
       ]
@@ -100,12 +100,12 @@ module _ (image : SeenInodes) where
 
   -- a directory's rows are those of its slots
   pub row_shown : (i : ℕ) (n : List ℕ) → i < image.count → (image.seen i).kind ≡ kind_byte Directory → get (image_rows image) (i, n) ≡ option_map (λ (row : Row). row.inode) (looked_up n (image.seen i).slots)
-  row_shown i n lt kind = get_rows i n lt ∙ ap (λ b. find key_cmp (i, n) (cond b (filter_map (row_in i) (image.seen i).slots) [])) (eq-eqb _ _ kind) ∙ find_slot i n (image.seen i).slots
+  row_shown i n lt kind = get_rows i n lt ∙ ap (λ b. find key_cmp (i, n) (cond b (filter_map (slot_row i) (image.seen i).slots) [])) (eq-eqb _ _ kind) ∙ find_slot i n (image.seen i).slots
 
   -- any other inode has none
   pub no_row_shown : (i : ℕ) (n : List ℕ) → i < image.count → (image.seen i).kind ≢ kind_byte Directory → get (image_rows image) (i, n) ≡ None
   no_row_shown i n lt kind =
-      get_rows i n lt ∙ elim (shows_directory (image.seen i)) as (λ b. shows_directory (image.seen i) ≡ b → find key_cmp (i, n) (cond b (filter_map (row_in i) (image.seen i).slots) []) ≡ None) [
+      get_rows i n lt ∙ elim (shows_directory (image.seen i)) as (λ b. shows_directory (image.seen i) ≡ b → find key_cmp (i, n) (cond b (filter_map (slot_row i) (image.seen i).slots) []) ≡ None) [
         | true ↦ λ t. absurd (kind (eqb-true _ _ t))
         | false ↦ λ _. refl
       ] refl
@@ -132,44 +132,48 @@ module _ (image : SeenInodes) where
         ] refl
       ] refl
 
-  node_apart : (d i : ℕ) → i ≢ d → find nat_cmp d (node_in image i) ≡ None
-  node_apart d i other =
-      elim (is_node image i) as (λ b. find nat_cmp d (cond b ((i, node_shown (image.seen i)) ∷ []) []) ≡ None) [
-        | true ↦ ap (λ b. cond b (Some (node_shown (image.seen i))) None) (number_apart d i other)
-        | false ↦ refl
-      ]
-    where
-      number_apart : (d i : ℕ) → i ≢ d → eq_by_cmp nat_cmp d i ≡ false
-      number_apart d i other = sym (unsigned_ties d i) ∙ elim (nat_eq d i) as (λ b. nat_eq d i ≡ b → b ≡ false) [ true ↦ λ t. absurd (other (sym (eqb-true _ _ t))) | false ↦ λ _. refl ] refl
+  module _ (chosen : ℕ → Bool) where
+    node_apart : (d i : ℕ) → i ≢ d → find nat_cmp d (node_in chosen image i) ≡ None
+    node_apart d i other =
+        elim (chosen i) as (λ b. find nat_cmp d (cond b ((i, node_shown (image.seen i)) ∷ []) []) ≡ None) [
+          | true ↦ ap (λ b. cond b (Some (node_shown (image.seen i))) None) (number_apart d i other)
+          | false ↦ refl
+        ]
+      where
+        number_apart : (d i : ℕ) → i ≢ d → eq_by_cmp nat_cmp d i ≡ false
+        number_apart d i other = sym (unsigned_ties d i) ∙ elim (nat_eq d i) as (λ b. nat_eq d i ≡ b → b ≡ false) [ true ↦ λ t. absurd (other (sym (eqb-true _ _ t))) | false ↦ λ _. refl ] refl
 
-  get_node : (i : ℕ) → i < image.count → get (image_nodes image) i ≡ cond (is_node image i) (Some (node_shown (image.seen i))) None
-  get_node i lt =
-      get-from_entries nat_cmp_total (flat_map (node_in image) (range_with_len 0 image.count)) i
-      ∙ find_inside nat_cmp (node_in image) i i (λ k other. node_apart i k other) 0 image.count (omega arith) (omega arith)
-      ∙ elim (is_node image i) as (λ b. find nat_cmp i (cond b ((i, node_shown (image.seen i)) ∷ []) []) ≡ cond b (Some (node_shown (image.seen i))) None) [
-        | true ↦ ap (λ b. cond b (Some (node_shown (image.seen i))) None) (sym (unsigned_ties i i) ∙ eq-eqb i i refl)
-        | false ↦ refl
-      ]
+    pub get_node : (i : ℕ) → i < image.count → get (nodes_where chosen image) i ≡ cond (chosen i) (Some (node_shown (image.seen i))) None
+    get_node i lt =
+        get-from_entries nat_cmp_total (flat_map (node_in chosen image) (range_with_len 0 image.count)) i
+        ∙ find_inside nat_cmp (node_in chosen image) i i (λ k other. node_apart i k other) 0 image.count (omega arith) (omega arith)
+        ∙ elim (chosen i) as (λ b. find nat_cmp i (cond b ((i, node_shown (image.seen i)) ∷ []) []) ≡ cond b (Some (node_shown (image.seen i))) None) [
+          | true ↦ ap (λ b. cond b (Some (node_shown (image.seen i))) None) (sym (unsigned_ties i i) ∙ eq-eqb i i refl)
+          | false ↦ refl
+        ]
 
-  no_node_outside : (i : ℕ) → image.count ≤ i → get (image_nodes image) i ≡ None
-  no_node_outside i le =
-      get-from_entries nat_cmp_total (flat_map (node_in image) (range_with_len 0 image.count)) i
-      ∙ find_outside nat_cmp (node_in image) i i (λ k other. node_apart i k other) 0 image.count (inr (omega arith))
+    pub no_node_outside : (i : ℕ) → image.count ≤ i → get (nodes_where chosen image) i ≡ None
+    no_node_outside i le =
+        get-from_entries nat_cmp_total (flat_map (node_in chosen image) (range_with_len 0 image.count)) i
+        ∙ find_outside nat_cmp (node_in chosen image) i i (λ k other. node_apart i k other) 0 image.count (inr (omega arith))
 
-  pub node_is : (i : ℕ) → i < image.count → is_node image i ≡ true → get (image_nodes image) i ≡ Some (node_shown (image.seen i))
-  node_is i lt is = get_node i lt ∙ ap (λ b. cond b (Some (node_shown (image.seen i))) None) is
+    pub node_is : (i : ℕ) → i < image.count → chosen i ≡ true → get (nodes_where chosen image) i ≡ Some (node_shown (image.seen i))
+    node_is i lt is = get_node i lt ∙ ap (λ b. cond b (Some (node_shown (image.seen i))) None) is
 
-  -- only inodes that are nodes stand among the nodes
-  pub node_back : (i : ℕ) (node : Node) → get (image_nodes image) i ≡ Some node → (i < image.count) × (is_node image i ≡ true)
-  node_back i node is =
-      elim (nat_lt i image.count) as (λ b. nat_lt i image.count ≡ b → (i < image.count) × (is_node image i ≡ true)) [
-        | false ↦ λ t. absurd (none_some (sym (no_node_outside i (ltb-false _ _ t)) ∙ is))
-        | true ↦ λ t. (ltb-true _ _ t, by_test (is_node image i) refl (sym (get_node i (ltb-true _ _ t)) ∙ is))
-      ] refl
-    where
-      by_test : (b : Bool) → is_node image i ≡ b → cond b (Some (node_shown (image.seen i))) None ≡ Some node → is_node image i ≡ true
-      by_test true e f = e
-      by_test false e f = absurd (none_some f)
+    -- where all directories are chosen, those of the tree are those of the image
+    pub directory_where : (making : Making) → ((i : ℕ) → (image.seen i).kind ≡ kind_byte Directory → chosen i ≡ true) → (i : ℕ) → i < image.count → is_directory (tree_where chosen image making) i ≡ shows_directory (image.seen i)
+    directory_where making all i lt =
+        ap (λ (o : Option Node). option_map_or (λ n. is_directory_kind n.kind) o false) (get_node i lt)
+        ∙ elim (shows_directory (image.seen i)) as (λ b. shows_directory (image.seen i) ≡ b → option_map_or (λ (n : Node). is_directory_kind n.kind) (cond (chosen i) (Some (node_shown (image.seen i))) None) false ≡ b) [
+          | true ↦ λ t.
+              ap (λ b. option_map_or (λ (n : Node). is_directory_kind n.kind) (cond b (Some (node_shown (image.seen i))) None) false) (all i (eqb-true _ _ t))
+              ∙ ap (λ k. is_directory_kind (kind_of k)) (eqb-true _ _ t)
+          | false ↦ λ t. by_test (chosen i) t
+        ] refl
+      where
+        by_test : (b : Bool) → shows_directory (image.seen i) ≡ false → option_map_or (λ (n : Node). is_directory_kind n.kind) (cond b (Some (node_shown (image.seen i))) None) false ≡ false
+        by_test false t = refl
+        by_test true t = ap (λ b. is_directory_kind (cond b Directory File)) t
 
   -- a directory is a node, and so is a file that a row names
   pub directory_is_node : (i : ℕ) → (image.seen i).kind ≡ kind_byte Directory → is_node image i ≡ true
@@ -189,16 +193,6 @@ module _ (image : SeenInodes) where
       or_true true = refl
       or_true false = refl
 
-  module _ (making : Making) where
-    -- the directories of the tree are those of the image
-    pub directory_shown : (i : ℕ) → i < image.count → is_directory (image_tree image making) i ≡ shows_directory (image.seen i)
-    directory_shown i lt =
-        ap (λ (o : Option Node). option_map_or (λ n. is_directory_kind n.kind) o false) (get_node i lt)
-        ∙ elim (shows_directory (image.seen i)) as (λ b. shows_directory (image.seen i) ≡ b → option_map_or (λ (n : Node). is_directory_kind n.kind) (cond (b || (shows_file (image.seen i) && not (nat_eq (count_of (image_rows image) i) 0))) (Some (node_shown (image.seen i))) None) false ≡ b) [
-          | true ↦ λ t. ap (λ k. is_directory_kind (kind_of k)) (eqb-true _ _ t)
-          | false ↦ λ t. by_test (shows_file (image.seen i) && not (nat_eq (count_of (image_rows image) i) 0)) t
-        ] refl
-      where
-        by_test : (b : Bool) → shows_directory (image.seen i) ≡ false → option_map_or (λ (n : Node). is_directory_kind n.kind) (cond b (Some (node_shown (image.seen i))) None) false ≡ false
-        by_test false t = refl
-        by_test true t = ap (λ b. is_directory_kind (cond b Directory File)) t
+  -- the directories of the tree are those of the image
+  pub directory_shown : (making : Making) (i : ℕ) → i < image.count → is_directory (image_tree image making) i ≡ shows_directory (image.seen i)
+  directory_shown making i lt = directory_where (is_node image) making directory_is_node i lt

@@ -1,10 +1,16 @@
 pub mod Basics
 pub mod Committed
+pub mod Elsewhere
+pub mod Faults
 pub mod Images
+pub mod LinkChanges
+pub mod Mounted
 pub mod NetRows
 pub mod Paired
+pub mod Parts
 pub mod Renaming
 pub mod Shapes
 pub mod SlotRows
 pub mod SlotsAfter
 pub mod Standing
+pub mod WholeImages

@@ -15,14 +15,14 @@ use Rattle.sfs_tree.specs.Order.{name_cmp}
 use Rattle.sfs_tree.proofs.Joined.{is_equal}
 use Rattle.sfs_image.specs.Slot.{Row}
 use Rattle.absorb.specs.declared.nets.NetRow.{NetRow}
-use Rattle.absorb.specs.Net.{name_of, IsNetRow, IsNet}
+use Rattle.absorb.specs.Net.{net_name, IsNetRow, IsNet}
 use Rattle.image_tree.specs.Slots.{looked_up, name_count}
-use Rattle.image_tree.specs.Commit.{net_row}
+use Rattle.image_tree.specs.Commit.{row_in_net}
 use Rattle.image_tree.proofs.Basics.{some_is, none_some, true_false}
 use Rattle.image_tree.proofs.SlotRows.{bytes_same, bytes_are, bytes_apart, count_slot}
 
 -- two numbers that may be there are one or not
-same_option : (a b : Option ℕ) → (a ≡ b) ⊎ (a ≢ b)
+pub same_option : (a b : Option ℕ) → (a ≡ b) ⊎ (a ≢ b)
 same_option None None = inl refl
 same_option None (Some b) = inr (λ e. none_some e)
 same_option (Some a) None = inr (λ e. none_some (sym e))
@@ -32,42 +32,42 @@ same_option (Some a) (Some b) = elim (nat_eq a b) as (λ t. nat_eq a b ≡ t →
 ] refl
 
 -- a row that is found under a name has it, and what all rows have
-found_row : (P : NetRow → Type 0) (net : List NetRow) (name : List ℕ) (row : NetRow) → All P net → net_row name net ≡ Some row → (row.name ≡ name) × P row
+found_row : (P : NetRow → Type 0) (net : List NetRow) (name : List ℕ) (row : NetRow) → All P net → row_in_net name net ≡ Some row → (row.name ≡ name) × P row
 found_row P [] name row h is = absurd (none_some is)
 found_row P (first ∷ rows) name row h is =
-    elim (bytes_eq name first.name) as (λ b. bytes_eq name first.name ≡ b → cond b (Some first) (net_row name rows) ≡ Some row → (row.name ≡ name) × P row) [
+    elim (bytes_eq name first.name) as (λ b. bytes_eq name first.name ≡ b → cond b (Some first) (row_in_net name rows) ≡ Some row → (row.name ≡ name) × P row) [
       | true ↦ λ t e.
           let one : first ≡ row = some_is e in
-          (ap name_of (sym one) ∙ sym (bytes_are name first.name t), subst P one (All-head P first rows h))
+          (ap net_name (sym one) ∙ sym (bytes_are name first.name t), subst P one (All-head P first rows h))
       | false ↦ λ _ e. found_row P rows name row (All-tail P first rows h) e
     ] refl is
 
 -- a name under which no row is found is no row's
-not_among : (net : List NetRow) (name : List ℕ) → net_row name net ≡ None → All (λ other. other ≢ name) (map name_of net)
+not_among : (net : List NetRow) (name : List ℕ) → row_in_net name net ≡ None → All (λ other. other ≢ name) (map net_name net)
 not_among [] name is = All-nil (λ other. other ≢ name)
 not_among (row ∷ rows) name is =
-    elim (bytes_eq name row.name) as (λ b. bytes_eq name row.name ≡ b → cond b (Some row) (net_row name rows) ≡ None → All (λ other. other ≢ name) (name_of row ∷ map name_of rows)) [
+    elim (bytes_eq name row.name) as (λ b. bytes_eq name row.name ≡ b → cond b (Some row) (row_in_net name rows) ≡ None → All (λ other. other ≢ name) (net_name row ∷ map net_name rows)) [
       | true ↦ λ t none. absurd (none_some (sym none))
-      | false ↦ λ t none. All-cons (λ other. other ≢ name) row.name (map name_of rows) (λ same. true_false (ap (bytes_eq name) same ∙ bytes_same name) t) (not_among rows name none)
+      | false ↦ λ t none. All-cons (λ other. other ≢ name) row.name (map net_name rows) (λ same. true_false (ap (bytes_eq name) same ∙ bytes_same name) t) (not_among rows name none)
     ] refl is
 
 module _ (earlier later : FinMap name_cmp ℕ) (net : List NetRow) (h : IsNet earlier later net) where
-  pub net_row_is : (name : List ℕ) (row : NetRow) → net_row name net ≡ Some row → (row.name ≡ name) × IsNetRow earlier later row
+  pub net_row_is : (name : List ℕ) (row : NetRow) → row_in_net name net ≡ Some row → (row.name ≡ name) × IsNetRow earlier later row
   net_row_is name row is = found_row (IsNetRow earlier later) net name row h.each is
 
   -- a name without a row in the net keeps its child
-  pub no_net_row : (name : List ℕ) → net_row name net ≡ None → get earlier name ≡ get later name
+  pub no_net_row : (name : List ℕ) → row_in_net name net ≡ None → get earlier name ≡ get later name
   no_net_row name is = elim (same_option (get earlier name) (get later name)) [
     | inl same ↦ same
-    | inr differ ↦ absurd (All-contains (λ other. other ≢ name) (map name_of net) name (not_among net name is) (h.complete name differ) refl)
+    | inr differ ↦ absurd (All-contains (λ other. other ≢ name) (map net_name net) name (not_among net name is) (h.complete name differ) refl)
   ]
 
 -- no name stands in a net twice
-pub HasNamesOnce : List NetRow → Type 0
+unfoldable pub HasNamesOnce : List NetRow → Type 0
 HasNamesOnce [] = Unit {0}
-HasNamesOnce (row ∷ rows) = (net_row row.name rows ≡ None) × HasNamesOnce rows
+HasNamesOnce (row ∷ rows) = (row_in_net row.name rows ≡ None) × HasNamesOnce rows
 
-pub once_ascending : (net : List NetRow) → IsStrictlySortedBy name_cmp (map name_of net) → HasNamesOnce net
+pub once_ascending : (net : List NetRow) → IsStrictlySortedBy name_cmp (map net_name net) → HasNamesOnce net
 unfolding HasNamesOnce IsStrictlySortedBy
 once_ascending [] h = tt
 once_ascending (row ∷ rows) h = (none_behind row.name rows h.0, once_ascending rows h.1)
@@ -78,9 +78,9 @@ once_ascending (row ∷ rows) h = (none_behind row.name rows h.0, once_ascending
         not_both : Equal ≡ Less → ⊥
         not_both e = cc
 
-    none_behind : (n : List ℕ) (rows : List NetRow) → AllByRecursion (λ other. name_cmp n other ≡ Less) (map name_of rows) → net_row n rows ≡ None
+    none_behind : (n : List ℕ) (rows : List NetRow) → AllByRecursion (λ other. name_cmp n other ≡ Less) (map net_name rows) → row_in_net n rows ≡ None
     none_behind n [] h = refl
-    none_behind n (r ∷ rs) h = ap (λ b. cond b (Some r) (net_row n rs)) (bytes_apart n r.name (less_apart n r.name h.0)) ∙ none_behind n rs h.1
+    none_behind n (r ∷ rs) h = ap (λ b. cond b (Some r) (row_in_net n rs)) (bytes_apart n r.name (less_apart n r.name h.0)) ∙ none_behind n rs h.1
 
 -- how many there are of what may be there
 abbrev pub one_if_some : Option Row → ℕ
@@ -93,7 +93,7 @@ module _ (make : NetRow → Option Row) (named : (row : NetRow) (made : Row) →
   made_of net = map Some (filter_map make net)
 
   abbrev made_at : List ℕ → List NetRow → Option Row
-  made_at n net = option_and_then make (net_row n net)
+  made_at n net = option_and_then make (row_in_net n net)
 
   -- under a name stands what is made of its row, once
   pub record StandsOnce (n : List ℕ) (net : List NetRow) : Type 0 where
@@ -109,7 +109,7 @@ module _ (make : NetRow → Option Row) (named : (row : NetRow) (made : Row) →
       let e = rest.counted in
       (ap (λ b. cond b (Some made) (looked_up n (made_of rows))) test ∙ rest.looked, omega arith)
 
-  present : (n : List ℕ) (row : NetRow) (rows : List NetRow) (o : Option Row) → make row ≡ o → bytes_eq n row.name ≡ true → net_row n rows ≡ None → StandsOnce n rows → (looked_up n (map Some (cons_option o (filter_map make rows))) ≡ make row) × (name_count n (map Some (cons_option o (filter_map make rows))) ≡ one_if_some (make row))
+  present : (n : List ℕ) (row : NetRow) (rows : List NetRow) (o : Option Row) → make row ≡ o → bytes_eq n row.name ≡ true → row_in_net n rows ≡ None → StandsOnce n rows → (looked_up n (map Some (cons_option o (filter_map make rows))) ≡ make row) × (name_count n (map Some (cons_option o (filter_map make rows))) ≡ one_if_some (make row))
   present n row rows None is here none rest =
       (rest.looked ∙ ap (option_and_then make) none ∙ sym is, rest.counted ∙ ap (λ o. one_if_some (option_and_then make o)) none ∙ sym (ap one_if_some is))
   present n row rows (Some made) is here none rest =
@@ -127,12 +127,12 @@ module _ (make : NetRow → Option Row) (named : (row : NetRow) (made : Row) →
       let rest = is_made n rows once.1 in
       elim (bytes_eq n row.name) as (λ b. bytes_eq n row.name ≡ b → StandsOnce n (row ∷ rows)) [
         | true ↦ λ t.
-            let none = ap (λ m. net_row m rows) (bytes_are n row.name t) ∙ once.0 in
+            let none = ap (λ m. row_in_net m rows) (bytes_are n row.name t) ∙ once.0 in
             let p = present n row rows (make row) refl t none rest in
-            let at : made_at n (row ∷ rows) ≡ make row = ap (λ b. option_and_then make (cond b (Some row) (net_row n rows))) t in
+            let at : made_at n (row ∷ rows) ≡ make row = ap (λ b. option_and_then make (cond b (Some row) (row_in_net n rows))) t in
             record { looked = p.0 ∙ sym at; counted = p.1 ∙ sym (ap one_if_some at) }
         | false ↦ λ t.
             let p = absent n row rows (make row) refl t rest in
-            let at : made_at n (row ∷ rows) ≡ made_at n rows = ap (λ b. option_and_then make (cond b (Some row) (net_row n rows))) t in
+            let at : made_at n (row ∷ rows) ≡ made_at n rows = ap (λ b. option_and_then make (cond b (Some row) (row_in_net n rows))) t in
             record { looked = p.0 ∙ sym at; counted = p.1 ∙ sym (ap one_if_some at) }
       ] refl

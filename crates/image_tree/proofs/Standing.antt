@@ -17,11 +17,11 @@ use Rattle.sfs_tree.proofs.RowFacts.{alive_named}
 use Rattle.sfs_image.specs.Slot.{Row, kind_byte}
 use Rattle.sfs_image.specs.Seen.{SeenInodes}
 use Rattle.image_tree.specs.Slots.{looked_up}
-use Rattle.image_tree.specs.ImageTree.{Making, shows_directory, image_rows, is_node, node_shown, image_tree}
+use Rattle.image_tree.specs.ImageTree.{Making, NOTHING_MADE, shows_directory, image_rows, is_node, node_shown, image_tree}
 use Rattle.image_tree.specs.Renamed.{Numbering, HasNumber, IsMet, root, named, IsRenamed}
 use Rattle.image_tree.specs.Stands.{inode_under, row_on, StandsForTree, IsStorable}
 use Rattle.image_tree.specs.Laws.{StandingImagesShow}
-use Rattle.image_tree.specs.Keeps.{IsDirectoryInode, MayName, MayStand, KeepsRules}
+use Rattle.image_tree.specs.Keeps.{ruled_tree, IsDirectoryInode, MayName, MayStand, KeepsRules}
 use Rattle.image_tree.proofs.Basics.{some_is, none_some, true_false}
 use Rattle.image_tree.proofs.Renaming.{under_is, naming_renamed, links_renamed, sound_renamed, above_renamed}
 use Rattle.image_tree.proofs.Shapes.{part_renamed, shape_renamed, with_value}
@@ -117,7 +117,7 @@ module _ (num : Numbering) (tree : TreeState) (image : SeenInodes) (making : Mak
     where
       none_is_some : IsSome {T = Node} None → ⊥
       none_is_some h = cc
-  node_shown_as x i is (Some nd) e some node = node_is image i (st.within x i is) node ∙ ap Some same
+  node_shown_as x i is (Some nd) e some node = node_is image (is_node image) i (st.within x i is) node ∙ ap Some same
     where
       same : ◌≡◌ {A = Node} (node_shown (image.seen i)) nd
       same = λ j. record {
@@ -206,33 +206,6 @@ module _ (num : Numbering) (tree : TreeState) (image : SeenInodes) (making : Mak
         by_met _ root kind is = ([], subst (λ (j : ℕ). Above shown j []) (some_is (sym st.root ∙ is)) at_root)
         by_met _ (named d n x row) kind is = let way = s.climbs d n x row kind in above_renamed num tree shown shown_renamed s x i way.0 is way.1
 
-    -- an image that stands for a sound tree keeps the rules
-    pub keeps : KeepsRules image making
-    keeps = record {
-      root = (st.within 0 0 st.root, directory_seen 0 0 st.root s.root);
-      apart = st.apart;
-      once = λ i is n. let x = node_of_directory i is in (st.each x.0 i x.1).once n;
-      full = λ i number is lt.
-          let x = node_of_directory i is in
-          subst (λ (k : ℕ). k ≤ 4096) (sym (len_part (λ name. nat_eq (bucket name) number) x.0 i x.1)) (may.full x.0 i number x.1 lt);
-      children = λ i is. let x = node_of_directory i is in stand (image.seen i).slots (each_found (MayName image) (image.seen i).slots (st.each x.0 i x.1).once (λ row found. may_name x.0 i x.1 row found));
-      named_once = λ i is. let x = node_of_directory i is in subst (λ (k : ℕ). k ≤ 1) (sym (naming_renamed num tree shown shown_renamed x.0 i x.1)) (named_at_most_once x.0 x.2);
-      links = λ i lt used. let x = node_of_used i lt used in (st.each x.0 i x.1).links ∙ sym (links_shown x.0 i x.1);
-      reached = λ i is. let x = node_of_directory i is in reached_shown x.0 i x.1 x.2;
-    }
-      where
-        len_part : (test : List ℕ → Bool) (x i : ℕ) → num x ≡ Some i → len (Rattle.sfs_tree.specs.Tree.names_where i test shown.rows) ≡ len (Rattle.sfs_tree.specs.Tree.names_where x test tree.rows)
-        len_part test x i is =
-            len-entries _ ∙ ap length (part_renamed num tree shown shown_renamed test x i is) ∙ length-map (entries (Rattle.sfs_tree.specs.Tree.names_where x test tree.rows)) (with_value (inode_under num)) ∙ sym (len-entries _)
-
-        stand_at : (slot : Option Row) → OnRow (MayName image) slot → MayStand image slot
-        stand_at None h = tt
-        stand_at (Some row) h = h
-
-        stand : (slots : List (Option Row)) → AllByRecursion (OnRow (MayName image)) slots → AllByRecursion (MayStand image) slots
-        stand [] h = tt
-        stand (slot ∷ slots) h = (stand_at slot h.0, stand slots h.1)
-
   -- its tree is sound and has the tree's shape
   pub shown_sound : IsSound shown
   shown_sound = sound_renamed num tree shown shown_renamed s
@@ -240,9 +213,37 @@ module _ (num : Numbering) (tree : TreeState) (image : SeenInodes) (making : Mak
   pub shown_shape : shape_of shown ≡ shape_of tree
   shown_shape = shape_renamed num tree shown shown_renamed
 
+module _ (num : Numbering) (tree : TreeState) (image : SeenInodes) (s : IsSound tree) (st : StandsForTree num tree image) (may : IsStorable num tree) where
+  -- an image that stands for a sound tree keeps the rules
+  pub keeps : KeepsRules image
+  keeps = record {
+    root = (st.within 0 0 st.root, directory_seen num tree image NOTHING_MADE s st 0 0 st.root s.root);
+    apart = st.apart;
+    once = λ i is n. let x = node_of_directory num tree image NOTHING_MADE s st i is in (st.each x.0 i x.1).once n;
+    full = λ i number is lt.
+        let x = node_of_directory num tree image NOTHING_MADE s st i is in
+        subst (λ (k : ℕ). k ≤ 4096) (sym (len_part (λ name. nat_eq (bucket name) number) x.0 i x.1)) (may.full x.0 i number x.1 lt);
+    children = λ i is. let x = node_of_directory num tree image NOTHING_MADE s st i is in stand (image.seen i).slots (each_found (MayName image) (image.seen i).slots (st.each x.0 i x.1).once (λ row found. may_name num tree image NOTHING_MADE s st x.0 i x.1 row found));
+    named_once = λ i is. let x = node_of_directory num tree image NOTHING_MADE s st i is in subst (λ (k : ℕ). k ≤ 1) (sym (naming_renamed num tree (ruled_tree image) (shown_renamed num tree image NOTHING_MADE s st) x.0 i x.1)) (named_at_most_once num tree image NOTHING_MADE s st x.0 x.2);
+    links = λ i lt used. let x = node_of_used num tree image NOTHING_MADE s st i lt used in (st.each x.0 i x.1).links ∙ sym (links_shown num tree image NOTHING_MADE s st may x.0 i x.1);
+    reached = λ i is. let x = node_of_directory num tree image NOTHING_MADE s st i is in reached_shown num tree image NOTHING_MADE s st may x.0 i x.1 x.2;
+  }
+    where
+      len_part : (test : List ℕ → Bool) (x i : ℕ) → num x ≡ Some i → len (Rattle.sfs_tree.specs.Tree.names_where i test (image_rows image)) ≡ len (Rattle.sfs_tree.specs.Tree.names_where x test tree.rows)
+      len_part test x i is =
+          len-entries _ ∙ ap length (part_renamed num tree (ruled_tree image) (shown_renamed num tree image NOTHING_MADE s st) test x i is) ∙ length-map (entries (Rattle.sfs_tree.specs.Tree.names_where x test tree.rows)) (with_value (inode_under num)) ∙ sym (len-entries _)
+
+      stand_at : (slot : Option Row) → OnRow (MayName image) slot → MayStand image slot
+      stand_at None h = tt
+      stand_at (Some row) h = h
+
+      stand : (slots : List (Option Row)) → AllByRecursion (OnRow (MayName image)) slots → AllByRecursion (MayStand image) slots
+      stand [] h = tt
+      stand (slot ∷ slots) h = (stand_at slot h.0, stand slots h.1)
+
 pub standing_images_show : StandingImagesShow
 standing_images_show num tree image making s may st = record {
-  rules = keeps num tree image making s st may;
+  rules = keeps num tree image s st may;
   sound = shown_sound num tree image making s st;
   shape = shown_shape num tree image making s st;
 }

@@ -7,27 +7,27 @@ use Rattle.sfs_tree.specs.Tree.{TreeState, row_of, kind_of, bytes_of, links_of, 
 use Rattle.absorb.specs.declared.nets.NetRow.{NetRow}
 use Rattle.absorb.specs.Net.{IsNet}
 use Rattle.sfs_image.specs.Slot.{Row, kind_byte}
-use Rattle.sfs_image.specs.Seen.{Seen, SeenInodes}
+use Rattle.sfs_image.specs.Seen.{Seen, SeenInodes, PLACES}
 use Rattle.image_tree.specs.Slots.{in_blocks}
 use Rattle.image_tree.specs.Renamed.{Numbering, HasNumber}
-use Rattle.image_tree.specs.Stands.{row_on, size_of, IsUnused}
+use Rattle.image_tree.specs.Stands.{row_on, own_size, IsUnused}
 
 -- the row of a net that has this name, where there is one
-abbrev pub net_row : List ℕ → List NetRow → Option NetRow
-net_row name net = find (λ row. bytes_eq name row.name) net
+abbrev pub row_in_net : List ℕ → List NetRow → Option NetRow
+row_in_net name net = find (λ row. bytes_eq name row.name) net
 
 -- the row that a name has on the disk after a net
-abbrev pub row_after : Numbering → TreeState → NetRow → Option Row
-row_after num tree row = option_map (row_on num tree row.name) (number_of row.after)
+abbrev pub brought_row : Numbering → TreeState → NetRow → Option Row
+brought_row num tree row = option_map (row_on num tree row.name) (number_of row.after)
 
 -- a slot after a net: a name that is gone empties it, a name with another child keeps it, and any other stays
 abbrev pub slot_after : Numbering → TreeState → List NetRow → Option Row → Option Row
 slot_after num tree net None = None
-slot_after num tree net (Some row) = option_map_or (row_after num tree) (net_row row.name net) (Some row)
+slot_after num tree net (Some row) = option_map_or (brought_row num tree) (row_in_net row.name net) (Some row)
 
 -- the rows of the names that are new in a net, in its order
 abbrev pub new_rows : Numbering → TreeState → List NetRow → List Row
-new_rows num tree net = filter_map (λ row. if is_none row.before then row_after num tree row else None) net
+new_rows num tree net = filter_map (λ row. if is_none row.before then brought_row num tree row else None) net
 
 -- slots with further rows, each in the lowest empty slot, and the last ones behind all slots
 abbrev pub filled : List (Option Row) → List Row → List (Option Row)
@@ -59,10 +59,10 @@ seen_before commit image node = option_map_or image.seen (commit.before node) bl
 
 -- The inode of a concerned node after a commit: kind, link count and bytes are those of the new tree; the slots are the old ones
 -- after the node's net, in the blocks up to the last one that has a row; and the size is that of what it then has.
-pub record IsBuilt (commit : Commit) (new : TreeState) (node : ℕ) (old_seen new_seen : Seen) : Type 0 where
+pub record IsBuiltAnew (commit : Commit) (new : TreeState) (node : ℕ) (old_seen new_seen : Seen) : Type 0 where
   pub kind : new_seen.kind ≡ kind_byte (kind_of new node)
   pub links : new_seen.links ≡ links_of new node
-  pub size : new_seen.size ≡ size_of new_seen
+  pub size : new_seen.size ≡ own_size new_seen
   pub bytes : new_seen.bytes ≡ bytes_of new node
   pub slots : new_seen.slots ≡ in_blocks (slots_after commit.after new (commit.nets node) old_seen.slots)
 
@@ -90,8 +90,8 @@ pub record GivesNumbers (commit : Commit) (image : SeenInodes) : Type 0 where
 
 -- The blocks that a commit takes: each place of a concerned node has one of the three, and a fresh block is held by no inode before and taken once.
 pub record TakesBlocks (commit : Commit) (image next : SeenInodes) : Type 0 where
-  pub has : (node i place : ℕ) → commit.after node ≡ Some i → commit.concerns node ≡ true → HasBlock commit i place (seen_before commit image node) (next.seen i)
-  pub unheld : (i place j other : ℕ) → commit.takes i place ≡ true → j < image.count → (image.seen j).blocks other ≢ commit.fresh i place
+  pub has : (node i place : ℕ) → place < PLACES → commit.after node ≡ Some i → commit.concerns node ≡ true → HasBlock commit i place (seen_before commit image node) (next.seen i)
+  pub unheld : (i place j other : ℕ) → commit.takes i place ≡ true → j < image.count → other < PLACES → (image.seen j).blocks other ≢ commit.fresh i place
   pub once : (i place j other : ℕ) → commit.takes i place ≡ true → commit.takes j other ≡ true → commit.fresh i place ≡ commit.fresh j other → (i ≡ j) × (place ≡ other)
 
 -- A commit changes the inodes of an image from those of an old tree to those of a new one.
@@ -101,7 +101,7 @@ pub record IsCommit (commit : Commit) (old new : TreeState) (image next : SeenIn
   pub nets : (node : ℕ) → IsNet (names_of node old.rows) (names_of node new.rows) (commit.nets node)
   pub numbers : GivesNumbers commit image
   -- a concerned node is built anew, another one stays as it is, and what is no node's is free
-  pub built : (node i : ℕ) → commit.after node ≡ Some i → commit.concerns node ≡ true → IsBuilt commit new node (seen_before commit image node) (next.seen i)
+  pub built : (node i : ℕ) → commit.after node ≡ Some i → commit.concerns node ≡ true → IsBuiltAnew commit new node (seen_before commit image node) (next.seen i)
   pub stays : (node i : ℕ) → commit.after node ≡ Some i → commit.concerns node ≡ false → (commit.before node ≡ Some i) × (next.seen i ≡ image.seen i) × IsAside old new node
   pub rest : (i : ℕ) → i < next.count → ((node : ℕ) × (commit.after node ≡ Some i)) ⊎ IsUnused (next.seen i)
   pub blocks : TakesBlocks commit image next

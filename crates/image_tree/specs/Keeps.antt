@@ -3,13 +3,14 @@ use Rattle.std.specs.Prelude.{◌≡◌, ◌≢◌, ℕ, ◌<◌, ◌≤◌, Lis
 use Rattle.std.specs.List.{AllByRecursion}
 use Rattle.std.specs.FinMap.{len}
 use Rattle.sfs_base.specs.declared.numbers.Kind.TheVariants.{Directory}
-use Rattle.sfs_tree.specs.Tree.{count_of, links_of, bucket_rows}
+use Rattle.sfs_tree.specs.Tree.{TreeState, count_of, links_of, bucket_rows}
 use Rattle.sfs_tree.specs.Sound.{Above}
 use Rattle.sfs_image.specs.Slot.{Row, kind_byte}
 use Rattle.sfs_image.specs.Seen.{SeenInodes}
 use Rattle.image_tree.specs.Slots.{name_count}
-use Rattle.image_tree.specs.ImageTree.{Making, image_rows, image_tree}
-use Rattle.image_tree.specs.Stands.{HoldsApart, BUCKET_ROWS}
+use Rattle.image_tree.specs.ImageTree.{NOTHING_MADE, image_rows, image_tree}
+use Rattle.image_tree.specs.Stands.{HoldsApart}
+use Rattle.sfs_tree.specs.Verdict.{BUCKET_ROWS}
 
 -- an inode of an image is a directory
 abbrev pub IsDirectoryInode : SeenInodes → ℕ → Type 0
@@ -26,15 +27,19 @@ abbrev pub MayStand : SeenInodes → Option Row → Type 0
 MayStand image None = Unit {0}
 MayStand image (Some row) = MayName image row
 
+-- the tree of an image, of which the rules speak
+abbrev pub ruled_tree : SeenInodes → TreeState
+ruled_tree image = image_tree image NOTHING_MADE
+
 -- The inodes of an image keep the rules: the root is a directory, no block is held twice, and each directory has each name once, at
 -- most 4,096 rows in a bucket and only rows that may stand there, is named by one row at most, and is reached from the root; and the
 -- link counts are those of the tree.
-pub record KeepsRules (image : SeenInodes) (making : Making) : Type 0 where
+pub record KeepsRules (image : SeenInodes) : Type 0 where
   pub root : IsDirectoryInode image 0
   pub apart : HoldsApart image
   pub once : (i : ℕ) → IsDirectoryInode image i → (name : List ℕ) → name_count name (image.seen i).slots ≤ 1
   pub full : (i number : ℕ) → IsDirectoryInode image i → number < 8 → len (bucket_rows i number (image_rows image)) ≤ BUCKET_ROWS
   pub children : (i : ℕ) → IsDirectoryInode image i → AllByRecursion (MayStand image) (image.seen i).slots
   pub named_once : (i : ℕ) → IsDirectoryInode image i → count_of (image_rows image) i ≤ 1
-  pub links : (i : ℕ) → i < image.count → (image.seen i).kind ≢ 0 → (image.seen i).links ≡ links_of (image_tree image making) i
-  pub reached : (i : ℕ) → IsDirectoryInode image i → (above : List ℕ) × Above (image_tree image making) i above
+  pub links : (i : ℕ) → i < image.count → (image.seen i).kind ≢ 0 → (image.seen i).links ≡ links_of (ruled_tree image) i
+  pub reached : (i : ℕ) → IsDirectoryInode image i → (above : List ℕ) × Above (ruled_tree image) i above

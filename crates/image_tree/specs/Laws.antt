@@ -1,6 +1,6 @@
 -- The laws of what an image stands for, each of which a function of the module laws proves.
-use Rattle.std.specs.Prelude.{◌≡◌}
-use Rattle.sfs_tree.specs.Tree.{TreeState}
+use Rattle.std.specs.Prelude.{◌≡◌, ◌↔◌, ℕ, ◌+◌, ◌<◌, ◌≤◌, Bool, false, List, Some, None}
+use Rattle.sfs_tree.specs.Tree.{TreeState, links_of}
 use Rattle.sfs_tree.specs.Sound.{IsSound}
 use Rattle.sfs_tree.specs.Shape.{shape_of}
 use Rattle.sfs_image.specs.Seen.{SeenInodes}
@@ -8,6 +8,12 @@ use Rattle.image_tree.specs.ImageTree.{Making, image_tree}
 use Rattle.image_tree.specs.Renamed.{Numbering, IsRenamed}
 use Rattle.image_tree.specs.Stands.{StandsForTree, IsStorable}
 use Rattle.image_tree.specs.Keeps.{KeepsRules}
+use Rattle.image_tree.specs.Elsewhere.{Elsewhere, commit_there, ConcernsItsChanges, AgreesBefore, FollowsThere}
+use Rattle.absorb.specs.declared.nets.NetRow.{NetRow}
+use Rattle.image_tree.specs.LinkChanges.{gained, lost, linking, net_changes, AreAllNets}
+use Rattle.image_tree.specs.Image.{image_inodes, tree_of, IsMounted, HasGoodBytes, IsReadAsTree}
+use Rattle.image_tree.specs.Mount.{ShowsByKind, StandsByItself}
+use Rattle.image_tree.specs.Rules.{BYTE_RULES, KeepsByteRules, tree_fault}
 use Rattle.image_tree.specs.Commit.{Commit, IsCommit, MayFollow}
 
 -- A tree under other numbers is sound where the first is, and has its shape.
@@ -16,7 +22,7 @@ RenamedTreesHaveOneShape = (num : Numbering) (tree other : TreeState) → IsSoun
 
 -- What an image shows that stands for a tree: it keeps the rules, and its own tree is sound and has the tree's shape.
 pub record ShowsTree (tree : TreeState) (image : SeenInodes) (making : Making) : Type 0 where
-  pub rules : KeepsRules image making
+  pub rules : KeepsRules image
   pub sound : IsSound (image_tree image making)
   pub shape : shape_of (image_tree image making) ≡ shape_of tree
 
@@ -32,3 +38,29 @@ pub record LeavesTree (commit : Commit) (new : TreeState) (next : SeenInodes) (m
 -- A commit makes of an image that stands for a sound tree one that stands for the next tree, and so keeps the rules.
 abbrev pub CommitsKeepStanding : Type 0
 CommitsKeepStanding = (commit : Commit) (old new : TreeState) (image next : SeenInodes) (making : Making) → StandsForTree commit.before old image → IsSound old → IsCommit commit old new image next → IsSound new → MayFollow commit.after old new → IsStorable commit.after new → LeavesTree commit new next making
+
+-- An image that keeps the rules stands for its own tree.
+abbrev pub RulesMakeStanding : Type 0
+RulesMakeStanding = (image : SeenInodes) (making : Making) → KeepsRules image → ShowsByKind image → StandsByItself image making
+
+-- The first fault is none exactly where the rules hold, those on bytes being given.
+abbrev pub NoFaultIsRulesKept : Type 0
+NoFaultIsRulesKept = (image : SeenInodes) (breaks_byte_rule : ℕ → ℕ → Bool) → KeepsByteRules image → ((rule i : ℕ) → 1 ≤ rule → rule ≤ BYTE_RULES → i < image.count → breaks_byte_rule rule i ≡ false) → (tree_fault breaks_byte_rule image ≡ None) ↔ KeepsRules image
+
+-- A commit that was planned in one state is one in each other state that agrees with it on what it concerns.
+abbrev pub PlannedCommitsHoldElsewhere : Type 0
+PlannedCommitsHoldElsewhere = (commit : Commit) (old new : TreeState) (image next : SeenInodes) (there : Elsewhere) → StandsForTree commit.before old image → IsCommit commit old new image next → ConcernsItsChanges commit old new
+    → StandsForTree there.before there.old there.image → AgreesBefore commit old image there → FollowsThere commit new next there → IsCommit (commit_there commit there) there.old there.new there.image there.next
+
+-- A node's link count in the later tree, with the rows that went, is that in the earlier one with the rows that came.
+abbrev pub NetsGiveLinks : Type 0
+NetsGiveLinks = (old new : TreeState) (nets : ℕ → List NetRow) (members : List ℕ) (node : ℕ) → AreAllNets old new nets members
+    → links_of new node + lost (linking new node) (net_changes nets members) ≡ links_of old node + gained (linking new node) (net_changes nets members)
+
+-- An image that has a tree is mounted: its tree is sound, and it stands for it.
+abbrev pub TreesOfImagesAreMounted : Type 0
+TreesOfImagesAreMounted = (image : List ℕ) (share : ℕ) (tree : TreeState) → tree_of image share ≡ Some tree → IsMounted image share tree
+
+-- An image with good bytes whose inodes stand for a sound tree has no fault, and a tree of that shape.
+abbrev pub StandingImagesAreRead : Type 0
+StandingImagesAreRead = (image : List ℕ) (share : ℕ) (num : Numbering) (tree : TreeState) → HasGoodBytes image → IsSound tree → IsStorable num tree → StandsForTree num tree (image_inodes image) → IsReadAsTree image share tree

@@ -1,7 +1,12 @@
 pub mod Commit
+pub mod Elsewhere
+pub mod Image
 pub mod ImageTree
 pub mod Keeps
 pub mod Laws
+pub mod LinkChanges
+pub mod Mount
 pub mod Renamed
+pub mod Rules
 pub mod Slots
 pub mod Stands

@@ -4,7 +4,8 @@ use Rattle.std.specs.FinMap.{len}
 use Rattle.std.specs.Option.{unwrap_or}
 use Rattle.sfs_tree.specs.Tree.{TreeState, row_of, kind_of, bytes_of, links_of, is_directory, bucket_rows}
 use Rattle.sfs_image.specs.Slot.{Row, kind_byte}
-use Rattle.sfs_image.specs.Seen.{Seen, SeenInodes}
+use Rattle.sfs_image.specs.Seen.{Seen, SeenInodes, PLACES}
+use Rattle.sfs_tree.specs.Verdict.{BUCKET_ROWS}
 use Rattle.image_tree.specs.Slots.{BLOCK_SLOTS, looked_up, name_count}
 use Rattle.image_tree.specs.ImageTree.{shows_directory}
 use Rattle.image_tree.specs.Renamed.{Numbering, HasNumber, IsMet}
@@ -22,15 +23,15 @@ abbrev pub BLOCK_BYTES : ℕ
 BLOCK_BYTES = 4096
 
 -- the size that an inode's record has: a directory's is that of the blocks of its slots, a file's the number of its bytes
-abbrev pub size_of : Seen → ℕ
-size_of seen = if shows_directory seen then BLOCK_BYTES * (length seen.slots / BLOCK_SLOTS) else length seen.bytes
+abbrev pub own_size : Seen → ℕ
+own_size seen = if shows_directory seen then BLOCK_BYTES * (length seen.slots / BLOCK_SLOTS) else length seen.bytes
 
 -- An inode shows a node of a tree: its kind, link count and bytes are the node's, its slots are the node's rows, each once, and its
 -- size is that of what it has.
 pub record ShowsNode (num : Numbering) (tree : TreeState) (node : ℕ) (seen : Seen) : Type 0 where
   pub kind : seen.kind ≡ kind_byte (kind_of tree node)
   pub links : seen.links ≡ links_of tree node
-  pub size : seen.size ≡ size_of seen
+  pub size : seen.size ≡ own_size seen
   pub bytes : seen.bytes ≡ bytes_of tree node
   pub slots : (name : List ℕ) → looked_up name seen.slots ≡ option_map (row_on num tree name) (row_of tree node name)
   pub once : (name : List ℕ) → name_count name seen.slots ≤ 1
@@ -38,11 +39,11 @@ pub record ShowsNode (num : Numbering) (tree : TreeState) (node : ℕ) (seen : S
 -- An inode is free: it is of no kind and holds no block.
 pub record IsUnused (seen : Seen) : Type 0 where
   pub kind : seen.kind ≡ 0
-  pub blocks : (place : ℕ) → seen.blocks place ≡ 0
+  pub blocks : (place : ℕ) → place < PLACES → seen.blocks place ≡ 0
 
 -- no block is held at two places
 abbrev pub HoldsApart : SeenInodes → Type 0
-HoldsApart image = (i p j q : ℕ) → i < image.count → j < image.count → (image.seen i).blocks p ≢ 0 → (image.seen i).blocks p ≡ (image.seen j).blocks q → (i ≡ j) × (p ≡ q)
+HoldsApart image = (i place j other : ℕ) → i < image.count → j < image.count → place < PLACES → other < PLACES → (image.seen i).blocks place ≢ 0 → (image.seen i).blocks place ≡ (image.seen j).blocks other → (i ≡ j) × (place ≡ other)
 
 -- The inodes of an image stand for a tree under a numbering: the root is inode 0, no two nodes have one inode, each child of a row
 -- has one, each inode shows its node, all others are free, and no block is held twice.
@@ -54,10 +55,6 @@ pub record StandsForTree (num : Numbering) (tree : TreeState) (image : SeenInode
   pub each : (node i : ℕ) → num node ≡ Some i → ShowsNode num tree node (image.seen i)
   pub rest : (i : ℕ) → i < image.count → ((node : ℕ) × (num node ≡ Some i)) ⊎ IsUnused (image.seen i)
   pub apart : HoldsApart image
-
--- how many rows a bucket may have
-abbrev pub BUCKET_ROWS : ℕ
-BUCKET_ROWS = 4096
 
 -- A tree is such that an image may stand for it under a numbering: a directory with a number is the root or is named, and no bucket of
 -- it is overfull.

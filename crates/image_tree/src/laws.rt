@@ -1,5 +1,7 @@
 // What is proved of the definitions: each function's contract is a law.
 ghost use Rattle.image_tree.specs.Laws.{RenamedTreesHaveOneShape, StandingImagesShow, CommitsKeepStanding};
+ghost use Rattle.image_tree.specs.Laws.{RulesMakeStanding, NoFaultIsRulesKept, PlannedCommitsHoldElsewhere, NetsGiveLinks};
+ghost use Rattle.image_tree.specs.Laws.{TreesOfImagesAreMounted, StandingImagesAreRead};
 
 /// A tree under other numbers is sound where the first is, and has its shape.
 pub fn renamed_trees_have_one_shape()
@@ -14,4 +16,34 @@ pub fn standing_images_show()
 /// A commit keeps an image standing: for the next tree.
 pub fn commits_keep_standing()
     ensures { CommitsKeepStanding }
+{}
+
+/// An image that keeps the rules stands for its own tree.
+pub fn rules_make_standing()
+    ensures { RulesMakeStanding }
+{}
+
+/// The first fault is none exactly where the rules hold.
+pub fn no_fault_is_rules_kept()
+    ensures { NoFaultIsRulesKept }
+{}
+
+/// A commit that was planned in one state is one in each other that agrees with it on what it concerns.
+pub fn planned_commits_hold_elsewhere()
+    ensures { PlannedCommitsHoldElsewhere }
+{}
+
+/// Nets give each node's link count.
+pub fn nets_give_links()
+    ensures { NetsGiveLinks }
+{}
+
+/// An image that has a tree is mounted: its tree is sound, and it stands for it.
+pub fn trees_of_images_are_mounted()
+    ensures { TreesOfImagesAreMounted }
+{}
+
+/// An image with good bytes whose inodes stand for a sound tree has no fault, and a tree of that shape.
+pub fn standing_images_are_read()
+    ensures { StandingImagesAreRead }
 {}

@@ -3,4 +3,8 @@
 
 mod laws;
 
-pub use laws::{commits_keep_standing, renamed_trees_have_one_shape, standing_images_show};
+pub use laws::{
+    commits_keep_standing, nets_give_links, no_fault_is_rules_kept, planned_commits_hold_elsewhere,
+    renamed_trees_have_one_shape, rules_make_standing, standing_images_are_read,
+    standing_images_show, trees_of_images_are_mounted,
+};

@@ -1,0 +1,216 @@
+-- What the settled parts of an image show, where no rule on bytes is broken.
+use Rattle.std.proofs.Common.{◌≡◌, ◌≢◌, ℕ, zero, suc, ◌+◌, ◌-◌, ◌*◌, ◌/◌, ◌%◌, ◌<◌, ◌≤◌, Bool, true, false, cond, not, ◌||◌, ◌&&◌, List, [], ◌∷◌, take, drop, map, length, slice_index, Option, Some, None, ◌⊎◌, inl, inr, refl, sym, ap, subst, ◌∙◌, arith, nat_eq, nat_lt}
+use borrow.Author.Tests.{eqb-true, eq-eqb, ltb-false}
+use Rattle.std.specs.Prelude.{is_some, position, slice_index_or}
+use Rattle.std.specs.List.{flat_map, range_with_len}
+use Rattle.std.proofs.lemmas.List.{get_or-drop, get_or-take, get_or_past, length-take-le, length-append, length-map}
+use Rattle.std.proofs.lemmas.List.FromFn.{length-range_with_len}
+use Rattle.std.proofs.lemmas.Bool.{cases_lt}
+use Rattle.sfs_base.specs.declared.numbers.Kind.TheVariants.{File, Directory}
+use Rattle.sfs_image.specs.Bytes.{part, number_from, u32s_at, nonzero_in, is_nonzero}
+use Rattle.sfs_image.specs.Inode.{inode_of, inode_fault, pointers_of, table_of, entry_of}
+use Rattle.sfs_image.specs.Part.{Part, inode_in, part_of, block_pointer, pointer_at, seen_of, is_free_part, is_file_part, is_directory_part, directory_blocks, shown_bytes, shown_slots, tabulate}
+use Rattle.sfs_image.specs.Rules.{DIRECTORY_BLOCKS, breaks_record, breaks_root, breaks_size, breaks_apart}
+use Rattle.sfs_image.specs.Seen.{SeenInodes, FILE_BLOCKS, PLACES}
+use Rattle.sfs_image.specs.Slot.{kind_byte}
+use Rattle.sfs_image.specs.SlotBlock.{slots_of, slot_in}
+use Rattle.sfs_image.proofs.Basics.{length-tabulate}
+use Rattle.sfs_image.proofs.BytesLaws.{zeros_from_none, zeros-byte, None-option_map}
+use Rattle.sfs_image.proofs.InodeLaws.{InodeFacts, inode_facts}
+use Rattle.sfs_image.proofs.PiecesLaws.{length-u32s_at, get_or-u32s_at}
+use Rattle.sfs_image.proofs.PartLaws.{pointer_of_block, pointer_of_table, table_is_read, hole_is_read}
+use Rattle.sfs_image.proofs.RuleLaws.{apart_from_rule}
+use Rattle.image_tree.specs.Stands.{own_size, IsUnused, HoldsApart}
+use Rattle.image_tree.specs.Mount.{ShowsByKind}
+use Rattle.image_tree.proofs.Basics.{true_false}
+
+-- bytes that are all zero, also past their end
+abbrev AllZero : List ℕ → Type 0
+AllZero bytes = (k : ℕ) → slice_index bytes k ≡ 0
+
+zero_number : (bytes : List ℕ) → AllZero bytes → (i n : ℕ) → number_from i n bytes ≡ 0
+zero_number bytes all i zero = refl
+zero_number bytes all i (suc n) = let a = all i in let b = zero_number bytes all (suc i) n in omega arith
+
+zero_drop : (n : ℕ) (bytes : List ℕ) → AllZero bytes → AllZero (drop n bytes)
+zero_drop n bytes all k = get_or-drop n bytes k 0 ∙ all (n + k)
+
+zero_take : (n : ℕ) (bytes : List ℕ) → ((k : ℕ) → k < n → slice_index bytes k ≡ 0) → AllZero (take n bytes)
+zero_take n bytes all k = elim (cases_lt k n) [
+  | inl lt ↦ get_or-take n bytes k 0 lt ∙ all k lt
+  | inr le ↦ get_or_past (take n bytes) k 0 (short n bytes k le)
+]
+  where
+    short : (n : ℕ) (bytes : List ℕ) (k : ℕ) → n ≤ k → length (take n bytes) ≤ k
+    short zero bytes k le = omega arith
+    short (suc n) [] k le = omega arith
+    short (suc n) (b ∷ bytes) zero le = absurd (omega arith)
+    short (suc n) (b ∷ bytes) (suc k) le = let s = short n bytes k (omega arith) in omega arith
+
+zero_u32s : (at n : ℕ) (bytes : List ℕ) → ((k : ℕ) → k < 4 * n → slice_index bytes (at + k) ≡ 0) → (k : ℕ) → slice_index (u32s_at at n bytes) k ≡ 0
+zero_u32s at n bytes all k = elim (cases_lt k n) [
+  | inl lt ↦ get_or-u32s_at at n bytes k 0 lt ∙ zero_number (drop (4 * k) (part at (4 * n) bytes)) (zero_drop (4 * k) (part at (4 * n) bytes) (zero_take (4 * n) (drop at bytes) (λ j less. get_or-drop at bytes j 0 ∙ all j less))) 0 4
+  | inr le ↦ get_or_past (u32s_at at n bytes) k 0 (let a = length-u32s_at at n bytes in omega arith)
+]
+
+-- a free record has no pointer
+zero_behind : (raw : List ℕ) → nonzero_in 4 508 raw ≡ None → (k : ℕ) → k < 508 → slice_index raw (4 + k) ≡ 0
+zero_behind raw none k lt =
+    sym (get_or-drop 4 raw k 0)
+    ∙ sym (get_or-take 508 (drop 4 raw) k 0 lt)
+    ∙ ap (λ (bytes : List ℕ). slice_index bytes k) (zeros_from_none (part 4 508 raw) (None-option_map (λ j. 4 + j) (position is_nonzero (part 4 508 raw)) none))
+    ∙ zeros-byte (length (part 4 508 raw)) k
+
+module _ (store : ℕ → List ℕ) (raw : List ℕ) where
+  abbrev own : Part
+  own = part_of store raw
+
+  own_raw : own.raw ≡ raw
+  unfolding part_of
+  own_raw = refl
+
+  own_inode : inode_in own ≡ inode_of raw
+  own_inode = ap inode_of own_raw
+
+  length_blocks : length own.blocks ≡ FILE_BLOCKS
+  unfolding part_of
+  length_blocks = length-tabulate FILE_BLOCKS _
+
+  module _ (none : nonzero_in 4 508 raw ≡ None) where
+    no_direct : (k : ℕ) → slice_index (inode_of raw).direct k ≡ 0
+    no_direct = zero_u32s 16 108 raw (λ k lt. ap (slice_index raw) (apart k) ∙ zero_behind raw none (12 + k) (omega arith))
+      where
+        apart : (k : ℕ) → 16 + k ≡ 4 + (12 + k)
+        apart k = omega arith
+
+    no_indirect : (k : ℕ) → slice_index (inode_of raw).indirect k ≡ 0
+    no_indirect = zero_u32s 448 16 raw (λ k lt. ap (slice_index raw) (apart k) ∙ zero_behind raw none (444 + k) (omega arith))
+      where
+        apart : (k : ℕ) → 448 + k ≡ 4 + (444 + k)
+        apart k = omega arith
+
+    no_table : (k : ℕ) → pointer_at own (FILE_BLOCKS + k) ≡ 0
+    no_table k = pointer_of_table own k ∙ ap (λ (r : List ℕ). slice_index (inode_of r).indirect k) own_raw ∙ no_indirect k
+
+    no_entry : (k j : ℕ) → k < 16 → slice_index (pointers_of (slice_index_or own.tables k [])) j ≡ 0
+    no_entry k j lt = zero_u32s 0 1024 (slice_index_or own.tables k []) (λ m less. ap (λ (b : List ℕ). slice_index b (0 + m)) (table_is_read store raw k lt ∙ hole_is_read store (pointer_at own (FILE_BLOCKS + k)) (no_table k)) ∙ zeros-byte 4096 (0 + m)) j
+
+    no_block : (n : ℕ) → n < FILE_BLOCKS → block_pointer (inode_in own) own.tables n ≡ 0
+    no_block n lt = elim (nat_lt n 108) as (λ b. nat_lt n 108 ≡ b → cond b (slice_index (inode_in own).direct n) (slice_index (pointers_of (slice_index_or own.tables (table_of n) [])) (entry_of n)) ≡ 0) [
+      | true ↦ λ t. ap (λ (r : List ℕ). slice_index (inode_of r).direct n) own_raw ∙ no_direct n
+      | false ↦ λ t. let le = ltb-false _ _ t in no_entry (table_of n) (entry_of n) (omega arith)
+    ] refl
+
+    pub no_pointer : (place : ℕ) → place < PLACES → pointer_at own place ≡ 0
+    no_pointer place lt = elim (cases_lt place FILE_BLOCKS) [
+      | inl below ↦ pointer_of_block own place below ∙ no_block place below
+      | inr behind ↦ subst (λ (p : ℕ). pointer_at own p ≡ 0) (again place behind) (no_table (place - FILE_BLOCKS))
+    ]
+      where
+        again : (place : ℕ) → FILE_BLOCKS ≤ place → FILE_BLOCKS + (place - FILE_BLOCKS) ≡ place
+        again place le = omega arith
+
+-- each block of a directory has fifteen slots
+length_slots : (blocks : List (List ℕ)) → length (flat_map slots_of blocks) ≡ 15 * length blocks
+unfolding slots_of
+length_slots [] = refl
+length_slots (block ∷ blocks) =
+    let a = length-append (map (slot_in block) (range_with_len 0 15)) (flat_map slots_of blocks) in
+    let b = length_slots blocks in
+    let c = length-map (range_with_len 0 15) (slot_in block) in
+    let d = length-range_with_len 0 15 in
+    omega arith
+
+first_none : (a b : Bool) → (a || b) ≡ false → a ≡ false
+first_none true b e = e
+first_none false b e = refl
+
+second_none : (a b : Bool) → (a || b) ≡ false → b ≡ false
+second_none true b e = absurd (true_false refl e)
+second_none false b e = e
+
+was_not : (b : Bool) → not b ≡ false → b ≡ true
+was_not true e = refl
+was_not false e = sym e
+
+-- the inodes that parts of a store show
+module _ (store : ℕ → List ℕ) (raws : ℕ → List ℕ) (count : ℕ) where
+  abbrev parts : ℕ → Part
+  parts i = part_of store (raws i)
+
+  abbrev inodes : SeenInodes
+  inodes = record { count = count; seen = λ i. seen_of (parts i) }
+
+  module _ (records : (i : ℕ) → i < count → breaks_record (parts i) ≡ false) where
+    facts : (i : ℕ) → i < count → InodeFacts (raws i)
+    facts i lt = inode_facts (raws i) (none_of (inode_fault (raws i)) (ap (λ (r : List ℕ). is_some (inode_fault r)) (sym (own_raw store (raws i))) ∙ records i lt))
+      where
+        none_of : (o : Option ℕ) → is_some o ≡ false → o ≡ None
+        none_of None e = refl
+        none_of (Some at) e = absurd (true_false refl e)
+
+    abbrev kind_at : ℕ → ℕ
+    kind_at i = (inode_in (parts i)).kind
+
+    kind_is : (i : ℕ) → kind_at i ≡ slice_index (raws i) 0
+    kind_is i = ap (λ (r : List ℕ). (inode_of r).kind) (own_raw store (raws i))
+
+    unused_shown : (i : ℕ) → i < count → kind_at i ≡ 0 → IsUnused (seen_of (parts i))
+    unused_shown i lt free = record { kind = free; blocks = no_pointer store (raws i) ((facts i lt).free (sym (kind_is i) ∙ free)) }
+
+    kinds_shown : (i : ℕ) → i < count → kind_at i ≢ 0 → (kind_at i ≡ kind_byte File) ⊎ (kind_at i ≡ kind_byte Directory)
+    kinds_shown i lt used = by_number (kind_at i) used (let a = (facts i lt).kind in let b = kind_is i in omega arith)
+      where
+        by_number : (n : ℕ) → n ≢ 0 → n ≤ 2 → (n ≡ kind_byte File) ⊎ (n ≡ kind_byte Directory)
+        by_number zero some le = absurd (some refl)
+        by_number (suc zero) some le = inl refl
+        by_number (suc (suc zero)) some le = inr refl
+        by_number (suc (suc (suc n))) some le = absurd (omega arith)
+
+    module _ (sizes : (i : ℕ) → i < count → breaks_size (parts i) ≡ false) where
+      directory_size : (i : ℕ) → i < count → kind_at i ≡ kind_byte Directory → ((inode_in (parts i)).size % 4096 ≡ 0) × ((inode_in (parts i)).size ≤ 4096 * DIRECTORY_BLOCKS)
+      directory_size i lt kind =
+          let size = (inode_in (parts i)).size in
+          let here = second_none (is_file_part (parts i) && nat_lt (4096 * FILE_BLOCKS) (inode_in (parts i)).size) _ (sizes i lt) in
+          let both : (not (nat_eq ((inode_in (parts i)).size % 4096) 0) || nat_lt (4096 * DIRECTORY_BLOCKS) (inode_in (parts i)).size) ≡ false = sym (ap (λ b. b && (not (nat_eq ((inode_in (parts i)).size % 4096) 0) || nat_lt (4096 * DIRECTORY_BLOCKS) (inode_in (parts i)).size)) (eq-eqb _ _ kind)) ∙ here in
+          (eqb-true _ _ (was_not _ (first_none (not (nat_eq ((inode_in (parts i)).size % 4096) 0)) _ both)), ltb-false _ _ (second_none (not (nat_eq ((inode_in (parts i)).size % 4096) 0)) _ both))
+
+      size_shown : (i : ℕ) → i < count → kind_at i ≢ 0 → (inode_in (parts i)).size ≡ own_size (seen_of (parts i))
+      size_shown i lt used = elim (kinds_shown i lt used) [
+        | inl file ↦
+            sym (ap (λ n. cond (nat_eq n (kind_byte Directory)) (4096 * (length (shown_slots (parts i)) / 15)) (length (shown_bytes (parts i)))) file
+            ∙ ap (λ n. length (cond (nat_eq n (kind_byte File)) (tabulate (inode_in (parts i)).size (Rattle.sfs_image.specs.Part.file_byte (parts i))) [])) file
+            ∙ length-tabulate (inode_in (parts i)).size (Rattle.sfs_image.specs.Part.file_byte (parts i)))
+        | inr directory ↦
+            let d = directory_size i lt directory in
+            let blocks = length_blocks store (raws i) in
+            let taken : length (take ((inode_in (parts i)).size / 4096) (parts i).blocks) ≡ (inode_in (parts i)).size / 4096 = length-take-le ((inode_in (parts i)).size / 4096) (parts i).blocks (let e = d.1 in omega arith) in
+            let slots : length (shown_slots (parts i)) ≡ 15 * ((inode_in (parts i)).size / 4096) =
+            ap (λ n. length (cond (nat_eq n (kind_byte Directory)) (flat_map slots_of (directory_blocks (parts i))) [])) directory ∙ length_slots (directory_blocks (parts i)) ∙ ap (λ n. 15 * n) taken in
+            let whole : (inode_in (parts i)).size ≡ 4096 * ((15 * ((inode_in (parts i)).size / 4096)) / 15) = let e = d.0 in omega arith in
+            whole
+            ∙ ap (λ n. 4096 * (n / 15)) (sym slots)
+            ∙ sym (ap (λ n. cond (nat_eq n (kind_byte Directory)) (4096 * (length (shown_slots (parts i)) / 15)) (length (shown_bytes (parts i)))) directory)
+      ]
+
+      pub shows_by_kind : ShowsByKind inodes
+      shows_by_kind = record {
+        kinds = kinds_shown;
+        sizes = size_shown;
+        files = λ i lt file. ap (λ n. cond (nat_eq n (kind_byte Directory)) (flat_map slots_of (directory_blocks (parts i))) []) file;
+        unused = unused_shown;
+      }
+
+    pub holds_apart : ((i : ℕ) → i < count → breaks_apart parts i ≡ false) → HoldsApart inodes
+    holds_apart rule i p j q lt less small tiny some same =
+        apart_from_rule parts i j p q (rule i lt) (rule j less) (in_use i p lt small some) (in_use j q less tiny (λ none. some (same ∙ none))) small tiny some same
+      where
+        in_use : (i p : ℕ) → i < count → p < PLACES → pointer_at (parts i) p ≢ 0 → is_free_part (parts i) ≡ false
+        in_use i p lt small some = elim (is_free_part (parts i)) as (λ b. is_free_part (parts i) ≡ b → b ≡ false) [
+          | true ↦ λ t. absurd (some ((unused_shown i lt (eqb-true _ _ t)).blocks p small))
+          | false ↦ λ _. refl
+        ] refl
+
+  -- inode 0 is a directory where it breaks no rule
+  pub root_shown : breaks_root (parts 0) 0 ≡ false → (seen_of (parts 0)).kind ≡ kind_byte Directory
+  root_shown e = eqb-true _ _ (was_not _ e)
