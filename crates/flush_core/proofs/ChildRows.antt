@@ -20,7 +20,9 @@ use Rattle.sfs_tree.specs.Sound.{IsSound}
 use Rattle.sfs_tree.specs.Changes.{RowChange, is_own_below, with_change, changes_of}
 use Rattle.sfs_tree.proofs.Joined.{is_equal, name_cmp-IsAntisymmetric}
 use Rattle.sfs_tree.proofs.Names.{get-names_where}
-use Rattle.sfs_tree.proofs.Search.{both_first, both_second, is_less}
+use Rattle.sfs_tree.proofs.Search.{is_less}
+use Rattle.sfs_base.proofs.BasicTruth.{both_second}
+use Rattle.sfs_base.proofs.BasicTruth.{both_first}
 use Rattle.flush_core.specs.declared.past.OwnChange.{OwnChange}
 use Rattle.flush_core.specs.declared.past.Past.{Past}
 use Rattle.flush_core.specs.declared.sets.NodeSet.{NodeSet}

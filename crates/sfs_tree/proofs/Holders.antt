@@ -22,6 +22,7 @@ use Rattle.sfs_tree.proofs.KeepsNodes.{directory_node, KeepKinds-new, KeepKinds-
 use Rattle.sfs_tree.proofs.Walks.{holder_is, walk_is}
 use Rattle.sfs_tree.proofs.OwnEffects.{of_one, of_child, of_what_it_does}
 use Rattle.sfs_tree.proofs.SoundTrees.{calls_keep_sound, calls_fit}
+use Rattle.sfs_base.proofs.BasicTruth.{not_both, and_false, or_true, or_false}
 
 -- a row of a directory that names a node
 abbrev Names : TreeState → ℕ → ℕ → Type 0
@@ -88,10 +89,7 @@ brings_none tree core (call.Rename p n q m) = of_what_it_does (Brings tree) tree
 
 module _ (tree : TreeState) (core : ℕ) (node : ℕ) (kind : is_directory tree node ≡ true) where
   not_file : (c : ℕ) → node ≡ c → is_directory tree c ≡ false → ⊥
-  not_file c same file = both (subst (λ (z : ℕ). is_directory tree z ≡ true) same kind) file
-    where
-      both : {b : Bool} → b ≡ true → b ≡ false → ⊥
-      both t f = cc
+  not_file c same file = not_both (subst (λ (z : ℕ). is_directory tree z ≡ true) same kind) file
 
   not_new : (c : ℕ) → node ≡ c → get tree.nodes c ≡ None → ⊥
   not_new c same fresh = never (directory_node tree node kind) (ap (get tree.nodes) same ∙ fresh)
@@ -162,10 +160,6 @@ within_unlocked tree (Moves p n q m c) w = elim w [
   | inl same ↦ ap (λ (b : Bool). not b && is_directory tree c) (eq-eqb _ _ same)
   | inr file ↦ ap (λ (b : Bool). not (nat_eq p q) && b) file ∙ and_false (not (nat_eq p q))
 ]
-  where
-    and_false : (b : Bool) → (b && false) ≡ false
-    and_false true = refl
-    and_false false = refl
 
 pub locks_are_seen : LocksAreSeen
 locks_are_seen tree core c stays =
@@ -290,18 +284,6 @@ standing_is_alive tree node is =
       | false ↦ λ file. or_false (nat_eq node 0) ∙ not_root file ∙ sym (and_false (is_alive tree node))
     ] refl
   where
-    or_true : (b : Bool) → (b || true) ≡ true
-    or_true true = refl
-    or_true false = refl
-
-    or_false : (b : Bool) → (b || false) ≡ b
-    or_false true = refl
-    or_false false = refl
-
-    and_false : (b : Bool) → (b && false) ≡ false
-    and_false true = refl
-    and_false false = refl
-
     and_true : (b : Bool) → (b && true) ≡ b
     and_true true = refl
     and_true false = refl

@@ -29,6 +29,7 @@ use Rattle.sfs_tree.proofs.Names.{get-names_where}
 use Rattle.sfs_tree.proofs.OwnEffects.{of_one, of_child, of_what_it_does}
 use Rattle.sfs_tree.proofs.Parts.{parts_after}
 use Rattle.sfs_tree.proofs.SoundTrees.{calls_keep_sound, calls_fit}
+use Rattle.sfs_base.proofs.BasicOptions.{some_true}
 
 -- a row that comes finds room in its bucket, or what stands there gives way
 abbrev HasRoom : TreeState → Effect → Type 0
@@ -173,10 +174,6 @@ module _ (tree : TreeState) (core : ℕ) (within : IsWithinLimits tree) (d b : �
             let same : len (insert rows m x) ≡ len rows = with_one rows m x ∙ ap (λ t. cond t (len rows) (len rows + 1)) (some_true (get rows m) stands) in
             omega arith
       ] refl
-    where
-      some_true : (o : Option ℕ) → IsSome o → is_some o ≡ true
-      some_true (Some y) some = refl
-      some_true None some = cc
 
   bounded : (effect : Effect) (makes : Option Kind) → Fits tree core effect makes → HasRoom tree effect → len (part_after d test effect rows) ≤ BUCKET_ROWS
   bounded Stays makes f room = within.buckets d b

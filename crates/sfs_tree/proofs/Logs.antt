@@ -3,7 +3,7 @@ use Rattle.std.proofs.Common.{◌≡◌, ◌≢◌, ℕ, Bool, true, false, cond
 use Rattle.std.specs.Prelude.{◌||◌, is_none}
 use Rattle.std.specs.List.{list_any}
 use Rattle.std.specs.Option.{option_map_or}
-use Rattle.std.proofs.lemmas.Bool.{eq-eqb, eqb-true}
+use Rattle.std.proofs.lemmas.Bool.{eqb-true}
 use Rattle.std.proofs.lemmas.Slice.Eq.{bytes_eq-Decides}
 use Rattle.std.proofs.Math.Bool.{and-true, and-false}
 use Rattle.std.specs.FinMap.{get}
@@ -19,6 +19,8 @@ use Rattle.sfs_tree.specs.Changes.{RowChange, other_side, replaced, changes_by}
 use Rattle.sfs_tree.specs.Logged.{numbered_node, log_entry, logged_replaced, recorded_above, logged_by, is_logged_in, adds_any, adds_name, is_end_of, erased_entry}
 use Rattle.sfs_tree.specs.Laws.{LogsErase}
 use Rattle.sfs_tree.proofs.SoundTrees.{calls_fit}
+use Rattle.sfs_base.proofs.BasicNumbers.{same_number}
+use Rattle.sfs_base.proofs.BasicLists.{same_bytes}
 
 other_back : (o : Option ℕ) → option_map (λ (node : NodeId). node.0) (option_map numbered_node o) ≡ o
 other_back (Some x) = refl
@@ -31,12 +33,6 @@ kind_tells tree node = of (get tree.nodes node)
     of : (o : Option Node) → is_directory_kind (option_map_or (λ (n : Node). n.kind) o Rattle.sfs_base.specs.declared.numbers.Kind.TheVariants.File) ≡ option_map_or (λ (n : Node). is_directory_kind n.kind) o false
     of (Some n) = refl
     of None = refl
-
-same_number : (n : ℕ) → nat_eq n n ≡ true
-same_number n = eq-eqb n n refl
-
-same_bytes : (name : List ℕ) → bytes_eq name name ≡ true
-same_bytes name = (bytes_eq-Decides name name).1 refl
 
 -- a row that goes alone
 alone : (tree : TreeState) (stamp d : ℕ) (n : List ℕ) (c : ℕ) → is_end_of (filter (is_logged_in d) (log_entry stamp d n c (kind_of tree c) Remove None [] ∷ [])) (log_entry stamp d n c (kind_of tree c) Remove None []) ≡ is_directory tree c

@@ -1,5 +1,5 @@
 -- Trees that agree on what a call reads have one verdict.
-use Rattle.std.proofs.Common.{◌≡◌, ℕ, ◌+◌, ◌*◌, Bool, true, false, cond, not, ◌||◌, ◌&&◌, T, List, [], ◌∷◌, map, length, take, drop, Option, Some, None, is_some, refl, sym, ap, ap₂, subst, ◌∙◌, arith, count_by, filter_map, nat_eq, nat_le}
+use Rattle.std.proofs.Common.{◌≡◌, ℕ, ◌+◌, ◌*◌, Bool, true, false, cond, not, ◌||◌, ◌&&◌, T, List, [], ◌∷◌, map, length, take, drop, Option, Some, None, is_some, refl, sym, ap, ap₂, subst, ◌∙◌, count_by, filter_map, nat_eq, nat_le}
 use borrow.Author.Tests.{eqb-true, eqb-false}
 use Rattle.std.specs.Option.{option_map_or, option_or}
 use Rattle.std.specs.List.{cons_option}
@@ -21,11 +21,14 @@ use Rattle.sfs_tree.specs.Verdict.{MOST_LINKS, Verdict, refused, answered, done,
 use Rattle.sfs_tree.specs.Readings.{SameKind, SameNode, SameBucket, SameRows, SameCount, SameKindsIn, SamePlace, SameNumbers, SameMove, SameStat}
 use Rattle.sfs_tree.specs.Laws.{IsSoundTree, ReadingsDecide, BucketsMakeRows}
 use Rattle.sfs_tree.proofs.Joined.{name_cmp-IsAntisymmetric, bucket_small, count-cons}
-use Rattle.sfs_tree.proofs.Names.{get-own_bucket, get-names_where, entries-names_where, both_first, both_second}
+use Rattle.sfs_tree.proofs.Names.{get-own_bucket, get-names_where, entries-names_where}
+use Rattle.sfs_base.proofs.BasicTruth.{both_second}
+use Rattle.sfs_base.proofs.BasicTruth.{both_first}
 use Rattle.sfs_tree.specs.Fits.{MayHold}
 use Rattle.sfs_tree.proofs.Fitting.{may_hold, neither}
 use Rattle.sfs_tree.proofs.RowFacts.{behind_apart}
 use Rattle.sfs_tree.proofs.Walks.{not_below_own}
+use Rattle.sfs_base.proofs.BasicNumbers.{zero_plus}
 
 pub buckets_make_rows : BucketsMakeRows
 buckets_make_rows tree other d same =
@@ -194,11 +197,8 @@ directories_in tree d = in_list (entries tree.rows) ∙ ap (λ es. count_by name
           | true ↦
               ap (λ b. cond b 1 0 + count_by names_directory (map (with_kind tree) (filter_map (name_row d (λ _. true)) es))) (directory_by_kind tree e.1)
               ∙ sym (count-cons names_directory (e.0.1, kind_of tree e.1) (map (with_kind tree) (filter_map (name_row d (λ _. true)) es)))
-          | false ↦ none_more _
+          | false ↦ zero_plus _
         ]
-      where
-        none_more : (n : ℕ) → 0 + n ≡ n
-        none_more n = omega arith
 
 links_same : (tree other : TreeState) (node : ℕ) → is_alive tree node ≡ true → SameStat tree other node → links_of tree node ≡ links_of other node
 links_same tree other node alive same =
