@@ -22,13 +22,15 @@ every_commit _ = true
 -- Before a crash a run's state has the cut and the nodes with an inode that its durable commits have raised, in the order in which
 -- they became durable; they raise the same over the history of each later state.
 abbrev pub RunsAreFlushed : Type 0
-RunsAreFlushed = (first : TreeState) (events : List Event) (states : ℕ → MachineState) (place later : ℕ) → IsSoundTree first → IsRun first events states → AreAlive first events states
+RunsAreFlushed = (first : TreeState) (events : List Event) (states : ℕ → MachineState) (place later : ℕ) → IsSoundTree first → IsRun first events states
+    → AreAlive first events states
     → place ≤ later → later ≤ length events → (states place).crashed ≡ false
     → AreFlushed first (states later).history every_entry (durable_of (take place events) every_commit) (states place).cut (states place).inodes
 
 -- A commit that became durable before a place is covered by the cut of the state there.
 abbrev pub DurablesAreCovered : Type 0
-DurablesAreCovered = (first : TreeState) (events : List Event) (states : ℕ → MachineState) (begin durable place commit : ℕ) (flush : Flush) → IsSoundTree first → IsRun first events states → AreAlive first events states
+DurablesAreCovered = (first : TreeState) (events : List Event) (states : ℕ → MachineState) (begin durable place commit : ℕ) (flush : Flush)
+    → IsSoundTree first → IsRun first events states → AreAlive first events states
     → IsBegun events begin commit flush → slice_get events durable ≡ Some (event.Durable commit)
     → durable < place → place ≤ length events
     → IsCovered first (states place).history (states place).cut flush
@@ -89,7 +91,8 @@ pub record AcceptsCommit (state : MachineState) (commit : ℕ) (node : NodeId) (
   pub ends : Accepts (with_flight state commit flight true) (event.Durable commit) (committed state commit raised after)
 
 abbrev pub CommitsAreAccepted : Type 0
-CommitsAreAccepted = (state : MachineState) (commit : ℕ) (node : NodeId) (stamp : Stamp) (flight : Flight) (raised : Cut) (after : ℕ → Bool) → MayCommit state commit stamp
+CommitsAreAccepted = (state : MachineState) (commit : ℕ) (node : NodeId) (stamp : Stamp) (flight : Flight) (raised : Cut) (after : ℕ → Bool)
+    → MayCommit state commit stamp
     → BeginsFlight state commit (record { node = node.0; stamp = stamp.0 }) flight
     → IsRaised state.first state.history every_entry state.cut state.inodes (record { node = node.0; stamp = stamp.0 }) raised
     → AreInodesAfter state.first state.history every_entry state.cut state.inodes (record { node = node.0; stamp = stamp.0 }) raised after
