@@ -2,10 +2,12 @@ pub mod Basics
 pub mod Committed
 pub mod Elsewhere
 pub mod Faults
+pub mod FirstFault
 pub mod Images
 pub mod LinkChanges
 pub mod Mounted
 pub mod NetRows
+pub mod Orphans
 pub mod Paired
 pub mod Parts
 pub mod Renaming

@@ -13,7 +13,8 @@ use Rattle.absorb.specs.declared.nets.NetRow.{NetRow}
 use Rattle.image_tree.specs.LinkChanges.{gained, lost, linking, net_changes, AreAllNets}
 use Rattle.image_tree.specs.Image.{image_inodes, tree_of, IsMounted, HasGoodBytes, IsReadAsTree}
 use Rattle.image_tree.specs.Mount.{ShowsByKind, StandsByItself}
-use Rattle.image_tree.specs.Rules.{BYTE_RULES, KeepsByteRules, tree_fault}
+use Rattle.image_tree.specs.Orphans.{FreesOrphans, IsFreed}
+use Rattle.image_tree.specs.Rules.{first_fault, FindsFault, BYTE_RULES, KeepsByteRules, tree_fault}
 use Rattle.image_tree.specs.Commit.{Commit, IsCommit, MayFollow}
 
 -- A tree under other numbers is sound where the first is, and has its shape.
@@ -64,3 +65,11 @@ TreesOfImagesAreMounted = (image : List ℕ) (share : ℕ) (tree : TreeState) �
 -- An image with good bytes whose inodes stand for a sound tree has no fault, and a tree of that shape.
 abbrev pub StandingImagesAreRead : Type 0
 StandingImagesAreRead = (image : List ℕ) (share : ℕ) (num : Numbering) (tree : TreeState) → HasGoodBytes image → IsSound tree → IsStorable num tree → StandsForTree num tree (image_inodes image) → IsReadAsTree image share tree
+
+-- The first fault is that of the least rule that an inode breaks, and of that the least inode.
+abbrev pub FirstFaultIsLeast : Type 0
+FirstFaultIsLeast = (breaks : ℕ → ℕ → Bool) (count : ℕ) → FindsFault breaks count (first_fault breaks count)
+
+-- Freeing its orphans leaves an image its tree.
+abbrev pub FreedOrphansKeepTheTree : Type 0
+FreedOrphansKeepTheTree = (image next : SeenInodes) (making : Making) → KeepsRules image → ShowsByKind image → FreesOrphans image next → IsFreed image next making

@@ -1,7 +1,7 @@
 // What is proved of the definitions: each function's contract is a law.
 ghost use Rattle.image_tree.specs.Laws.{RenamedTreesHaveOneShape, StandingImagesShow, CommitsKeepStanding};
 ghost use Rattle.image_tree.specs.Laws.{RulesMakeStanding, NoFaultIsRulesKept, PlannedCommitsHoldElsewhere, NetsGiveLinks};
-ghost use Rattle.image_tree.specs.Laws.{TreesOfImagesAreMounted, StandingImagesAreRead};
+ghost use Rattle.image_tree.specs.Laws.{TreesOfImagesAreMounted, StandingImagesAreRead, FirstFaultIsLeast, FreedOrphansKeepTheTree};
 
 /// A tree under other numbers is sound where the first is, and has its shape.
 pub fn renamed_trees_have_one_shape()
@@ -46,4 +46,14 @@ pub fn trees_of_images_are_mounted()
 /// An image with good bytes whose inodes stand for a sound tree has no fault, and a tree of that shape.
 pub fn standing_images_are_read()
     ensures { StandingImagesAreRead }
+{}
+
+/// The first fault is that of the least rule that an inode breaks, and of that the least inode.
+pub fn first_fault_is_least()
+    ensures { FirstFaultIsLeast }
+{}
+
+/// Freeing its orphans leaves an image its tree.
+pub fn freed_orphans_keep_the_tree()
+    ensures { FreedOrphansKeepTheTree }
 {}
