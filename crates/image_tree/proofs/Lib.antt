@@ -12,6 +12,7 @@ pub mod Paired
 pub mod Parts
 pub mod Renaming
 pub mod Shapes
+pub mod Sizes
 pub mod SlotRows
 pub mod SlotsAfter
 pub mod Standing

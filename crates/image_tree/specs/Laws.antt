@@ -12,6 +12,7 @@ use Rattle.image_tree.specs.Elsewhere.{Elsewhere, commit_there, ConcernsItsChang
 use Rattle.absorb.specs.declared.nets.NetRow.{NetRow}
 use Rattle.image_tree.specs.LinkChanges.{gained, lost, linking, net_changes, AreAllNets}
 use Rattle.image_tree.specs.Image.{image_inodes, tree_of, IsMounted, HasGoodBytes, IsReadAsTree}
+use Rattle.image_tree.specs.Sizes.{DirectoriesFit}
 use Rattle.image_tree.specs.Mount.{ShowsByKind, StandsByItself}
 use Rattle.image_tree.specs.Orphans.{FreesOrphans, IsFreed}
 use Rattle.image_tree.specs.Rules.{first_fault, FindsFault, BYTE_RULES, KeepsByteRules, tree_fault}
@@ -73,3 +74,7 @@ FirstFaultIsLeast = (breaks : ℕ → ℕ → Bool) (count : ℕ) → FindsFault
 -- Freeing its orphans leaves an image its tree.
 abbrev pub FreedOrphansKeepTheTree : Type 0
 FreedOrphansKeepTheTree = (image next : SeenInodes) (making : Making) → KeepsRules image → ShowsByKind image → FreesOrphans image next → IsFreed image next making
+
+-- A commit keeps directories within the blocks that one may have: no slot behind the last is taken before all are full.
+abbrev pub CommitsKeepDirectoriesFit : Type 0
+CommitsKeepDirectoriesFit = (commit : Commit) (old new : TreeState) (image next : SeenInodes) → StandsForTree commit.before old image → IsSound old → IsCommit commit old new image next → MayFollow commit.after old new → IsStorable commit.after new → DirectoriesFit image → DirectoriesFit next

@@ -9,5 +9,6 @@ pub mod Mount
 pub mod Orphans
 pub mod Renamed
 pub mod Rules
+pub mod Sizes
 pub mod Slots
 pub mod Stands

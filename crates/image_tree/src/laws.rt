@@ -2,6 +2,7 @@
 ghost use Rattle.image_tree.specs.Laws.{RenamedTreesHaveOneShape, StandingImagesShow, CommitsKeepStanding};
 ghost use Rattle.image_tree.specs.Laws.{RulesMakeStanding, NoFaultIsRulesKept, PlannedCommitsHoldElsewhere, NetsGiveLinks};
 ghost use Rattle.image_tree.specs.Laws.{TreesOfImagesAreMounted, StandingImagesAreRead, FirstFaultIsLeast, FreedOrphansKeepTheTree};
+ghost use Rattle.image_tree.specs.Laws.{CommitsKeepDirectoriesFit};
 
 /// A tree under other numbers is sound where the first is, and has its shape.
 pub fn renamed_trees_have_one_shape()
@@ -56,4 +57,9 @@ pub fn first_fault_is_least()
 /// Freeing its orphans leaves an image its tree.
 pub fn freed_orphans_keep_the_tree()
     ensures { FreedOrphansKeepTheTree }
+{}
+
+/// A commit keeps directories within the blocks that one may have.
+pub fn commits_keep_directories_fit()
+    ensures { CommitsKeepDirectoriesFit }
 {}
