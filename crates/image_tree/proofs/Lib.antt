@@ -4,6 +4,7 @@ pub mod Elsewhere
 pub mod Faults
 pub mod FirstFault
 pub mod Images
+pub mod LastBlock
 pub mod LinkChanges
 pub mod Mounted
 pub mod NetRows

@@ -2,7 +2,7 @@
 ghost use Rattle.image_tree.specs.Laws.{RenamedTreesHaveOneShape, StandingImagesShow, CommitsKeepStanding};
 ghost use Rattle.image_tree.specs.Laws.{RulesMakeStanding, NoFaultIsRulesKept, PlannedCommitsHoldElsewhere, NetsGiveLinks};
 ghost use Rattle.image_tree.specs.Laws.{TreesOfImagesAreMounted, StandingImagesAreRead, FirstFaultIsLeast, FreedOrphansKeepTheTree};
-ghost use Rattle.image_tree.specs.Laws.{CommitsKeepDirectoriesFit};
+ghost use Rattle.image_tree.specs.Laws.{CommitsKeepDirectoriesFit, BlocksEndWithRow};
 
 /// A tree under other numbers is sound where the first is, and has its shape.
 pub fn renamed_trees_have_one_shape()
@@ -62,4 +62,9 @@ pub fn freed_orphans_keep_the_tree()
 /// A commit keeps directories within the blocks that one may have.
 pub fn commits_keep_directories_fit()
     ensures { CommitsKeepDirectoriesFit }
+{}
+
+/// A directory's blocks after a commit end with the last one that has a row.
+pub fn blocks_end_with_row()
+    ensures { BlocksEndWithRow }
 {}
