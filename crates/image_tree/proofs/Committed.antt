@@ -233,7 +233,7 @@ module _ (commit : Commit) (old new : TreeState) (image next : SeenInodes) (st :
       by_way (had is) = some_is (sym a ∙ is)
       by_way (enters none _ _) = absurd (none_some (sym none ∙ a))
 
-  same_row : (d : ℕ) (n : List ℕ) (y : ℕ) → row_of old d n ≡ Some y → row_of new d n ≡ Some y → ◌≡◌ {A = Row} (row_on commit.before old n y) (row_on commit.after new n y)
+  pub same_row : (d : ℕ) (n : List ℕ) (y : ℕ) → row_of old d n ≡ Some y → row_of new d n ≡ Some y → ◌≡◌ {A = Row} (row_on commit.before old n y) (row_on commit.after new n y)
   same_row d n y before now =
       let a = st.named d n y before in
       let b = m.named d n y now in
@@ -242,7 +242,7 @@ module _ (commit : Commit) (old new : TreeState) (image next : SeenInodes) (st :
       λ i. record { inode = same i; kind = kinds i; name = n }
 
   -- the slots of a node before the commit
-  slots_before : (x : ℕ) → HasSlots commit.before old x (seen_before commit image x).slots
+  pub slots_before : (x : ℕ) → HasSlots commit.before old x (seen_before commit image x).slots
   slots_before x = by_number (commit.before x) refl
     where
       none_of : commit.before x ≡ None → (n : List ℕ) (o : Option ℕ) → row_of old x n ≡ o → None ≡ option_map (row_on commit.before old n) o

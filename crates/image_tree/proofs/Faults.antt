@@ -51,7 +51,7 @@ module _ (p : ℕ → Bool) where
   find_none a zero h = refl
   find_none a (suc n) h = ap (λ b. cond b (Some a) (find p (range_with_len (a + 1) n))) (h a (omega arith) (omega arith)) ∙ find_none (a + 1) n (λ k le lt. h k (omega arith) (omega arith))
 
-  none_found : (a n : ℕ) → find p (range_with_len a n) ≡ None → (k : ℕ) → a ≤ k → k < a + n → p k ≡ false
+  pub none_found : (a n : ℕ) → find p (range_with_len a n) ≡ None → (k : ℕ) → a ≤ k → k < a + n → p k ≡ false
   none_found a zero e k le lt = absurd (omega arith)
   none_found a (suc n) e k le lt =
       elim (p a) as (λ b. p a ≡ b → cond b (Some a) (find p (range_with_len (a + 1) n)) ≡ None → p k ≡ false) [

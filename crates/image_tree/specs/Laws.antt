@@ -1,5 +1,5 @@
 -- The laws of what an image stands for, each of which a function of the module laws proves.
-use Rattle.std.specs.Prelude.{◌≡◌, ◌↔◌, ℕ, ◌+◌, ◌<◌, ◌≤◌, Bool, false, List, Some, None}
+use Rattle.std.specs.Prelude.{◌≡◌, ◌↔◌, ℕ, ◌+◌, ◌<◌, ◌≤◌, Bool, false, List, Option, Some, None}
 use Rattle.sfs_tree.specs.Tree.{TreeState, links_of}
 use Rattle.sfs_tree.specs.Sound.{IsSound}
 use Rattle.sfs_tree.specs.Shape.{shape_of}
@@ -12,8 +12,12 @@ use Rattle.image_tree.specs.Elsewhere.{Elsewhere, commit_there, ConcernsItsChang
 use Rattle.absorb.specs.declared.nets.NetRow.{NetRow}
 use Rattle.image_tree.specs.LinkChanges.{gained, lost, linking, net_changes, AreAllNets}
 use Rattle.image_tree.specs.Image.{image_inodes, tree_of, IsMounted, HasGoodBytes, IsReadAsTree}
+use Rattle.sfs_image.specs.Slot.{Row}
+use Rattle.image_tree.specs.Slots.{EndsWithRow}
+use Rattle.image_tree.specs.Sizes.{DirectoriesFit}
 use Rattle.image_tree.specs.Mount.{ShowsByKind, StandsByItself}
-use Rattle.image_tree.specs.Rules.{BYTE_RULES, KeepsByteRules, tree_fault}
+use Rattle.image_tree.specs.Orphans.{FreesOrphans, IsFreed}
+use Rattle.image_tree.specs.Rules.{first_fault, FindsFault, BYTE_RULES, KeepsByteRules, tree_fault}
 use Rattle.image_tree.specs.Commit.{Commit, IsCommit, MayFollow}
 
 -- A tree under other numbers is sound where the first is, and has its shape.
@@ -64,3 +68,19 @@ TreesOfImagesAreMounted = (image : List ℕ) (share : ℕ) (tree : TreeState) �
 -- An image with good bytes whose inodes stand for a sound tree has no fault, and a tree of that shape.
 abbrev pub StandingImagesAreRead : Type 0
 StandingImagesAreRead = (image : List ℕ) (share : ℕ) (num : Numbering) (tree : TreeState) → HasGoodBytes image → IsSound tree → IsStorable num tree → StandsForTree num tree (image_inodes image) → IsReadAsTree image share tree
+
+-- The first fault is that of the least rule that an inode breaks, and of that the least inode.
+abbrev pub FirstFaultIsLeast : Type 0
+FirstFaultIsLeast = (breaks : ℕ → ℕ → Bool) (count : ℕ) → FindsFault breaks count (first_fault breaks count)
+
+-- Freeing its orphans leaves an image its tree.
+abbrev pub FreedOrphansKeepTheTree : Type 0
+FreedOrphansKeepTheTree = (image next : SeenInodes) (making : Making) → KeepsRules image → ShowsByKind image → FreesOrphans image next → IsFreed image next making
+
+-- A commit keeps directories within the blocks that one may have: no slot behind the last is taken before all are full.
+abbrev pub CommitsKeepDirectoriesFit : Type 0
+CommitsKeepDirectoriesFit = (commit : Commit) (old new : TreeState) (image next : SeenInodes) → StandsForTree commit.before old image → IsSound old → IsCommit commit old new image next → MayFollow commit.after old new → IsStorable commit.after new → DirectoriesFit image → DirectoriesFit next
+
+-- The blocks that a directory has after a commit end with the last one that has a row.
+abbrev pub BlocksEndWithRow : Type 0
+BlocksEndWithRow = (slots : List (Option Row)) → EndsWithRow slots

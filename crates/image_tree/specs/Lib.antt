@@ -6,7 +6,9 @@ pub mod Keeps
 pub mod Laws
 pub mod LinkChanges
 pub mod Mount
+pub mod Orphans
 pub mod Renamed
 pub mod Rules
+pub mod Sizes
 pub mod Slots
 pub mod Stands

@@ -1,5 +1,5 @@
 -- The rules across inodes as tests, by their numbers, and the first fault of an image's inodes.
-use Rattle.std.specs.Prelude.{ℕ, ◌==◌, ◌||◌, ◌&&◌, Bool, not, false, nat_lt, Option, option_map, filter_map, slice_get, if◌then◌else◌}
+use Rattle.std.specs.Prelude.{ℕ, ◌==◌, ◌||◌, ◌&&◌, Bool, not, false, nat_lt, Option, option_map, filter_map, slice_get, if◌then◌else◌, ◌≡◌, ◌<◌, ◌≤◌, true, Some, None}
 use Rattle.std.specs.List.{range_with_len, list_any, find}
 use Rattle.std.specs.Option.{option_map_or}
 use Rattle.std.specs.FinMap.{len}
@@ -79,6 +79,20 @@ fault_by breaks count rule = option_map (λ i. record { rule = rule; inode = i }
 -- the first fault: of the least rule that an inode breaks, and of that the least inode
 abbrev pub first_fault : (ℕ → ℕ → Bool) → ℕ → Option TreeFault
 first_fault breaks count = slice_get (filter_map (fault_by breaks count) (range_with_len 1 RULES)) 0
+
+-- A fault is the first: its inode breaks its rule, no inode breaks a lesser rule, and no lesser inode breaks its own.
+pub record IsFirstFault (breaks : ℕ → ℕ → Bool) (count : ℕ) (fault : TreeFault) : Type 0 where
+  pub rule_low : 1 ≤ fault.rule
+  pub rule_high : fault.rule ≤ RULES
+  pub within : fault.inode < count
+  pub breaks_it : breaks fault.rule fault.inode ≡ true
+  pub lesser_rules : (rule i : ℕ) → 1 ≤ rule → rule < fault.rule → i < count → breaks rule i ≡ false
+  pub lesser_inodes : (i : ℕ) → i < fault.inode → breaks fault.rule i ≡ false
+
+-- what a search for a fault finds: the first one, or none where no inode breaks a rule
+abbrev pub FindsFault : (ℕ → ℕ → Bool) → ℕ → Option TreeFault → Type 0
+FindsFault breaks count None = (rule i : ℕ) → 1 ≤ rule → rule ≤ RULES → i < count → breaks rule i ≡ false
+FindsFault breaks count (Some fault) = IsFirstFault breaks count fault
 
 -- whether an inode breaks a rule, where the rules on bytes are given
 abbrev pub breaks_rule : (ℕ → ℕ → Bool) → SeenInodes → ℕ → ℕ → Bool

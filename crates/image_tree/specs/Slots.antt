@@ -1,5 +1,5 @@
 -- The slots of a directory: what stands under a name, and up to where there are rows.
-use Rattle.std.specs.Prelude.{ℕ, suc, ◌+◌, ◌*◌, ◌/◌, ◌==◌, Bool, ◌&&◌, false, is_none, List, [], ◌∷◌, ◌++◌, take, replicate, Option, None, count_by, bytes_eq, if◌then◌else◌}
+use Rattle.std.specs.Prelude.{◌≡◌, ◌≢◌, ◌<◌, ◌≤◌, slice_get, slice_index_or, Some, ℕ, suc, ◌+◌, ◌*◌, ◌/◌, ◌==◌, Bool, ◌&&◌, false, is_none, List, [], ◌∷◌, ◌++◌, take, replicate, Option, None, count_by, bytes_eq, if◌then◌else◌}
 use Rattle.std.specs.Option.{option_map_or}
 use Rattle.sfs_image.specs.Slot.{Row}
 
@@ -36,3 +36,8 @@ at_length count slots = take count (slots ++ replicate count None)
 -- the slots of the blocks up to the last one that has a row
 abbrev pub in_blocks : List (Option Row) → List (Option Row)
 in_blocks slots = at_length (BLOCK_SLOTS * blocks_up_to_last slots) slots
+
+-- A directory's blocks end with the last one that has a row: no slot behind them has one, and one of the last block's slots has.
+pub record EndsWithRow (slots : List (Option Row)) : Type 0 where
+  pub rest : (place : ℕ) → BLOCK_SLOTS * blocks_up_to_last slots ≤ place → slice_index_or slots place None ≡ None
+  pub last : blocks_up_to_last slots ≢ 0 → (place : ℕ) × (row : Row) × (place < BLOCK_SLOTS * blocks_up_to_last slots) × (BLOCK_SLOTS * blocks_up_to_last slots ≤ place + BLOCK_SLOTS) × (slice_get slots place ≡ Some (Some row))

@@ -1,7 +1,8 @@
 // What is proved of the definitions: each function's contract is a law.
 ghost use Rattle.image_tree.specs.Laws.{RenamedTreesHaveOneShape, StandingImagesShow, CommitsKeepStanding};
 ghost use Rattle.image_tree.specs.Laws.{RulesMakeStanding, NoFaultIsRulesKept, PlannedCommitsHoldElsewhere, NetsGiveLinks};
-ghost use Rattle.image_tree.specs.Laws.{TreesOfImagesAreMounted, StandingImagesAreRead};
+ghost use Rattle.image_tree.specs.Laws.{TreesOfImagesAreMounted, StandingImagesAreRead, FirstFaultIsLeast, FreedOrphansKeepTheTree};
+ghost use Rattle.image_tree.specs.Laws.{CommitsKeepDirectoriesFit, BlocksEndWithRow};
 
 /// A tree under other numbers is sound where the first is, and has its shape.
 pub fn renamed_trees_have_one_shape()
@@ -46,4 +47,24 @@ pub fn trees_of_images_are_mounted()
 /// An image with good bytes whose inodes stand for a sound tree has no fault, and a tree of that shape.
 pub fn standing_images_are_read()
     ensures { StandingImagesAreRead }
+{}
+
+/// The first fault is that of the least rule that an inode breaks, and of that the least inode.
+pub fn first_fault_is_least()
+    ensures { FirstFaultIsLeast }
+{}
+
+/// Freeing its orphans leaves an image its tree.
+pub fn freed_orphans_keep_the_tree()
+    ensures { FreedOrphansKeepTheTree }
+{}
+
+/// A commit keeps directories within the blocks that one may have.
+pub fn commits_keep_directories_fit()
+    ensures { CommitsKeepDirectoriesFit }
+{}
+
+/// A directory's blocks after a commit end with the last one that has a row.
+pub fn blocks_end_with_row()
+    ensures { BlocksEndWithRow }
 {}
