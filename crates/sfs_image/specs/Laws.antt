@@ -1,12 +1,13 @@
 -- The laws of images, each of which a function of the module laws proves.
 use Rattle.std.specs.Prelude.{◌≡◌, ◌≢◌, ℕ, ◌+◌, ◌*◌, ◌/◌, ◌%◌, ◌<◌, ◌≤◌, ◌^◌, false, true, List, Option, None, Some, slice_index, if◌then◌else◌}
 use Rattle.sfs_image.specs.Bytes.{part}
-use Rattle.sfs_image.specs.ImageOf.{Transaction, given, with_opened, with_slot, IsImageOf, AgreesOutside, LiesApart, OpensGate, ShutsGate}
+use Rattle.sfs_image.specs.ImageOf.{Transaction, with_opened, with_slot, IsImageOf, FreshBlock, StandIn, TurnsInto}
+use Rattle.sfs_image.specs.ImageWrites.{WritesData, WritesRecord, WritesBody, OpensGate, ShutsGate}
 use Rattle.sfs_image.specs.Journal.{Entry, head_of, entries_of, numbers_of, numbers_fault, number_byte, record_byte, records_start, AreEntries, HasEntries}
-use Rattle.sfs_image.specs.Part.{Part, part_of, pointer_at, file_byte, is_free_part}
-use Rattle.sfs_image.specs.Rules.{breaks_apart, breaks_bytes_rule}
-use Rattle.sfs_image.specs.Seen.{FILE_BLOCKS, PLACES}
-use Rattle.sfs_image.specs.Settled.{Stamped, body_in, record_in, journal_slot, slot_byte, slot_count, table_byte, table_record, settled, parts_of, super_fault_of, journal_fault_of}
+use Rattle.sfs_image.specs.Part.{Part, IsGathered, part_of, pointer_at, file_byte, is_free_part}
+use Rattle.sfs_image.specs.Rules.{HasBlockAt, breaks_bytes_rule}
+use Rattle.sfs_image.specs.Seen.{FILE_BLOCKS}
+use Rattle.sfs_image.specs.Settled.{image_block, Stamped, body_in, record_in, journal_slot, slot_byte, slot_count, table_byte, table_record, settled, parts_of, super_fault_of, journal_fault_of}
 use Rattle.sfs_image.specs.Super.{Layout, slot_blocks, slot_start, table_start, data_start}
 
 -- The parts of a disk lie one behind another: within a slot the numbers of all inodes behind the head's block, and their records
@@ -78,10 +79,9 @@ PartsAreWhatTheyReach = (store other : ℕ → List ℕ) (raw : List ℕ)
 abbrev pub FreeInodesBreakNone : Type 0
 FreeInodesBreakNone = (rule : ℕ) (layout : Layout) (parts : ℕ → Part) (i : ℕ) → rule ≢ 1 → i ≢ 0 → is_free_part (parts i) ≡ true → breaks_bytes_rule rule layout parts i ≡ false
 
--- Where no inode breaks the fifth rule each block stands at one place of one inode in use.
+-- Where inodes keep the fifth rule each block stands at one place of one of those in use.
 abbrev pub BlocksHaveOnePlace : Type 0
-BlocksHaveOnePlace = (parts : ℕ → Part) (i j p q : ℕ) → breaks_apart parts i ≡ false → breaks_apart parts j ≡ false → is_free_part (parts i) ≡ false → is_free_part (parts j) ≡ false
-    → p < PLACES → q < PLACES → pointer_at (parts i) p ≢ 0 → pointer_at (parts i) p ≡ pointer_at (parts j) q → (i ≡ j) × (p ≡ q)
+BlocksHaveOnePlace = (parts : ℕ → Part) (i j p q : ℕ) → HasBlockAt parts i p → HasBlockAt parts j q → pointer_at (parts i) p ≡ pointer_at (parts j) q → (i ≡ j) × (p ≡ q)
 
 -- what is read of an image that stands for parts: nothing wrong in its superblock and its journals, and those settled parts
 pub record IsReadAs (layout : Layout) (opened : ℕ → Option Transaction) (parts : ℕ → Part) (image : List ℕ) : Type 0 where
@@ -95,20 +95,24 @@ ImagesStandForParts = (layout : Layout) (opened : ℕ → Option Transaction) (p
 
 -- A write to the data area, whole or torn, apart from the blocks of all parts keeps what an image stands for.
 abbrev pub DataWritesKeep : Type 0
-DataWritesKeep = (layout : Layout) (opened : ℕ → Option Transaction) (parts : ℕ → Part) (at n : ℕ) (old new : List ℕ) → IsImageOf layout opened parts old → AgreesOutside at n old new
-    → 4096 * data_start layout ≤ at
-    → ((i place : ℕ) → i < layout.inodes → pointer_at (with_opened layout opened parts i) place ≢ 0 → LiesApart (4096 * pointer_at (with_opened layout opened parts i) place) 4096 at n)
-    → IsImageOf layout opened parts new
+DataWritesKeep = (layout : Layout) (opened : ℕ → Option Transaction) (parts : ℕ → Part) (old new : List ℕ) → IsImageOf layout opened parts old
+    → WritesData layout opened parts old new → IsImageOf layout opened parts new
 
 -- A write within the table's record of an inode that an open slot has, whole or torn, keeps what an image stands for.
 abbrev pub TableWritesKeep : Type 0
-TableWritesKeep = (layout : Layout) (opened : ℕ → Option Transaction) (parts : ℕ → Part) (i from n : ℕ) (old new : List ℕ) → IsImageOf layout opened parts old
-    → AgreesOutside (table_byte layout i + from) n old new → i < layout.inodes → from + n ≤ 512 → given layout opened i ≢ None → IsImageOf layout opened parts new
+TableWritesKeep = (layout : Layout) (opened : ℕ → Option Transaction) (parts : ℕ → Part) (i : ℕ) (old new : List ℕ) → IsImageOf layout opened parts old
+    → WritesRecord layout opened i old new → IsImageOf layout opened parts new
 
 -- A write behind the gate of a closed slot, whole or torn, keeps what an image stands for.
 abbrev pub BodyWritesKeep : Type 0
-BodyWritesKeep = (layout : Layout) (opened : ℕ → Option Transaction) (parts : ℕ → Part) (k from n : ℕ) (old new : List ℕ) → IsImageOf layout opened parts old
-    → AgreesOutside (slot_byte layout k + from) n old new → k < slot_count layout → from + n ≤ 4096 * slot_blocks layout.inodes → 1 ≤ from → opened k ≡ None → IsImageOf layout opened parts new
+BodyWritesKeep = (layout : Layout) (opened : ℕ → Option Transaction) (parts : ℕ → Part) (k : ℕ) (old new : List ℕ) → IsImageOf layout opened parts old
+    → WritesBody layout opened k old new → IsImageOf layout opened parts new
+
+-- Where fresh blocks stand in an image that turn the part of an inode into a new one, the image has all that the new part reaches.
+abbrev pub FreshBlocksMakeParts : Type 0
+FreshBlocksMakeParts = (layout : Layout) (opened : ℕ → Option Transaction) (parts : ℕ → Part) (image : List ℕ) (i : ℕ) (fresh : List FreshBlock) (new : Part)
+    → IsImageOf layout opened parts image → i < layout.inodes → TurnsInto fresh (with_opened layout opened parts i) new → StandIn (image_block image) fresh
+    → IsGathered (image_block image) new
 
 -- A gate that opens over a whole body adds the body's transaction.
 abbrev pub OpenedGatesAdd : Type 0
