@@ -42,7 +42,8 @@ pub record AreReadAgain (inodes : ℕ) (entries : List Entry) (slot : List ℕ) 
 
 -- Entries that stand in a slot are read again from it, and nothing is wrong in them.
 abbrev pub EntriesAreReadAgain : Type 0
-EntriesAreReadAgain = (inodes : ℕ) (entries : List Entry) (slot : List ℕ) → inodes ≤ 2 ^ 32 → AreEntries inodes entries → HasEntries inodes entries slot → AreReadAgain inodes entries slot
+EntriesAreReadAgain = (inodes : ℕ) (entries : List Entry) (slot : List ℕ) → inodes ≤ 2 ^ 32 → AreEntries inodes entries → HasEntries inodes entries slot
+    → AreReadAgain inodes entries slot
 
 -- the record of inode i in the slot of a number, if the slot is open and has one, under the slot's commit stamp
 abbrev pub record_at : Layout → List ℕ → ℕ → ℕ → Option (Stamped (List ℕ))
@@ -58,11 +59,13 @@ SettledIsNewest = (layout : Layout) (image : List ℕ) (i k : ℕ) (ours : Stamp
 
 -- The settled record of an inode that no open slot has is the table's.
 abbrev pub SettledIsTables : Type 0
-SettledIsTables = (layout : Layout) (image : List ℕ) (i : ℕ) → ((k : ℕ) → k < slot_count layout → record_at layout image i k ≡ None) → settled layout image i ≡ table_record layout image i
+SettledIsTables = (layout : Layout) (image : List ℕ) (i : ℕ) → ((k : ℕ) → k < slot_count layout → record_at layout image i k ≡ None)
+    → settled layout image i ≡ table_record layout image i
 
 -- A byte of a file is 0 where its block has no pointer.
 abbrev pub HolesAreZeros : Type 0
-HolesAreZeros = (store : ℕ → List ℕ) (raw : List ℕ) (place : ℕ) → place < 4096 * FILE_BLOCKS → pointer_at (part_of store raw) (place / 4096) ≡ 0 → file_byte (part_of store raw) place ≡ 0
+HolesAreZeros = (store : ℕ → List ℕ) (raw : List ℕ) (place : ℕ) → place < 4096 * FILE_BLOCKS → pointer_at (part_of store raw) (place / 4096) ≡ 0
+    → file_byte (part_of store raw) place ≡ 0
 
 -- A byte of a file is that of the block that its block's pointer names.
 abbrev pub BytesAreTheBlocks : Type 0
@@ -77,11 +80,13 @@ PartsAreWhatTheyReach = (store other : ℕ → List ℕ) (raw : List ℕ)
 
 -- A free inode, other than inode 0, breaks no rule but the first.
 abbrev pub FreeInodesBreakNone : Type 0
-FreeInodesBreakNone = (rule : ℕ) (layout : Layout) (parts : ℕ → Part) (i : ℕ) → rule ≢ 1 → i ≢ 0 → is_free_part (parts i) ≡ true → breaks_bytes_rule rule layout parts i ≡ false
+FreeInodesBreakNone = (rule : ℕ) (layout : Layout) (parts : ℕ → Part) (i : ℕ) → rule ≢ 1 → i ≢ 0 → is_free_part (parts i) ≡ true
+    → breaks_bytes_rule rule layout parts i ≡ false
 
 -- Where inodes keep the fifth rule each block stands at one place of one of those in use.
 abbrev pub BlocksHaveOnePlace : Type 0
-BlocksHaveOnePlace = (parts : ℕ → Part) (i j p q : ℕ) → HasBlockAt parts i p → HasBlockAt parts j q → pointer_at (parts i) p ≡ pointer_at (parts j) q → (i ≡ j) × (p ≡ q)
+BlocksHaveOnePlace = (parts : ℕ → Part) (i j p q : ℕ) → HasBlockAt parts i p → HasBlockAt parts j q → pointer_at (parts i) p ≡ pointer_at (parts j) q
+    → (i ≡ j) × (p ≡ q)
 
 -- what is read of an image that stands for parts: nothing wrong in its superblock and its journals, and those settled parts
 pub record IsReadAs (layout : Layout) (opened : ℕ → Option Transaction) (parts : ℕ → Part) (image : List ℕ) : Type 0 where
@@ -91,7 +96,8 @@ pub record IsReadAs (layout : Layout) (opened : ℕ → Option Transaction) (par
 
 -- An image that stands for parts is read as these, with what its open slots give, whichever slots are open.
 abbrev pub ImagesStandForParts : Type 0
-ImagesStandForParts = (layout : Layout) (opened : ℕ → Option Transaction) (parts : ℕ → Part) (image : List ℕ) → IsImageOf layout opened parts image → IsReadAs layout opened parts image
+ImagesStandForParts = (layout : Layout) (opened : ℕ → Option Transaction) (parts : ℕ → Part) (image : List ℕ) → IsImageOf layout opened parts image
+    → IsReadAs layout opened parts image
 
 -- A write to the data area, whole or torn, apart from the blocks of all parts keeps what an image stands for.
 abbrev pub DataWritesKeep : Type 0
@@ -116,7 +122,8 @@ FreshBlocksMakeParts = (layout : Layout) (opened : ℕ → Option Transaction) (
 
 -- A gate that opens over a whole body adds the body's transaction.
 abbrev pub OpenedGatesAdd : Type 0
-OpenedGatesAdd = (layout : Layout) (opened : ℕ → Option Transaction) (parts : ℕ → Part) (k : ℕ) (one : Transaction) (old new : List ℕ) → IsImageOf layout opened parts old
+OpenedGatesAdd = (layout : Layout) (opened : ℕ → Option Transaction) (parts : ℕ → Part) (k : ℕ) (one : Transaction) (old new : List ℕ)
+    → IsImageOf layout opened parts old
     → OpensGate layout opened k one old new → IsImageOf layout (with_slot opened k (Some one)) parts new
 
 -- what stands once a gate has shut: the others are open, and each inode has the part that it had
@@ -126,5 +133,6 @@ pub record IsShutAfter (layout : Layout) (opened : ℕ → Option Transaction) (
 
 -- A gate that shuts, once the table has what its slot alone gives and no older slot stays open for it, changes no part.
 abbrev pub ShutGatesKeep : Type 0
-ShutGatesKeep = (layout : Layout) (opened : ℕ → Option Transaction) (parts : ℕ → Part) (k : ℕ) (old new : List ℕ) → IsImageOf layout opened parts old → ShutsGate layout opened k old new
+ShutGatesKeep = (layout : Layout) (opened : ℕ → Option Transaction) (parts : ℕ → Part) (k : ℕ) (old new : List ℕ) → IsImageOf layout opened parts old
+    → ShutsGate layout opened k old new
     → IsShutAfter layout opened parts k new
