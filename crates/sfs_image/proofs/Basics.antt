@@ -32,7 +32,8 @@ map_same f g d (x ∷ xs) same =
     λ i. here i ∷ rest i
 
 -- functions that agree on the n numbers from a on make one list of pieces of them
-pub pieces_same : {A : Type 0} (f g : ℕ → List A) (a n : ℕ) → ((k : ℕ) → a ≤ k → k < a + n → f k ≡ g k) → flat_map f (range_with_len a n) ≡ flat_map g (range_with_len a n)
+pub pieces_same : {A : Type 0} (f g : ℕ → List A) (a n : ℕ) → ((k : ℕ) → a ≤ k → k < a + n → f k ≡ g k) →
+    flat_map f (range_with_len a n) ≡ flat_map g (range_with_len a n)
 pieces_same f g a zero same = refl
 pieces_same f g a (suc n) same =
     let here = same a (omega arith) (omega arith) in

@@ -111,7 +111,8 @@ module _ (inodes : ℕ) (entries : List Entry) (slot : List ℕ) (small : inodes
       ∙ first_of-from (length inodes_of_entries) (λ k. fault_at (not (is_next inodes inodes_of_entries k)) (number_byte k))
       (λ k h. ap (λ (wrong : Bool). fault_at wrong (number_byte k)) (not_from_true (is_next inodes inodes_of_entries k) (next_is k (omega (arith, as_many)))))
 
-pub read_again : (inodes : ℕ) (entries : List Entry) (slot : List ℕ) → inodes ≤ 2 ^ 32 → AreEntries inodes entries → HasEntries inodes entries slot → AreReadAgain inodes entries slot
+pub read_again : (inodes : ℕ) (entries : List Entry) (slot : List ℕ) → inodes ≤ 2 ^ 32 → AreEntries inodes entries → HasEntries inodes entries slot →
+    AreReadAgain inodes entries slot
 read_again inodes entries slot small are has = record {
   again = entries_again inodes entries slot small are has;
   count = count_is_few inodes entries slot small are has;

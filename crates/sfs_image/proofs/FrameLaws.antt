@@ -3,7 +3,8 @@ use Rattle.std.proofs.Common.{◌≡◌, ℕ, ◌+◌, ◌-◌, ◌*◌, ◌≤�
 use Rattle.std.proofs.lemmas.List.{take-take, drop-take, drop-drop, length-take, length-drop, get_or-take}
 use Rattle.std.specs.List.{range_with_len}
 use Rattle.sfs_image.specs.Bytes.{part, u32s_at, number_from}
-use Rattle.sfs_image.specs.ImageOf.{AgreesOutside, LiesApart, Transaction, HasBody}
+use Rattle.sfs_image.specs.ImageOf.{Transaction, HasBody}
+use Rattle.sfs_image.specs.ImageWrites.{AgreesOutside, LiesApart}
 use Rattle.sfs_image.specs.Journal.{head_of, numbers_of, entries_of, record_byte, numbers_fault}
 use Rattle.sfs_image.specs.Settled.{body_in}
 

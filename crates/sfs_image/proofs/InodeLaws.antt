@@ -69,7 +69,8 @@ inode_fault-inode_bytes inode is =
     ])
 
 -- numbers behind the front
-front_u32s : (at n : ℕ) (bytes front : List ℕ) → at + 4 * n ≤ length bytes → AreBytes bytes → front ≡ take at bytes → front ++ u32s_bytes (u32s_at at n bytes) ≡ take (at + 4 * n) bytes
+front_u32s : (at n : ℕ) (bytes front : List ℕ) → at + 4 * n ≤ length bytes → AreBytes bytes → front ≡ take at bytes →
+    front ++ u32s_bytes (u32s_at at n bytes) ≡ take (at + 4 * n) bytes
 front_u32s at n bytes front within small is =
     ap (λ (xs : List ℕ). xs ++ u32s_bytes (u32s_at at n bytes)) is
     ∙ ap (λ (xs : List ℕ). take at bytes ++ xs) (u32s_bytes-u32s_at at n bytes within small)

@@ -2,7 +2,7 @@ ghost use Rattle.std.specs.Prelude.{◌≡◌, ℕ, None, false};
 ghost use Rattle.sfs_image.specs.Format.{IsFormat};
 ghost use Rattle.sfs_image.specs.Inode.{IsInode, inode_of, inode_fault, inode_bytes, ArePointers, pointers_of, pointers_bytes};
 ghost use Rattle.sfs_image.specs.Journal.{Head, IsHead, head_of, head_bytes};
-ghost use Rattle.sfs_image.specs.Laws.{LayoutsDivide, SlotsAreNumbered, EntriesAreReadAgain, SettledIsNewest, SettledIsTables, HolesAreZeros, BytesAreTheBlocks, PartsAreWhatTheyReach, FreeInodesBreakNone, BlocksHaveOnePlace, ImagesStandForParts, DataWritesKeep, TableWritesKeep, BodyWritesKeep, OpenedGatesAdd, ShutGatesKeep};
+ghost use Rattle.sfs_image.specs.Laws.{FreshBlocksMakeParts, LayoutsDivide, SlotsAreNumbered, EntriesAreReadAgain, SettledIsNewest, SettledIsTables, HolesAreZeros, BytesAreTheBlocks, PartsAreWhatTheyReach, FreeInodesBreakNone, BlocksHaveOnePlace, ImagesStandForParts, DataWritesKeep, TableWritesKeep, BodyWritesKeep, OpenedGatesAdd, ShutGatesKeep};
 ghost use Rattle.sfs_image.specs.Slot.{IsSlot, slot_of, slot_fault, slot_bytes};
 ghost use Rattle.sfs_image.specs.SlotBlock.{AreSlots, slots_of, slots_fault, slots_bytes};
 ghost use Rattle.sfs_image.specs.Super.{IsLayout, super_of, super_fault, super_bytes};
@@ -115,4 +115,9 @@ pub fn opened_gates_add()
 /// A gate that shuts once the table has what its slot alone gives changes no part.
 pub fn shut_gates_keep()
     ensures { ShutGatesKeep }
+{}
+
+/// Fresh blocks that turn the part of an inode into a new one make the new one in an image.
+pub fn fresh_blocks_make_parts()
+    ensures { FreshBlocksMakeParts }
 {}

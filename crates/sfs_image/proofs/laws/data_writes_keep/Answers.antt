@@ -2,4 +2,4 @@ use Rattle.sfs_image.proofs.WrittenLaws.{data_written as law}
 use Rattle.sfs_image.proofs.laws.data_writes_keep.Goals as goal
 
 pub returns : goal.returns
-returns c = λ layout opened parts at n old new is same high apart. law layout opened parts old new is at n same high apart
+returns c = law

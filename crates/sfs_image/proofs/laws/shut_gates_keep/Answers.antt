@@ -1,4 +1,4 @@
-use Rattle.sfs_image.proofs.GateLaws.{gate_shut as law}
+use Rattle.sfs_image.proofs.GateLaws.{gate_shuts as law}
 use Rattle.sfs_image.proofs.laws.shut_gates_keep.Goals as goal
 
 pub returns : goal.returns
