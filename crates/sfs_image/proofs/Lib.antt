@@ -12,8 +12,10 @@ pub mod LayoutLaws
 pub mod NewestLaws
 pub mod PartLaws
 pub mod PiecesLaws
+pub mod RuleFacts
 pub mod RuleLaws
 pub mod SettledLaws
+pub mod ShownLaws
 pub mod SlotBlockLaws
 pub mod SlotLaws
 pub mod SuperLaws

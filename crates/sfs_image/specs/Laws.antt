@@ -1,13 +1,15 @@
 -- The laws of images, each of which a function of the module laws proves.
-use Rattle.std.specs.Prelude.{◌≡◌, ◌≢◌, ℕ, ◌+◌, ◌*◌, ◌/◌, ◌%◌, ◌<◌, ◌≤◌, ◌^◌, false, true, List, Option, None, Some, slice_index, if◌then◌else◌}
+use Rattle.std.specs.Prelude.{◌≡◌, ◌≢◌, ◌↔◌, All, length, slice_index_or, [], ℕ, ◌+◌, ◌*◌, ◌/◌, ◌%◌, ◌<◌, ◌≤◌, ◌^◌, false, true, List, Option, None, Some, slice_index, if◌then◌else◌}
 use Rattle.sfs_image.specs.Bytes.{part}
 use Rattle.sfs_image.specs.ImageOf.{Transaction, with_opened, with_slot, IsImageOf, FreshBlock, StandIn, TurnsInto}
 use Rattle.sfs_image.specs.ImageWrites.{WritesData, WritesRecord, WritesBody, OpensGate, ShutsGate}
 use Rattle.sfs_image.specs.Journal.{Entry, head_of, entries_of, numbers_of, numbers_fault, number_byte, record_byte, records_start, AreEntries, HasEntries}
-use Rattle.sfs_image.specs.Part.{Part, IsGathered, part_of, pointer_at, file_byte, is_free_part}
-use Rattle.sfs_image.specs.Rules.{HasBlockAt, breaks_bytes_rule}
-use Rattle.sfs_image.specs.Seen.{FILE_BLOCKS}
-use Rattle.sfs_image.specs.Settled.{image_block, Stamped, body_in, record_in, journal_slot, slot_byte, slot_count, table_byte, table_record, settled, parts_of, super_fault_of, journal_fault_of}
+use Rattle.sfs_image.specs.Part.{Part, IsGathered, inode_in, part_of, seen_of, pointer_at, file_byte, directory_blocks, is_free_part, is_file_part, is_directory_part}
+use Rattle.sfs_image.specs.Rules.{DIRECTORY_BLOCKS, HasBlockAt, first_covered, breaks_size, breaks_pointers, breaks_tail, breaks_slots, breaks_bytes_rule}
+use Rattle.sfs_image.specs.Seen.{FILE_BLOCKS, PLACES}
+use Rattle.sfs_image.specs.Settled.{SlotFault, slot_fault_of, image_block, Stamped, body_in, record_in, journal_slot, slot_byte, slot_count, table_byte, table_record, settled, parts_of, super_fault_of, journal_fault_of}
+use Rattle.sfs_image.specs.Slot.{Row}
+use Rattle.sfs_image.specs.SlotBlock.{slot_in, slots_fault}
 use Rattle.sfs_image.specs.Super.{Layout, slot_blocks, slot_start, table_start, data_start}
 
 -- The parts of a disk lie one behind another: within a slot the numbers of all inodes behind the head's block, and their records
@@ -62,6 +64,17 @@ abbrev pub SettledIsTables : Type 0
 SettledIsTables = (layout : Layout) (image : List ℕ) (i : ℕ) → ((k : ℕ) → k < slot_count layout → record_at layout image i k ≡ None)
     → settled layout image i ≡ table_record layout image i
 
+-- the first slot with a wrong place, and that place
+pub record IsFirstFault (layout : Layout) (image : List ℕ) (k : ℕ) (fault : SlotFault) : Type 0 where
+  pub within : k < slot_count layout
+  pub here : slot_fault_of layout image k ≡ Some fault
+  pub before : (j : ℕ) → j < k → slot_fault_of layout image j ≡ None
+
+-- The fault of an image's journals is that of the first slot that has one.
+abbrev pub JournalFaultsAreFirst : Type 0
+JournalFaultsAreFirst = (layout : Layout) (image : List ℕ) (fault : SlotFault) → journal_fault_of layout image ≡ Some fault
+    → (k : ℕ) × IsFirstFault layout image k fault
+
 -- A byte of a file is 0 where its block has no pointer.
 abbrev pub HolesAreZeros : Type 0
 HolesAreZeros = (store : ℕ → List ℕ) (raw : List ℕ) (place : ℕ) → place < 4096 * FILE_BLOCKS → pointer_at (part_of store raw) (place / 4096) ≡ 0
@@ -71,6 +84,24 @@ HolesAreZeros = (store : ℕ → List ℕ) (raw : List ℕ) (place : ℕ) → pl
 abbrev pub BytesAreTheBlocks : Type 0
 BytesAreTheBlocks = (store : ℕ → List ℕ) (raw : List ℕ) (place : ℕ) → place < 4096 * FILE_BLOCKS → pointer_at (part_of store raw) (place / 4096) ≢ 0
     → file_byte (part_of store raw) place ≡ slice_index (store (pointer_at (part_of store raw) (place / 4096))) (place % 4096)
+
+-- these bytes are those of a file, as many as its size
+pub record AreTheBytes (part : Part) (bytes : List ℕ) : Type 0 where
+  pub size : length bytes ≡ (inode_in part).size
+  pub each : (place : ℕ) → place < (inode_in part).size → slice_index bytes place ≡ file_byte part place
+
+-- A file shows its bytes.
+abbrev pub BytesAreShown : Type 0
+BytesAreShown = (part : Part) → is_file_part part ≡ true → AreTheBytes part (seen_of part).bytes
+
+-- these slots are those of a directory's blocks, 15 of each, block after block
+pub record AreTheSlots (part : Part) (slots : List (Option Row)) : Type 0 where
+  pub count : length slots ≡ 15 * length (directory_blocks part)
+  pub each : (n k : ℕ) → n < length (directory_blocks part) → k < 15 → slice_index_or slots (15 * n + k) None ≡ slot_in (slice_index_or (directory_blocks part) n []) k
+
+-- A directory shows its slots.
+abbrev pub SlotsAreShown : Type 0
+SlotsAreShown = (part : Part) → is_directory_part part ≡ true → AreTheSlots part (seen_of part).slots
 
 -- A part is the same in each store that has the same blocks where the part has pointers.
 abbrev pub PartsAreWhatTheyReach : Type 0
@@ -87,6 +118,37 @@ FreeInodesBreakNone = (rule : ℕ) (layout : Layout) (parts : ℕ → Part) (i :
 abbrev pub BlocksHaveOnePlace : Type 0
 BlocksHaveOnePlace = (parts : ℕ → Part) (i j p q : ℕ) → HasBlockAt parts i p → HasBlockAt parts j q → pointer_at (parts i) p ≡ pointer_at (parts j) q
     → (i ≡ j) × (p ≡ q)
+
+-- the size of a file or directory is one that it can have
+pub record FitsSize (part : Part) : Type 0 where
+  pub file : is_file_part part ≡ true → (inode_in part).size ≤ 4096 * FILE_BLOCKS
+  pub whole : is_directory_part part ≡ true → (inode_in part).size % 4096 ≡ 0
+  pub few : is_directory_part part ≡ true → (inode_in part).size ≤ 4096 * DIRECTORY_BLOCKS
+
+-- An inode keeps the third rule exactly where its size is one that it can have.
+abbrev pub SizesSay : Type 0
+SizesSay = (part : Part) → (breaks_size part ≡ false) ↔ FitsSize part
+
+-- the pointer at a place names a block of the data area and covers a byte below the size
+pub record PointsWell (layout : Layout) (part : Part) (place : ℕ) : Type 0 where
+  pub low : data_start layout ≤ pointer_at part place
+  pub high : pointer_at part place < layout.blocks
+  pub covers : first_covered place < (inode_in part).size
+
+-- An inode in use keeps the fourth rule exactly where each of its pointers does so.
+abbrev pub PointersSay : Type 0
+PointersSay = (layout : Layout) (part : Part) → is_free_part part ≡ false
+    → (breaks_pointers layout part ≡ false) ↔ ((place : ℕ) → place < PLACES → pointer_at part place ≢ 0 → PointsWell layout part place)
+
+-- A file keeps the sixth rule exactly where each byte past its size in its last block is 0.
+abbrev pub TailsSay : Type 0
+TailsSay = (part : Part) → (breaks_tail part ≡ false)
+    ↔ (is_file_part part ≡ true → (place : ℕ) → (inode_in part).size ≤ place → place < 4096 * (((inode_in part).size + 4095) / 4096) → file_byte part place ≡ 0)
+
+-- A directory keeps the seventh rule exactly where nothing is wrong in its blocks of slots.
+abbrev pub SlotsSay : Type 0
+SlotsSay = (part : Part) → (breaks_slots part ≡ false)
+    ↔ (is_directory_part part ≡ true → All (λ block. slots_fault block ≡ None) (directory_blocks part))
 
 -- what is read of an image that stands for parts: nothing wrong in its superblock and its journals, and those settled parts
 pub record IsReadAs (layout : Layout) (opened : ℕ → Option Transaction) (parts : ℕ → Part) (image : List ℕ) : Type 0 where
