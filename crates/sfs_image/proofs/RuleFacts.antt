@@ -6,7 +6,7 @@ use Rattle.std.proofs.lemmas.Bool.{cases_Bool, eqb-true, eq-eqb, ne_eqb, eqb-fal
 use Rattle.std.proofs.lemmas.List.{get_or-take, get_or-drop, length-take, same_lists, length-replicate, get_or-replicate, get_or_default}
 use Rattle.std.proofs.lemmas.List.Folds.{list_any_at, list_any_none}
 use Rattle.sfs_image.specs.Bytes.{part, zeros, is_nonzero, nonzero_in}
-use Rattle.sfs_image.specs.Laws.{FitsSize}
+use Rattle.sfs_image.specs.LawsOfParts.{FitsSize}
 use Rattle.sfs_image.specs.Part.{Part, inode_in, file_byte, directory_blocks, is_file_part, is_directory_part}
 use Rattle.sfs_image.specs.Rules.{DIRECTORY_BLOCKS, breaks_size, breaks_tail, breaks_slots}
 use Rattle.sfs_image.specs.Seen.{FILE_BLOCKS}

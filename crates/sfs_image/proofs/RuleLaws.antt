@@ -4,7 +4,7 @@ use Rattle.std.specs.Prelude.{◌↔◌}
 use Rattle.std.proofs.lemmas.Bool.{cases_Bool, cases_lt, cases_order, cond_both, cond-false, ne_eqb, eqb-true, eqb-false, and_left, and_right, and_parts, or_from, or_parts, or_cases, not_from_true, not_from_false, both_ways, leb-true, ltb-true, le-leb, lt-ltb, or_left, or_right, and_from}
 use Rattle.sfs_image.specs.Inode.{inode_fault}
 use Rattle.sfs_image.specs.ImageOf.{PointsToData}
-use Rattle.sfs_image.specs.Laws.{PointsWell}
+use Rattle.sfs_image.specs.LawsOfParts.{PointsWell}
 use Rattle.sfs_image.specs.Part.{Part, part_of, inode_in, pointer_at, is_free_part, is_file_part, is_directory_part}
 use Rattle.sfs_image.specs.Rules.{any_below, breaks_record, is_data_block, is_good_pointer, first_covered, breaks_pointers, stands_below, is_held_before, HasBlockAt, breaks_apart, breaks_bytes_rule}
 use Rattle.sfs_image.specs.Seen.{PLACES}

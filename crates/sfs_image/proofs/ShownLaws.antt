@@ -3,7 +3,7 @@ use Rattle.std.proofs.Common.{◌≡◌, ℕ, ◌+◌, ◌*◌, ◌<◌, true, L
 use Rattle.std.specs.List.{flat_map}
 use Rattle.std.proofs.lemmas.Bool.{cond-true}
 use Rattle.std.proofs.lemmas.List.FromFn.{length-map-range_with_len, get_or-map-range_with_len}
-use Rattle.sfs_image.specs.Laws.{AreTheBytes, AreTheSlots}
+use Rattle.sfs_image.specs.LawsOfParts.{AreTheBytes, AreTheSlots}
 use Rattle.sfs_image.specs.Part.{Part, inode_in, seen_of, file_byte, directory_blocks, tabulate, is_file_part, is_directory_part, shown_bytes, shown_slots}
 use Rattle.sfs_image.specs.Slot.{Row}
 use Rattle.sfs_image.specs.SlotBlock.{slot_in, slots_of}
