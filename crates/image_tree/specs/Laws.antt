@@ -14,11 +14,12 @@ use Rattle.image_tree.specs.LinkChanges.{gained, lost, linking, net_changes, Are
 use Rattle.image_tree.specs.Image.{image_inodes, tree_of, IsMounted, HasGoodBytes, IsReadAsTree}
 use Rattle.sfs_image.specs.Slot.{Row}
 use Rattle.image_tree.specs.Slots.{EndsWithRow}
+use Rattle.image_tree.specs.Need.{Rewrite, RanksServe, GrantServes, TakesByRank}
 use Rattle.image_tree.specs.Sizes.{DirectoriesFit}
 use Rattle.image_tree.specs.Mount.{ShowsByKind, StandsByItself}
 use Rattle.image_tree.specs.Orphans.{FreesOrphans, IsFreed}
 use Rattle.image_tree.specs.Rules.{first_fault, FindsFault, BYTE_RULES, KeepsByteRules, tree_fault}
-use Rattle.image_tree.specs.Commit.{Commit, IsCommit, MayFollow}
+use Rattle.image_tree.specs.Commit.{Commit, TakesBlocks, IsCommit, MayFollow}
 
 -- A tree under other numbers is sound where the first is, and has its shape.
 abbrev pub RenamedTreesHaveOneShape : Type 0
@@ -84,3 +85,11 @@ CommitsKeepDirectoriesFit = (commit : Commit) (old new : TreeState) (image next 
 -- The blocks that a directory has after a commit end with the last one that has a row.
 abbrev pub BlocksEndWithRow : Type 0
 BlocksEndWithRow = (slots : List (Option Row)) → EndsWithRow slots
+
+-- The ranks of the places that take a block serve to hand out a grant.
+abbrev pub RanksServeGrants : Type 0
+RanksServeGrants = (takes : ℕ → Bool) → RanksServe takes
+
+-- A commit that takes its blocks from a serving grant by their ranks takes free blocks, each once.
+abbrev pub RanksTakeFreeBlocks : Type 0
+RanksTakeFreeBlocks = (commit : Commit) (image next : SeenInodes) (inodes : List ℕ) (rewrites : List Rewrite) (grant : List ℕ) → GrantServes image rewrites grant → TakesByRank commit image next inodes rewrites grant → TakesBlocks commit image next
