@@ -4,13 +4,14 @@ use Rattle.std.specs.List.{find}
 use Rattle.std.specs.Option.{option_map_or}
 use Rattle.sfs_tree.specs.NameRow.{number_of}
 use Rattle.sfs_tree.specs.Tree.{TreeState, row_of, kind_of, bytes_of, links_of, names_of}
+use Rattle.sfs_tree.specs.Sound.{IsSound}
 use Rattle.absorb.specs.declared.nets.NetRow.{NetRow}
 use Rattle.absorb.specs.Net.{IsNet}
 use Rattle.sfs_image.specs.Slot.{Row, kind_byte}
 use Rattle.sfs_image.specs.Seen.{Seen, SeenInodes, PLACES}
 use Rattle.image_tree.specs.Slots.{in_blocks}
 use Rattle.image_tree.specs.Renamed.{Numbering, HasNumber}
-use Rattle.image_tree.specs.Stands.{row_on, own_size, IsUnused}
+use Rattle.image_tree.specs.Stands.{StandsForTree, IsStorable, row_on, own_size, IsUnused}
 
 -- the row of a net that has this name, where there is one
 abbrev pub row_in_net : List ℕ → List NetRow → Option NetRow
@@ -111,3 +112,13 @@ pub record MayFollow (num : Numbering) (old new : TreeState) : Type 0 where
   pub kinds : (node : ℕ) → kind_of new node ≡ kind_of old node
   pub root : num 0 ≡ Some 0
   pub named : (directory : ℕ) (name : List ℕ) (child : ℕ) → row_of new directory name ≡ Some child → HasNumber num child
+
+-- A commit's step: an image stands for a sound tree, and the commit changes its inodes to those of a next tree, which is sound, may
+-- follow the first, and is such that an image may stand for it.
+pub record IsCommitStep (commit : Commit) (old new : TreeState) (image next : SeenInodes) : Type 0 where
+  pub stands : StandsForTree commit.before old image
+  pub sound : IsSound old
+  pub commits : IsCommit commit old new image next
+  pub next_sound : IsSound new
+  pub follows : MayFollow commit.after old new
+  pub storable : IsStorable commit.after new

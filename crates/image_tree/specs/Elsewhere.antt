@@ -3,8 +3,8 @@ use Rattle.std.specs.Prelude.{◌≡◌, ◌≢◌, ◌⊎◌, ◌↔◌, ℕ, �
 use Rattle.sfs_tree.specs.Tree.{TreeState, row_of, kind_of, bytes_of}
 use Rattle.sfs_image.specs.Seen.{SeenInodes, PLACES}
 use Rattle.image_tree.specs.Renamed.{Numbering}
-use Rattle.image_tree.specs.Stands.{IsUnused}
-use Rattle.image_tree.specs.Commit.{Commit}
+use Rattle.image_tree.specs.Stands.{IsUnused, StandsForTree}
+use Rattle.image_tree.specs.Commit.{Commit, IsCommit}
 
 -- another state, before and after: numbers, tree and image
 pub record Elsewhere : Type 0 where
@@ -58,3 +58,16 @@ pub record FollowsThere (commit : Commit) (new : TreeState) (next : SeenInodes) 
   pub nodes : (node : ℕ) → commit.concerns node ≡ true → ((name : List ℕ) → row_of there.new node name ≡ row_of new node name) × (bytes_of there.new node ≡ bytes_of new node)
   pub other_nodes : (node : ℕ) → commit.concerns node ≡ false → ((name : List ℕ) → row_of there.new node name ≡ row_of there.old node name) × (bytes_of there.new node ≡ bytes_of there.old node)
   pub inodes : (i : ℕ) → i < there.image.count → (IsTouched commit i × (there.next.seen i ≡ next.seen i)) ⊎ ((IsTouched commit i → ⊥) × (there.next.seen i ≡ there.image.seen i))
+
+-- A commit is planned in a state: the image stands for the old tree, and the commit changes it to the new one and concerns all that it
+-- changes.
+pub record IsPlanned (commit : Commit) (old new : TreeState) (image next : SeenInodes) : Type 0 where
+  pub stands : StandsForTree commit.before old image
+  pub commits : IsCommit commit old new image next
+  pub concerns : ConcernsItsChanges commit old new
+
+-- The other state suits a planned commit: its image stands for its tree, it agrees before, and follows afterwards.
+pub record Suits (commit : Commit) (old new : TreeState) (image next : SeenInodes) (there : Elsewhere) : Type 0 where
+  pub stands : StandsForTree there.before there.old there.image
+  pub agrees : AgreesBefore commit old image there
+  pub follows : FollowsThere commit new next there

@@ -8,7 +8,7 @@ use Rattle.image_tree.specs.ImageTree.{Making, image_tree}
 use Rattle.image_tree.specs.Renamed.{Numbering, IsRenamed}
 use Rattle.image_tree.specs.Stands.{StandsForTree, IsStorable}
 use Rattle.image_tree.specs.Keeps.{KeepsRules}
-use Rattle.image_tree.specs.Elsewhere.{Elsewhere, commit_there, ConcernsItsChanges, AgreesBefore, FollowsThere}
+use Rattle.image_tree.specs.Elsewhere.{Elsewhere, commit_there, IsPlanned, Suits}
 use Rattle.absorb.specs.declared.nets.NetRow.{NetRow}
 use Rattle.image_tree.specs.LinkChanges.{gained, lost, linking, net_changes, AreAllNets}
 use Rattle.image_tree.specs.Image.{image_inodes, tree_of, IsMounted, HasGoodBytes, IsReadAsTree}
@@ -19,7 +19,7 @@ use Rattle.image_tree.specs.Sizes.{DirectoriesFit}
 use Rattle.image_tree.specs.Mount.{ShowsByKind, StandsByItself}
 use Rattle.image_tree.specs.Orphans.{FreesOrphans, IsFreed}
 use Rattle.image_tree.specs.Rules.{first_fault, FindsFault, BYTE_RULES, KeepsByteRules, tree_fault}
-use Rattle.image_tree.specs.Commit.{Commit, TakesBlocks, IsCommit, MayFollow}
+use Rattle.image_tree.specs.Commit.{Commit, TakesBlocks, IsCommit, IsCommitStep}
 
 -- A tree under other numbers is sound where the first is, and has its shape.
 abbrev pub RenamedTreesHaveOneShape : Type 0
@@ -42,7 +42,9 @@ pub record LeavesTree (commit : Commit) (new : TreeState) (next : SeenInodes) (m
 
 -- A commit makes of an image that stands for a sound tree one that stands for the next tree, and so keeps the rules.
 abbrev pub CommitsKeepStanding : Type 0
-CommitsKeepStanding = (commit : Commit) (old new : TreeState) (image next : SeenInodes) (making : Making) → StandsForTree commit.before old image → IsSound old → IsCommit commit old new image next → IsSound new → MayFollow commit.after old new → IsStorable commit.after new → LeavesTree commit new next making
+CommitsKeepStanding =
+    (commit : Commit) (old new : TreeState) (image next : SeenInodes) (making : Making) → IsCommitStep commit old new image next
+    → LeavesTree commit new next making
 
 -- An image that keeps the rules stands for its own tree.
 abbrev pub RulesMakeStanding : Type 0
@@ -54,8 +56,9 @@ NoFaultIsRulesKept = (image : SeenInodes) (breaks_byte_rule : ℕ → ℕ → Bo
 
 -- A commit that was planned in one state is one in each other state that agrees with it on what it concerns.
 abbrev pub PlannedCommitsHoldElsewhere : Type 0
-PlannedCommitsHoldElsewhere = (commit : Commit) (old new : TreeState) (image next : SeenInodes) (there : Elsewhere) → StandsForTree commit.before old image → IsCommit commit old new image next → ConcernsItsChanges commit old new
-    → StandsForTree there.before there.old there.image → AgreesBefore commit old image there → FollowsThere commit new next there → IsCommit (commit_there commit there) there.old there.new there.image there.next
+PlannedCommitsHoldElsewhere =
+    (commit : Commit) (old new : TreeState) (image next : SeenInodes) (there : Elsewhere) → IsPlanned commit old new image next
+    → Suits commit old new image next there → IsCommit (commit_there commit there) there.old there.new there.image there.next
 
 -- A node's link count in the later tree, with the rows that went, is that in the earlier one with the rows that came.
 abbrev pub NetsGiveLinks : Type 0
@@ -80,7 +83,9 @@ FreedOrphansKeepTheTree = (image next : SeenInodes) (making : Making) → KeepsR
 
 -- A commit keeps directories within the blocks that one may have: no slot behind the last is taken before all are full.
 abbrev pub CommitsKeepDirectoriesFit : Type 0
-CommitsKeepDirectoriesFit = (commit : Commit) (old new : TreeState) (image next : SeenInodes) → StandsForTree commit.before old image → IsSound old → IsCommit commit old new image next → MayFollow commit.after old new → IsStorable commit.after new → DirectoriesFit image → DirectoriesFit next
+CommitsKeepDirectoriesFit =
+    (commit : Commit) (old new : TreeState) (image next : SeenInodes) → IsCommitStep commit old new image next → DirectoriesFit image
+    → DirectoriesFit next
 
 -- The blocks that a directory has after a commit end with the last one that has a row.
 abbrev pub BlocksEndWithRow : Type 0
