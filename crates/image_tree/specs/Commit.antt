@@ -91,9 +91,11 @@ pub record GivesNumbers (commit : Commit) (image : SeenInodes) : Type 0 where
 
 -- The blocks that a commit takes: each place of a concerned node has one of the three, and a fresh block is held by no inode before and taken once.
 pub record TakesBlocks (commit : Commit) (image next : SeenInodes) : Type 0 where
-  pub has : (node i place : ℕ) → place < PLACES → commit.after node ≡ Some i → commit.concerns node ≡ true → HasBlock commit i place (seen_before commit image node) (next.seen i)
+  pub has : (node i place : ℕ) → place < PLACES → commit.after node ≡ Some i → commit.concerns node ≡ true
+      → HasBlock commit i place (seen_before commit image node) (next.seen i)
   pub unheld : (i place j other : ℕ) → commit.takes i place ≡ true → j < image.count → other < PLACES → (image.seen j).blocks other ≢ commit.fresh i place
-  pub once : (i place j other : ℕ) → commit.takes i place ≡ true → commit.takes j other ≡ true → commit.fresh i place ≡ commit.fresh j other → (i ≡ j) × (place ≡ other)
+  pub once : (i place j other : ℕ) → commit.takes i place ≡ true → commit.takes j other ≡ true → commit.fresh i place ≡ commit.fresh j other
+      → (i ≡ j) × (place ≡ other)
 
 -- A commit changes the inodes of an image from those of an old tree to those of a new one.
 pub record IsCommit (commit : Commit) (old new : TreeState) (image next : SeenInodes) : Type 0 where
@@ -102,8 +104,10 @@ pub record IsCommit (commit : Commit) (old new : TreeState) (image next : SeenIn
   pub nets : (node : ℕ) → IsNet (names_of node old.rows) (names_of node new.rows) (commit.nets node)
   pub numbers : GivesNumbers commit image
   -- a concerned node is built anew, another one stays as it is, and what is no node's is free
-  pub built : (node i : ℕ) → commit.after node ≡ Some i → commit.concerns node ≡ true → IsBuiltAnew commit new node (seen_before commit image node) (next.seen i)
-  pub stays : (node i : ℕ) → commit.after node ≡ Some i → commit.concerns node ≡ false → (commit.before node ≡ Some i) × (next.seen i ≡ image.seen i) × IsAside old new node
+  pub built : (node i : ℕ) → commit.after node ≡ Some i → commit.concerns node ≡ true
+      → IsBuiltAnew commit new node (seen_before commit image node) (next.seen i)
+  pub stays : (node i : ℕ) → commit.after node ≡ Some i → commit.concerns node ≡ false
+      → (commit.before node ≡ Some i) × (next.seen i ≡ image.seen i) × IsAside old new node
   pub rest : (i : ℕ) → i < next.count → ((node : ℕ) × (commit.after node ≡ Some i)) ⊎ IsUnused (next.seen i)
   pub blocks : TakesBlocks commit image next
 

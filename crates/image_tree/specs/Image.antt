@@ -8,7 +8,7 @@ use Rattle.sfs_image.specs.Rules.{breaks_bytes_rule}
 use Rattle.sfs_image.specs.Settled.{SlotFault, layout_of, parts_of, super_fault_of, journal_fault_of}
 use Rattle.sfs_image.specs.Seen.{SeenInodes}
 use Rattle.image_tree.specs.ImageTree.{Making, image_tree}
-use Rattle.image_tree.specs.Rules.{TreeFault, tree_fault}
+use Rattle.image_tree.specs.Rules.{BYTE_RULES, TreeFault, tree_fault}
 use Rattle.image_tree.specs.Mount.{StandsByItself}
 
 -- the inodes of an image, by their settled parts
@@ -52,7 +52,7 @@ pub record IsMounted (image : List ℕ) (share : ℕ) (tree : TreeState) : Type 
 pub record HasGoodBytes (image : List ℕ) : Type 0 where
   pub super : super_fault_of image ≡ None
   pub journals : journal_fault_of (layout_of image) image ≡ None
-  pub inodes : (rule i : ℕ) → 1 ≤ rule → rule ≤ 7 → i < (layout_of image).inodes → breaks_bytes_of image rule i ≡ false
+  pub inodes : (rule i : ℕ) → 1 ≤ rule → rule ≤ BYTE_RULES → i < (layout_of image).inodes → breaks_bytes_of image rule i ≡ false
 
 -- What is read of an image: nothing wrong, and a tree of a given tree's shape.
 pub record IsReadAsTree (image : List ℕ) (share : ℕ) (tree : TreeState) : Type 0 where

@@ -23,7 +23,8 @@ use Rattle.image_tree.specs.Commit.{Commit, TakesBlocks, IsCommit, IsCommitStep}
 
 -- A tree under other numbers is sound where the first is, and has its shape.
 abbrev pub RenamedTreesHaveOneShape : Type 0
-RenamedTreesHaveOneShape = (num : Numbering) (tree other : TreeState) → IsSound tree → IsRenamed num tree other → IsSound other × (shape_of other ≡ shape_of tree)
+RenamedTreesHaveOneShape =
+    (num : Numbering) (tree other : TreeState) → IsSound tree → IsRenamed num tree other → IsSound other × (shape_of other ≡ shape_of tree)
 
 -- What an image shows that stands for a tree: it keeps the rules, and its own tree is sound and has the tree's shape.
 pub record ShowsTree (tree : TreeState) (image : SeenInodes) (making : Making) : Type 0 where
@@ -33,7 +34,9 @@ pub record ShowsTree (tree : TreeState) (image : SeenInodes) (making : Making) :
 
 -- An image that stands for a sound tree shows it.
 abbrev pub StandingImagesShow : Type 0
-StandingImagesShow = (num : Numbering) (tree : TreeState) (image : SeenInodes) (making : Making) → IsSound tree → IsStorable num tree → StandsForTree num tree image → ShowsTree tree image making
+StandingImagesShow =
+    (num : Numbering) (tree : TreeState) (image : SeenInodes) (making : Making) → IsSound tree → IsStorable num tree → StandsForTree num tree image
+    → ShowsTree tree image making
 
 -- what a commit leaves where an image stood for a tree: it stands for the next tree, and shows it
 pub record LeavesTree (commit : Commit) (new : TreeState) (next : SeenInodes) (making : Making) : Type 0 where
@@ -52,7 +55,10 @@ RulesMakeStanding = (image : SeenInodes) (making : Making) → KeepsRules image 
 
 -- The first fault is none exactly where the rules hold, those on bytes being given.
 abbrev pub NoFaultIsRulesKept : Type 0
-NoFaultIsRulesKept = (image : SeenInodes) (breaks_byte_rule : ℕ → ℕ → Bool) → KeepsByteRules image → ((rule i : ℕ) → 1 ≤ rule → rule ≤ BYTE_RULES → i < image.count → breaks_byte_rule rule i ≡ false) → (tree_fault breaks_byte_rule image ≡ None) ↔ KeepsRules image
+NoFaultIsRulesKept =
+    (image : SeenInodes) (breaks_byte_rule : ℕ → ℕ → Bool) → KeepsByteRules image
+    → ((rule i : ℕ) → 1 ≤ rule → rule ≤ BYTE_RULES → i < image.count → breaks_byte_rule rule i ≡ false)
+    → (tree_fault breaks_byte_rule image ≡ None) ↔ KeepsRules image
 
 -- A commit that was planned in one state is one in each other state that agrees with it on what it concerns.
 abbrev pub PlannedCommitsHoldElsewhere : Type 0
@@ -71,7 +77,9 @@ TreesOfImagesAreMounted = (image : List ℕ) (share : ℕ) (tree : TreeState) �
 
 -- An image with good bytes whose inodes stand for a sound tree has no fault, and a tree of that shape.
 abbrev pub StandingImagesAreRead : Type 0
-StandingImagesAreRead = (image : List ℕ) (share : ℕ) (num : Numbering) (tree : TreeState) → HasGoodBytes image → IsSound tree → IsStorable num tree → StandsForTree num tree (image_inodes image) → IsReadAsTree image share tree
+StandingImagesAreRead =
+    (image : List ℕ) (share : ℕ) (num : Numbering) (tree : TreeState) → HasGoodBytes image → IsSound tree → IsStorable num tree
+    → StandsForTree num tree (image_inodes image) → IsReadAsTree image share tree
 
 -- The first fault is that of the least rule that an inode breaks, and of that the least inode.
 abbrev pub FirstFaultIsLeast : Type 0
@@ -79,7 +87,8 @@ FirstFaultIsLeast = (breaks : ℕ → ℕ → Bool) (count : ℕ) → FindsFault
 
 -- Freeing its orphans leaves an image its tree.
 abbrev pub FreedOrphansKeepTheTree : Type 0
-FreedOrphansKeepTheTree = (image next : SeenInodes) (making : Making) → KeepsRules image → ShowsByKind image → FreesOrphans image next → IsFreed image next making
+FreedOrphansKeepTheTree =
+    (image next : SeenInodes) (making : Making) → KeepsRules image → ShowsByKind image → FreesOrphans image next → IsFreed image next making
 
 -- A commit keeps directories within the blocks that one may have: no slot behind the last is taken before all are full.
 abbrev pub CommitsKeepDirectoriesFit : Type 0
@@ -97,4 +106,6 @@ RanksServeGrants = (takes : ℕ → Bool) → RanksServe takes
 
 -- A commit that takes its blocks from a serving grant by their ranks takes free blocks, each once.
 abbrev pub RanksTakeFreeBlocks : Type 0
-RanksTakeFreeBlocks = (commit : Commit) (image next : SeenInodes) (inodes : List ℕ) (rewrites : List Rewrite) (grant : List ℕ) → GrantServes image rewrites grant → TakesByRank commit image next inodes rewrites grant → TakesBlocks commit image next
+RanksTakeFreeBlocks =
+    (commit : Commit) (image next : SeenInodes) (inodes : List ℕ) (rewrites : List Rewrite) (grant : List ℕ) → GrantServes image rewrites grant
+    → TakesByRank commit image next inodes rewrites grant → TakesBlocks commit image next

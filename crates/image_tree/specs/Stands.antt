@@ -43,7 +43,9 @@ pub record IsUnused (seen : Seen) : Type 0 where
 
 -- no block is held at two places
 abbrev pub HoldsApart : SeenInodes → Type 0
-HoldsApart image = (i place j other : ℕ) → i < image.count → j < image.count → place < PLACES → other < PLACES → (image.seen i).blocks place ≢ 0 → (image.seen i).blocks place ≡ (image.seen j).blocks other → (i ≡ j) × (place ≡ other)
+HoldsApart image =
+    (i place j other : ℕ) → i < image.count → j < image.count → place < PLACES → other < PLACES → (image.seen i).blocks place ≢ 0
+    → (image.seen i).blocks place ≡ (image.seen j).blocks other → (i ≡ j) × (place ≡ other)
 
 -- The inodes of an image stand for a tree under a numbering: the root is inode 0, no two nodes have one inode, each child of a row
 -- has one, each inode shows its node, all others are free, and no block is held twice.
