@@ -1,3 +1,4 @@
 pub mod LastChanges
-pub mod Rows
+pub mod LoggedChanges
 pub mod OneNet
+pub mod Rows

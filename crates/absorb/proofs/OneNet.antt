@@ -16,7 +16,7 @@ use Rattle.sfs_base.specs.declared.numbers.NodeId.{NodeId}
 use Rattle.sfs_tree.specs.Order.{name_cmp}
 use Rattle.sfs_tree.specs.NameRow.{number_of}
 use Rattle.sfs_tree.proofs.Joined.{is_equal, name_cmp-IsAntisymmetric}
-use Rattle.sfs_tree.proofs.Search.{both_of}
+use Rattle.sfs_base.proofs.BasicTruth.{both_of}
 use Rattle.absorb.specs.declared.nets.NetRow.{NetRow}
 use Rattle.absorb.specs.Net.{net_name, IsNetRow, IsNet}
 use Rattle.absorb.specs.Last.{node_id_of, same_node, net_row}

@@ -20,7 +20,9 @@ use Rattle.sfs_tree.specs.NameRow.{number_of}
 use Rattle.sfs_tree.specs.declared.changes.Change.{Change}
 use Rattle.sfs_tree.proofs.Joined.{is_equal, name_cmp-IsAntisymmetric}
 use Rattle.sfs_tree.proofs.RowsByName.{is_true}
-use Rattle.sfs_tree.proofs.Search.{both_first, both_second, is_less, not_found, below_if_tied}
+use Rattle.sfs_tree.proofs.Search.{is_less, not_found, below_if_tied}
+use Rattle.sfs_base.proofs.BasicTruth.{both_second}
+use Rattle.sfs_base.proofs.BasicTruth.{both_first}
 use borrow.Author.Tests.{eqb-true, eq-eqb}
 use Rattle.absorb.specs.declared.nets.NetRow.{NetRow}
 use Rattle.absorb.specs.Net.{rows_with_changes, child_after, net_name, IsNetRow, IsNet}

@@ -2,6 +2,7 @@
 #![tactic(auto)]
 
 mod last;
+pub mod laws;
 mod nets;
 
 pub use nets::{Net, NetRow, net_of};

@@ -1,5 +1,5 @@
 -- Rows that keep apart are read again from their body, by_mention.
-use Rattle.std.proofs.Common.{◌≡◌, ◌≢◌, ◌⊎◌, inl, inr, ⊎_elim, ℕ, zero, suc, ◌+◌, ◌*◌, ◌<◌, ◌≤◌, ◌==◌, ◌&&◌, ◌||◌, eqb, eq-eqb, cond, ltb, Bool, true, false, bytes_eq, List, [], ◌∷◌, ◌++◌, length, take, map, fold, get_or, Option, Some, None, option_map, is_some, refl, sym, ◌∙◌, ap, subst, arith, add-one}
+use Rattle.std.proofs.Common.{◌≡◌, ◌≢◌, ⊎_elim, ℕ, zero, suc, ◌+◌, ◌*◌, ◌<◌, ◌≤◌, ◌==◌, ◌&&◌, ◌||◌, eqb, eq-eqb, cond, ltb, Bool, true, false, bytes_eq, List, [], ◌∷◌, ◌++◌, length, take, map, fold, get_or, Option, Some, None, option_map, is_some, refl, sym, ◌∙◌, ap, subst, arith, add-one}
 use Rattle.std.proofs.lemmas.Bool.{cases_eq}
 use Rattle.std.proofs.lemmas.Bool.Decides.{nat_tests}
 use Rattle.std.proofs.lemmas.List.{length-append, length-map, take_more, take_all}
@@ -13,10 +13,7 @@ use Rattle.area_pair.specs.Rows.{row_named, row_in, is_directory_row, clashes, w
 use Rattle.area_pair.specs.declared.area.Row.{Row}
 use Rattle.area_pair.proofs.Numbering.{rows_of_slots-zero, rows_of_slots-next}
 use Rattle.area_pair.proofs.BodyWritten.{length-numbered}
-
-bool_cases : (b : Bool) → (b ≡ true) ⊎ (b ≡ false)
-bool_cases true = inl refl
-bool_cases false = inr refl
+use Rattle.sfs_base.proofs.BasicTruth.{true_or_false}
 
 -- a number is among others
 abbrev There : ℕ → List ℕ → Type 0
@@ -65,7 +62,7 @@ there-with n ns =
     (λ no.
     let new : There n (ns ++ n ∷ []) = omega (arith, place_of-new n ns, length-append ns (n ∷ [])) in
     subst (λ (l : List ℕ). There n l) (sym (ap (λ (b : Bool). cond b ns (ns ++ n ∷ [])) no)) new)
-    (bool_cases (list_any (λ m. m == n) ns))
+    (true_or_false (list_any (λ m. m == n) ns))
 
 there-kept : (n m : ℕ) (ns : List ℕ) → There n ns → There n (with_number ns m)
 there-kept n m ns there =
@@ -74,7 +71,7 @@ there-kept n m ns there =
     (λ no.
     let kept : There n (ns ++ m ∷ []) = omega (arith, place_of-append n ns (m ∷ []) there, length-append ns (m ∷ [])) in
     subst (λ (l : List ℕ). There n l) (sym (ap (λ (b : Bool). cond b ns (ns ++ m ∷ [])) no)) kept)
-    (bool_cases (list_any (λ k. k == m) ns))
+    (true_or_false (list_any (λ k. k == m) ns))
 
 there-fold : (n : ℕ) (ns xs : List ℕ) → There n ns → There n (fold with_number ns xs)
 there-fold n ns [] there = there
@@ -92,7 +89,7 @@ length-with_number ns n =
     ⊎_elim
     (λ is. let same = ap (λ (b : Bool). length (cond b ns (ns ++ n ∷ []))) is in omega arith)
     (λ no. let same = ap (λ (b : Bool). length (cond b ns (ns ++ n ∷ []))) no in omega (arith, length-append ns (n ∷ [])))
-    (bool_cases (list_any (λ m. m == n) ns))
+    (true_or_false (list_any (λ m. m == n) ns))
 
 length-fold : (ns xs : List ℕ) → length (fold with_number ns xs) ≤ length ns + length xs
 length-fold ns [] = omega arith

@@ -1,5 +1,5 @@
 -- The rows of a body are ones that the root may have.
-use Rattle.std.proofs.Common.{◌≡◌, ℕ, zero, suc, ◌*◌, ◌≤◌, Bool, true, false, cond, ◌||◌, List, [], ◌∷◌, ◌++◌, length, Option, Some, None, refl, subst, arith, nat_lt, nat_eq, slice_get, is_some}
+use Rattle.std.proofs.Common.{◌≡◌, ℕ, zero, suc, ◌*◌, ◌≤◌, true, false, cond, ◌||◌, List, [], ◌∷◌, ◌++◌, length, Option, Some, None, refl, subst, arith, nat_lt, nat_eq, slice_get, is_some}
 use Rattle.std.specs.List.{list_any}
 use Rattle.std.proofs.lemmas.List.{length-append}
 use Rattle.std.proofs.lemmas.Bool.{ltb-false}
@@ -13,6 +13,8 @@ use Rattle.area_pair.specs.Seen.{body_seen, rows_seen}
 use Rattle.area_pair.specs.declared.area.Area.{Area}
 use Rattle.area_pair.specs.declared.open.Seen.{Seen}
 use Rattle.area_pair.specs.Sound.{HasInode, HaveInodes, AreRoots}
+use Rattle.sfs_base.proofs.BasicOptions.{some_same, none_some}
+use Rattle.sfs_base.proofs.BasicTruth.{or_first, or_second}
 
 -- a row clashes with none of these behind it
 abbrev pub Alone : Row → List Row → Type 0
@@ -24,25 +26,11 @@ apart_head row rs h k x e = h zero (suc k) row x (omega arith) refl e
 pub apart_tail : (row : Row) (rs : List Row) → KeepsApart (row ∷ rs) → KeepsApart rs
 apart_tail row rs h i j before x lt e f = h (suc i) (suc j) before x (omega arith) e f
 
-some_same : {A : Type 0} {x y : A} → Some x ≡ Some y → x ≡ y
-some_same e = cc
-
-none_some : {A : Type 0} {x : A} → None ≡ Some x → ⊥
-none_some e = cc
-
 apart_cons : (row : Row) (rs : List Row) → Alone row rs → KeepsApart rs → KeepsApart (row ∷ rs)
 apart_cons row rs alone apart zero zero before x lt e f = absurd (omega arith)
 apart_cons row rs alone apart zero (suc j) before x lt e f = subst (λ (r : Row). clashes r x ≡ false) (some_same e) (alone j x f)
 apart_cons row rs alone apart (suc i) zero before x lt e f = absurd (omega arith)
 apart_cons row rs alone apart (suc i) (suc j) before x lt e f = apart i j before x (omega arith) e f
-
-or_first : (a b : Bool) → (a || b) ≡ false → a ≡ false
-or_first true b e = e
-or_first false b e = refl
-
-or_second : (a b : Bool) → (a || b) ≡ false → b ≡ false
-or_second true b e = cc
-or_second false b e = e
 
 alone_push : (first : Row) (rs : List Row) (row : Row) → Alone first rs → clashes first row ≡ false → Alone first (rs ++ row ∷ [])
 alone_push first [] row alone last zero x e = subst (λ (r : Row). clashes first r ≡ false) (some_same e) last

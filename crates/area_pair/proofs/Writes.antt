@@ -1,5 +1,5 @@
 -- What each write of a commit, and of the closing of a gate, makes of an image: whole or torn by a crash.
-use Rattle.std.proofs.Common.{◌≡◌, ◌⊎◌, inl, inr, ⊎_elim, ℕ, ◌+◌, ◌%◌, ◌^◌, ◌<◌, ◌≤◌, ◌==◌, Bool, true, false, List, [], ◌∷◌, length, slice_index, Option, Some, None, IfSome, refl, sym, ◌∙◌, ap, subst, arith}
+use Rattle.std.proofs.Common.{◌≡◌, ◌⊎◌, inl, inr, ⊎_elim, ℕ, ◌+◌, ◌%◌, ◌^◌, ◌<◌, ◌≤◌, ◌==◌, true, false, List, [], ◌∷◌, length, slice_index, Option, Some, None, IfSome, refl, sym, ◌∙◌, ap, subst, arith}
 use Rattle.sfs_dev.specs.Ranges.{part, put, SameOutside}
 use Rattle.sfs_dev.specs.RangeLaws.{SameOutside-put, part-put}
 use Rattle.area_pair.specs.Area.{gate_at, body_at, other, is_open, body_of, area_count, current_of, next_of}
@@ -11,10 +11,7 @@ use Rattle.area_pair.specs.declared.area.Current.{Current}
 use Rattle.area_pair.specs.declared.area.Row.{Row}
 use Rattle.area_pair.proofs.Frames.{other-other, body_write_keeps_gate, body_write_keeps_body, gate_write_keeps_body, gate_write_keeps_gate}
 use Rattle.area_pair.proofs.Standing.{lies, lies_nowhere, stands, stands_nowhere, current_one, current_both, rows_by}
-
-bool_cases : (b : Bool) → (b ≡ true) ⊎ (b ≡ false)
-bool_cases true = inl refl
-bool_cases false = inr refl
+use Rattle.sfs_base.proofs.BasicTruth.{true_or_false}
 
 -- an area's gate lies within four blocks
 gate_within : (area : Area) (image : List ℕ) → 16384 ≤ length image → gate_at area + 1 ≤ length image
@@ -100,7 +97,7 @@ opened_or_not None old new was image fits seal four same =
       alone = λ _. shut;
     }))
     (λ not_in. inl (stands_nowhere old image (record { first = not_in; second = shut; rows_are = nowhere.rows_are })))
-    (bool_cases (is_open First image))
+    (true_or_false (is_open First image))
 opened_or_not (Some c) old new was image fits seal four same =
     let target = other c.area in
     let old_lies = lies c.area c.count old was seal.stand in
@@ -123,7 +120,7 @@ opened_or_not (Some c) old new was image fits seal four same =
       count_is = count_kept;
       rows_are = ap rows_of_body old_body ∙ old_lies.rows_are;
     })))
-    (bool_cases (is_open target image))
+    (true_or_false (is_open target image))
 
 -- after the whole write it is open
 pub opened : (current : Option Current) (old new : List Row) (was : List ℕ) → IfSome current (λ c. c.count < 2 ^ 64) → Sealed current old new was → Opened current new (put (gate_at (next_of current).area) (1 ∷ []) was)
@@ -169,7 +166,7 @@ closing_torn c new was image now same =
     (λ shut.
     let alone : is_open (other target) image ≡ false = ap (λ (a : Area). is_open a image) (other-other c.area) ∙ shut in
     rows_by image (Some target) (current_one target image is_in alone) ∙ ap rows_of_body body ∙ now.rows_are)
-    (bool_cases (is_open c.area image))
+    (true_or_false (is_open c.area image))
 
 -- and after the whole write the next area is the current one
 pub closed : (c : Current) (new : List Row) (was : List ℕ) → Opened (Some c) new was → StandsFor (Some (next_of (Some c))) new (put (gate_at c.area) (0 ∷ []) was)
@@ -191,8 +188,8 @@ opened_first new image now = stands First 1 new image (record { is_in = now.is_i
 
 -- both gates are open where the other one of the current area is
 pub both_open : (area : Area) (image : List ℕ) → current_of image ≡ Some area → is_open (other area) image ≡ true → is_open area image ≡ true
-both_open First image is shut = ⊎_elim (λ yes. yes) (λ no. cc (sym (current_one Second image shut no) ∙ is)) (bool_cases (is_open First image))
-both_open Second image is shut = ⊎_elim (λ yes. yes) (λ no. cc (sym (current_one First image shut no) ∙ is)) (bool_cases (is_open Second image))
+both_open First image is shut = ⊎_elim (λ yes. yes) (λ no. cc (sym (current_one Second image shut no) ∙ is)) (true_or_false (is_open First image))
+both_open Second image is shut = ⊎_elim (λ yes. yes) (λ no. cc (sym (current_one First image shut no) ∙ is)) (true_or_false (is_open Second image))
 
 same_current : (area : Area) (was image : List ℕ) → is_open area image ≡ is_open area was → is_open (other area) image ≡ is_open (other area) was → body_of area image ≡ body_of area was → body_of (other area) image ≡ body_of (other area) was → current_of image ≡ current_of was
 same_current First was image a b c d = cc
@@ -208,7 +205,7 @@ settling_torn area was image is both same =
     ⊎_elim
     (λ still. same_current area was image is_in (still ∙ sym both) body other_body ∙ is)
     (λ shut. current_one area image (is_in ∙ both_open area was is both) shut)
-    (bool_cases (is_open (other area) image)) in
+    (true_or_false (is_open (other area) image)) in
     rows_by image (Some area) current ∙ ap rows_of_body body ∙ sym (rows_by was (Some area) is)
 
 pub settled_by_closing : (area : Area) (was : List ℕ) → 16384 ≤ length was → current_of was ≡ Some area → is_open (other area) was ≡ true

@@ -10,10 +10,12 @@ use Rattle.sfs_tree.specs.History.{IsLegal}
 use Rattle.sfs_tree.specs.Laws.{IsSoundTree}
 use Rattle.flush_core.specs.Cut.{Cut, cut_of, counted_rows_at_cut}
 use Rattle.flush_core.specs.Rules.{IsChange}
-use Rattle.flush_core.specs.Closure.{Flush, InSpan, HasNaming, Closure, itself, other_side, ended, ancestor, birth_place, IsConcerned, member, named, IsNamedIn, IsRaised, IsReached, IsDead}
-use Rattle.flush_core.proofs.Runs.{below_or}
+use Rattle.flush_core.specs.Closure.{Flush, InSpan, HasNaming, Closure, IsConcerned, member, IsNamedIn, IsRaised, IsReached, IsDead}
+use Rattle.flush_core.specs.Runs.{CommitView, Concerns}
+use Rattle.flush_core.proofs.Basics.{below_or}
 use Rattle.flush_core.proofs.NamedRows.{names_decide_rows}
 use Rattle.flush_core.proofs.Views.{below, Agree, Agrees}
+use Rattle.flush_core.proofs.Alike.{Carries, member_carried, concerned_carried}
 
 -- Two cuts leave the same changes unflushed of those below a stamp that name a node.
 abbrev pub LeaveTheSame : TreeState → List Entry → ℕ → Cut → Cut → ℕ → Type 0
@@ -94,34 +96,42 @@ module _ (first : TreeState) (history : List Entry) (n : ℕ) (is : IsSoundTree 
     span_back : (x : RowChange) → IsMember x.directory → InSpan first history (below n) other flush.stamp x → InSpan first history (below n) cut flush.stamp x
     span_back x own span = record { is_change = span.is_change; counted = span.counted; from = subst (λ (k : ℕ). k ≤ x.stamp) (sym (agree_member own).cuts) span.from; below = span.below }
 
+    abbrev view : CommitView
+    view = record { history = history; counts = below n; cut = cut; inodes = inodes }
+
+    abbrev other_view : CommitView
+    other_view = record { history = history; counts = below n; cut = other; inodes = other_inodes }
+
+    -- what makes a member by one of the cuts does so by the other
+    there : Carries first flush view other_view
+    there = record {
+      span = λ x own _ span. span_there x own span;
+      moves = λ x span move. move;
+      stands = λ x above span way. way;
+      births = λ birth own _ l. let a = agree_member own in record { one = l.one; lacks = sym a.inode ∙ l.lacks; naming = naming_same cut other birth.node a.unflushed l.naming };
+    }
+
+    back : Carries first flush other_view view
+    back = record {
+      span = λ x _ own span. span_back x own span;
+      moves = λ x span move. move;
+      stands = λ x above span way. way;
+      births = λ birth _ own l. let a = agree_member own in record { one = l.one; lacks = a.inode ∙ l.lacks; naming = naming_same other cut birth.node (same_back first history n cut other birth.node a.unflushed) l.naming };
+    }
+
     -- the members are the same
     pub member_there : {node : ℕ} → IsMember node → Closure first history (below n) other other_inodes flush node
-    member_there itself = itself
-    member_there (other_side change node own span two) = other_side change node (member_there own) (span_there change own span) two
-    member_there (ended change own span ends) = ended change (member_there own) (span_there change own span) ends
-    member_there (ancestor change above node own span move way among) = ancestor change above node (member_there own) (span_there change own span) move way among
-    member_there (birth_place birth own one none naming) =
-        let a = agree_member own in
-        birth_place birth (member_there own) one (sym a.inode ∙ none) (naming_same cut other birth.node a.unflushed naming)
+    member_there own = member_carried first flush there own
 
     pub member_back : {node : ℕ} → Closure first history (below n) other other_inodes flush node → IsMember node
-    member_back itself = itself
-    member_back (other_side change node own span two) = let back = member_back own in other_side change node back (span_back change back span) two
-    member_back (ended change own span ends) = let back = member_back own in ended change back (span_back change back span) ends
-    member_back (ancestor change above node own span move way among) = let back = member_back own in ancestor change above node back (span_back change back span) move way among
-    member_back (birth_place birth own one none naming) =
-        let back = member_back own in
-        let a = agree_member back in
-        birth_place birth back one (a.inode ∙ none) (naming_same other cut birth.node (same_back first history n cut other birth.node a.unflushed) naming)
+    member_back own = member_carried first flush back own
 
     -- so are the nodes that are concerned
-    pub concerned_there : (node : ℕ) → IsConcerned first history (below n) cut inodes flush node → IsConcerned first history (below n) other other_inodes flush node
-    concerned_there node (member _ own) = member node (member_there own)
-    concerned_there _ (named change own span) = named change (member_there own) (span_there change own span)
+    pub concerned_there : (node : ℕ) → Concerns first flush view node → Concerns first flush other_view node
+    concerned_there = concerned_carried first flush there
 
-    pub concerned_back : (node : ℕ) → IsConcerned first history (below n) other other_inodes flush node → IsConcerned first history (below n) cut inodes flush node
-    concerned_back node (member _ own) = member node (member_back own)
-    concerned_back _ (named change own span) = let back = member_back own in named change back (span_back change back span)
+    pub concerned_back : (node : ℕ) → Concerns first flush other_view node → Concerns first flush view node
+    concerned_back = concerned_carried first flush back
 
     module _ (raised other_raised : Cut) (raise : IsRaised first history (below n) cut inodes flush raised) (other_raise : IsRaised first history (below n) other other_inodes flush other_raised) where
       member_stamp : {node : ℕ} → IsMember node → cut_of raised node ≡ cut_of other_raised node
@@ -155,28 +165,22 @@ module _ (first : TreeState) (history : List Entry) (n : ℕ) (is : IsSoundTree 
 pub agrees : Agrees
 agrees first history n flush cut other inodes other_inodes is legal agree = record {
   members = λ node. (λ own. member_there first history n is legal flush cut other inodes other_inodes agree own, λ own. member_back first history n is legal flush cut other inodes other_inodes agree own);
-  concerned = λ node. (there node, back node);
+  concerned = λ node. (concerned_there first history n is legal flush cut other inodes other_inodes agree node, concerned_back first history n is legal flush cut other inodes other_inodes agree node);
   stamps = λ raised other_raised raise other_raise node concerned. stamp_same first history n is legal flush cut other inodes other_inodes agree raised other_raised raise other_raise node (agree node concerned).cuts;
   rows = λ raised other_raised raise other_raise node directory name concerned. rows_same first history n is legal raised other_raised node (leave raised other_raised raise other_raise node concerned) directory name;
   enters = λ raised other_raised raise other_raise node. (
-    λ e. (sym (agree node e.1).inode ∙ e.0, there node e.1, reached_same first history n is legal raised other_raised node (leave raised other_raised raise other_raise node e.1) flush e.2),
+    λ e. (sym (agree node e.1).inode ∙ e.0, concerned_there first history n is legal flush cut other inodes other_inodes agree node e.1, reached_same first history n is legal raised other_raised node (leave raised other_raised raise other_raise node e.1) flush e.2),
     λ e.
-        let own = back node e.1 in
+        let own = concerned_back first history n is legal flush cut other inodes other_inodes agree node e.1 in
         ((agree node own).inode ∙ e.0, own, reached_same first history n is legal other_raised raised node (same_back first history n raised other_raised node (leave raised other_raised raise other_raise node own)) flush e.2),
   );
   leaves = λ raised other_raised raise other_raise node. (
-    λ e. (sym (agree node e.1).inode ∙ e.0, there node e.1, dead_same first history n is legal raised other_raised node (leave raised other_raised raise other_raise node e.1) e.2),
+    λ e. (sym (agree node e.1).inode ∙ e.0, concerned_there first history n is legal flush cut other inodes other_inodes agree node e.1, dead_same first history n is legal raised other_raised node (leave raised other_raised raise other_raise node e.1) e.2),
     λ e.
-        let own = back node e.1 in
+        let own = concerned_back first history n is legal flush cut other inodes other_inodes agree node e.1 in
         ((agree node own).inode ∙ e.0, own, dead_same first history n is legal other_raised raised node (same_back first history n raised other_raised node (leave raised other_raised raise other_raise node own)) e.2),
   );
 }
   where
-    there : (node : ℕ) → IsConcerned first history (below n) cut inodes flush node → IsConcerned first history (below n) other other_inodes flush node
-    there = concerned_there first history n is legal flush cut other inodes other_inodes agree
-
-    back : (node : ℕ) → IsConcerned first history (below n) other other_inodes flush node → IsConcerned first history (below n) cut inodes flush node
-    back = concerned_back first history n is legal flush cut other inodes other_inodes agree
-
     leave : (raised other_raised : Cut) → IsRaised first history (below n) cut inodes flush raised → IsRaised first history (below n) other other_inodes flush other_raised → (node : ℕ) → IsConcerned first history (below n) cut inodes flush node → LeaveTheSame first history n raised other_raised node
     leave raised other_raised raise other_raise node concerned = leave_same first history n is legal flush cut other inodes other_inodes agree raised other_raised raise other_raise node (agree node concerned).unflushed

@@ -1,6 +1,6 @@
 -- When an fsync does the same by two histories and two ways to count their entries, at one cut.
 use Rattle.std.proofs.Common.{◌≡◌, ℕ, Bool, false, List, take, inl, inr, refl, ap, ◌∙◌}
-use Rattle.std.specs.Prelude.{◌↔◌}
+use Rattle.std.specs.Prelude.{◌↔◌, max}
 use Rattle.std.specs.FinMap.{FinMap, get}
 use Rattle.sfs_tree.specs.Order.{key_cmp}
 use Rattle.sfs_tree.specs.declared.history.Entry.{Entry}
@@ -8,40 +8,55 @@ use Rattle.sfs_tree.specs.Tree.{TreeState}
 use Rattle.sfs_tree.specs.Sound.{Above}
 use Rattle.sfs_tree.specs.Changes.{RowChange}
 use Rattle.sfs_tree.specs.History.{tree_after}
-use Rattle.flush_core.specs.Cut.{Cut, counted_rows_at_cut}
+use Rattle.flush_core.specs.Cut.{Cut, cut_of, counted_rows_at_cut}
 use Rattle.flush_core.specs.Rules.{IsOneOf, IsMove, Birth, births_of}
 use Rattle.flush_core.specs.Closure.{Counts, Flush, InSpan, HasNaming, Closure, itself, other_side, ended, ancestor, birth_place, IsConcerned, member, named, IsRaised, IsReached, IsDead, AreInodesAfter}
-use Rattle.flush_core.specs.Runs.{CommitView}
+use Rattle.flush_core.specs.Runs.{CommitView, Concerns, Raises}
 use Rattle.flush_core.proofs.Views.{AreAlike}
 
--- What makes a member by one history's entries that count does so by another's.
-pub record Carries (first : TreeState) (history : List Entry) (counts : Counts) (other : List Entry) (other_counts : Counts) (cut : Cut) (inodes : ℕ → Bool) (flush : Flush) : Type 0 where
-  pub span : (change : RowChange) → InSpan first history counts cut flush.stamp change → InSpan first other other_counts cut flush.stamp change
-  pub moves : (change : RowChange) → InSpan first history counts cut flush.stamp change → IsMove first history change → IsMove first other change
-  pub stands : (change : RowChange) (above : List ℕ) → InSpan first history counts cut flush.stamp change → Above (tree_after first (take change.stamp history)) change.directory above → Above (tree_after first (take change.stamp other)) change.directory above
-  pub births : (birth : Birth) → Closure first history counts cut inodes flush birth.node → IsOneOf (births_of first history) birth → inodes birth.node ≡ false → HasNaming first history counts cut birth.node → IsOneOf (births_of first other) birth × HasNaming first other other_counts cut birth.node
+module _ (first : TreeState) (flush : Flush) where
+  -- a member by a view, and a change in a span by it
+  abbrev pub IsMember : CommitView → ℕ → Type 0
+  IsMember view node = Closure first view.history view.counts view.cut view.inodes flush node
 
-module _ {first : TreeState} {history other : List Entry} {counts other_counts : Counts} {cut : Cut} {inodes : ℕ → Bool} {flush : Flush} where
+  abbrev pub IsSpanned : CommitView → RowChange → Type 0
+  IsSpanned view change = InSpan first view.history view.counts view.cut flush.stamp change
+
+  -- A birth by a view whose node has no inode and a naming that is not flushed.
+  pub record IsLacking (view : CommitView) (birth : Birth) : Type 0 where
+    pub one : IsOneOf (births_of first view.history) birth
+    pub lacks : view.inodes birth.node ≡ false
+    pub naming : HasNaming first view.history view.counts view.cut birth.node
+
+  -- What makes a member by one view does so by another, where both have the member that makes it.
+  pub record Carries (view other : CommitView) : Type 0 where
+    pub span : (change : RowChange) → IsMember view change.directory → IsMember other change.directory → IsSpanned view change → IsSpanned other change
+    pub moves : (change : RowChange) → IsSpanned view change → IsMove first view.history change → IsMove first other.history change
+    pub stands : (change : RowChange) (above : List ℕ) → IsSpanned view change → Above (tree_after first (take change.stamp view.history)) change.directory above → Above (tree_after first (take change.stamp other.history)) change.directory above
+    pub births : (birth : Birth) → IsMember view birth.node → IsMember other birth.node → IsLacking view birth → IsLacking other birth
+
   -- members are carried
-  pub member_carried : Carries first history counts other other_counts cut inodes flush → {node : ℕ} → Closure first history counts cut inodes flush node → Closure first other other_counts cut inodes flush node
+  pub member_carried : {view other : CommitView} → Carries view other → {node : ℕ} → IsMember view node → IsMember other node
   member_carried c itself = itself
-  member_carried c (other_side change node own span two) = other_side change node (member_carried c own) (c.span change span) two
-  member_carried c (ended change own span ends) = ended change (member_carried c own) (c.span change span) ends
-  member_carried c (ancestor change above node own span move way among) = ancestor change above node (member_carried c own) (c.span change span) (c.moves change span move) (c.stands change above span way) among
-  member_carried c (birth_place birth own one none naming) = let found = c.births birth own one none naming in birth_place birth (member_carried c own) found.0 none found.1
+  member_carried c (other_side change node own span two) = let there = member_carried c own in other_side change node there (c.span change own there span) two
+  member_carried c (ended change own span ends) = let there = member_carried c own in ended change there (c.span change own there span) ends
+  member_carried c (ancestor change above node own span move way among) = let there = member_carried c own in ancestor change above node there (c.span change own there span) (c.moves change span move) (c.stands change above span way) among
+  member_carried c (birth_place birth own one none naming) =
+      let there = member_carried c own in
+      let found = c.births birth own there (record { one = one; lacks = none; naming = naming }) in
+      birth_place birth there found.one found.lacks found.naming
 
   -- so are the nodes that are concerned
-  pub concerned_carried : Carries first history counts other other_counts cut inodes flush → (node : ℕ) → IsConcerned first history counts cut inodes flush node → IsConcerned first other other_counts cut inodes flush node
+  pub concerned_carried : {view other : CommitView} → Carries view other → (node : ℕ) → Concerns first flush view node → Concerns first flush other node
   concerned_carried c node (member _ own) = member node (member_carried c own)
-  concerned_carried c _ (named change own span) = named change (member_carried c own) (c.span change span)
+  concerned_carried c _ (named change own span) = let there = member_carried c own in named change there (c.span change own there span)
 
--- and where they are carried both ways, raised cuts are the same
-pub raise_carried : {first : TreeState} {history other : List Entry} {counts other_counts : Counts} {cut : Cut} {inodes : ℕ → Bool} {flush : Flush} → Carries first history counts other other_counts cut inodes flush → Carries first other other_counts history counts cut inodes flush → (raised : Cut)
-    → IsRaised first history counts cut inodes flush raised → IsRaised first other other_counts cut inodes flush raised
-raise_carried there back raised raise = record {
-  member = λ node own. raise.member node (member_carried back own);
-  other = λ node. elim (raise.other node) [ inl own ↦ inl (member_carried there own) | inr same ↦ inr same ];
-}
+  -- and where they are carried both ways, raised cuts are the same
+  pub raise_carried : (view other : CommitView) → view.cut ≡ other.cut → Carries view other → Carries other view → (raised : Cut) → Raises first flush view raised → Raises first flush other raised
+  raise_carried view other same there back raised raise = record {
+    member = λ node own. raise.member node (member_carried back own) ∙ ap (λ (c : Cut). max (cut_of c node) flush.stamp) same;
+    other = λ node. elim (raise.other node) [ inl own ↦ inl (member_carried there own) | inr e ↦ inr (e ∙ ap (λ (c : Cut). cut_of c node) same) ];
+  }
 
 -- What else two ways to count have to give alike.
 pub record GiveAlike (first : TreeState) (history : List Entry) (counts : Counts) (other : List Entry) (other_counts : Counts) (cut : Cut) (inodes : ℕ → Bool) (flush : Flush) (raised : Cut) : Type 0 where
@@ -50,16 +65,16 @@ pub record GiveAlike (first : TreeState) (history : List Entry) (counts : Counts
   pub dead : (node : ℕ) → IsConcerned first history counts cut inodes flush node → IsDead first history counts raised node ↔ IsDead first other other_counts raised node
 
 -- the two make two views alike
-pub are_alike : (first : TreeState) (history : List Entry) (counts : Counts) (other : List Entry) (other_counts : Counts) (cut : Cut) (inodes : ℕ → Bool) (flush : Flush) → Carries first history counts other other_counts cut inodes flush
-    → Carries first other other_counts history counts cut inodes flush
+pub are_alike : (first : TreeState) (history : List Entry) (counts : Counts) (other : List Entry) (other_counts : Counts) (cut : Cut) (inodes : ℕ → Bool) (flush : Flush) → Carries first flush (record { history = history; counts = counts; cut = cut; inodes = inodes }) (record { history = other; counts = other_counts; cut = cut; inodes = inodes })
+    → Carries first flush (record { history = other; counts = other_counts; cut = cut; inodes = inodes }) (record { history = history; counts = counts; cut = cut; inodes = inodes })
     → ((raised : Cut) → IsRaised first history counts cut inodes flush raised → GiveAlike first history counts other other_counts cut inodes flush raised)
     → AreAlike first flush (record { history = history; counts = counts; cut = cut; inodes = inodes }) (record { history = other; counts = other_counts; cut = cut; inodes = inodes })
 are_alike first history counts other other_counts cut inodes flush there back give = record {
   cuts = refl;
   inodes = λ node. refl;
-  members = λ node. (λ own. member_carried there own, λ own. member_carried back own);
-  concerned = λ node. (concerned_carried there node, concerned_carried back node);
-  raises = λ raised. (raise_carried there back raised, raise_carried back there raised);
+  members = λ node. (λ own. member_carried first flush there own, λ own. member_carried first flush back own);
+  concerned = λ node. (concerned_carried first flush there node, concerned_carried first flush back node);
+  raises = λ raised. (raise_carried first flush _ _ refl there back raised, raise_carried first flush _ _ refl back there raised);
   rows = λ raised raise directory name. ap (λ (rows : FinMap key_cmp ℕ). get rows (directory, name)) (give raised raise).rows;
   reached = λ raised raise. (give raised raise).reached;
   dead = λ raised raise. (give raised raise).dead;

@@ -1,5 +1,5 @@
 -- A legal history as a run.
-use Rattle.std.proofs.Common.{◌≡◌, ℕ, zero, suc, ◌+◌, ◌≤◌, Bool, true, false, not, List, [], ◌∷◌, ◌++◌, length, take, Option, Some, None, IsSome, option_map, ◌⊎◌, inl, inr, refl, sym, ap, subst, ◌∙◌, arith, append_assoc}
+use Rattle.std.proofs.Common.{◌≡◌, ℕ, zero, suc, ◌+◌, ◌≤◌, true, false, List, [], ◌∷◌, ◌++◌, length, take, Option, Some, None, IsSome, option_map, inl, inr, refl, sym, ap, subst, ◌∙◌, arith, append_assoc}
 use Rattle.std.specs.FinMap.{get}
 use Rattle.sfs_base.specs.declared.numbers.Kind.{Kind}
 use Rattle.sfs_tree.specs.declared.history.Entry.{Entry}
@@ -19,9 +19,10 @@ use Rattle.sfs_tree.proofs.Fitting.{not_so}
 use Rattle.sfs_tree.proofs.Holders.{directory_stays}
 use Rattle.sfs_tree.proofs.OwnEffects as own
 use Rattle.flush_core.specs.Rules.{IsOneOf, Birth, births_by, births_of}
+use Rattle.flush_core.proofs.Basics.{in_either, in_left, in_right, not_false, plus_zero, suc_plus, zero_plus}
 use Rattle.flush_core.proofs.Nodes.{node_stays}
 use Rattle.flush_core.proofs.Own.{stamp_of}
-use Rattle.flush_core.proofs.Runs.{Run}
+use Rattle.flush_core.proofs.Runs.{Run, Made}
 
 -- the tree after so many entries, and what the next one does
 abbrev pub tree_at : TreeState → List Entry → ℕ → TreeState
@@ -53,6 +54,10 @@ tree_at-after first (entry ∷ history) (suc t) = tree_at-after (tree_after_entr
 pub tree_at-first : (first : TreeState) (history : List Entry) → tree_at first history 0 ≡ first
 tree_at-first first [] = refl
 tree_at-first first (entry ∷ history) = refl
+
+-- so it has the first tree's nodes
+pub node_first : (first : TreeState) (history : List Entry) (x : ℕ) → IsSome (get first.nodes x) → IsSome (get (tree_at first history 0).nodes x)
+node_first first history x some = subst (λ (tree : TreeState). IsSome (get tree.nodes x)) (sym (tree_at-first first history)) some
 
 pub tree_at-end : (first : TreeState) (history : List Entry) → tree_at first history (length history) ≡ tree_after first history
 tree_at-end first [] = refl
@@ -91,10 +96,6 @@ link_file tree file directory name =
           subst (λ (x : ℕ). (is_directory tree x ≡ false) × (is_alive tree x ≡ true)) (child d n c same) ((not_so _ _ _ one.1).0, not_false (is_alive tree file) one.0)
     ] refl
   where
-    not_false : (b : Bool) → not b ≡ false → b ≡ true
-    not_false true e = refl
-    not_false false e = cc
-
     child : (d : ℕ) (n : List ℕ) (c : ℕ) → Adds directory name file ≡ Adds d n c → file ≡ c
     child d n c e = cc
 
@@ -160,22 +161,6 @@ run_of first history is legal = record {
   files = λ t d n c adds makes. (files_at first history t d n c adds makes).0;
 }
 
--- the changes and births of a history are those of its stamps
-pub in_left : {X : Type 0} (xs ys : List X) (x : X) → IsOneOf xs x → IsOneOf (xs ++ ys) x
-in_left [] ys x one = absurd one
-in_left (y ∷ xs) ys x one = elim one [ inl e ↦ inl e | inr rest ↦ inr (in_left xs ys x rest) ]
-
-pub in_right : {X : Type 0} (xs ys : List X) (x : X) → IsOneOf ys x → IsOneOf (xs ++ ys) x
-in_right [] ys x one = one
-in_right (y ∷ xs) ys x one = inr (in_right xs ys x one)
-
-pub in_either : {X : Type 0} (xs ys : List X) (x : X) → IsOneOf (xs ++ ys) x → IsOneOf xs x ⊎ IsOneOf ys x
-in_either [] ys x one = inr one
-in_either (y ∷ xs) ys x one = elim one [
-  | inl e ↦ inl (inl e)
-  | inr rest ↦ elim (in_either xs ys x rest) [ inl left ↦ inl (inr left) | inr right ↦ inr right ]
-]
-
 -- the changes at a stamp, and the births
 abbrev pub changes_in : TreeState → List Entry → ℕ → ℕ → List RowChange
 changes_in first history stamp t = changes_by (tree_at first history t) (stamp + t) (effect_at first history t)
@@ -183,32 +168,23 @@ changes_in first history stamp t = changes_by (tree_at first history t) (stamp +
 stamped : (tree : TreeState) (effect : Effect) (a b : ℕ) (x : RowChange) → a ≡ b → IsOneOf (changes_by tree a effect) x → IsOneOf (changes_by tree b effect) x
 stamped tree effect a b x e one = subst (λ (s : ℕ). IsOneOf (changes_by tree s effect) x) e one
 
-plus_zero : (n : ℕ) → n + 0 ≡ n
-plus_zero n = omega arith
-
-one_on : (n m : ℕ) → n + suc m ≡ suc n + m
-one_on n m = omega arith
-
 change_from : (first : TreeState) (history : List Entry) (stamp t : ℕ) (x : RowChange) → IsLegalFrom first stamp history → IsOneOf (changes_by (tree_at first history t) (stamp + t) (effect_at first history t)) x → IsOneOf (changes_of first history) x
 change_from first [] stamp t x legal one = absurd one
 change_from first (entry ∷ history) stamp zero x legal one = in_left _ _ x (stamped first (verdict first entry.core.0 entry.call).effect (stamp + 0) entry.stamp.0 x (plus_zero stamp ∙ sym legal.0.stamped) one)
-change_from first (entry ∷ history) stamp (suc t) x legal one = in_right _ _ x (change_from (tree_after_entry first entry) history (suc stamp) t x legal.1 (stamped (tree_at (tree_after_entry first entry) history t) (effect_at (tree_after_entry first entry) history t) (stamp + suc t) (suc stamp + t) x (one_on stamp t) one))
+change_from first (entry ∷ history) stamp (suc t) x legal one = in_right _ _ x (change_from (tree_after_entry first entry) history (suc stamp) t x legal.1 (stamped (tree_at (tree_after_entry first entry) history t) (effect_at (tree_after_entry first entry) history t) (stamp + suc t) (suc stamp + t) x (sym (suc_plus stamp t)) one))
 
 -- a change of a history stands at one of its stamps
 change_at : (first : TreeState) (history : List Entry) (stamp : ℕ) (x : RowChange) → IsLegalFrom first stamp history → IsOneOf (changes_of first history) x → (t : ℕ) × IsOneOf (changes_by (tree_at first history t) (stamp + t) (effect_at first history t)) x
 change_at first [] stamp x legal one = absurd one
 change_at first (entry ∷ history) stamp x legal one = elim (in_either _ _ x one) [
   | inl here ↦ (0, stamped first (verdict first entry.core.0 entry.call).effect entry.stamp.0 (stamp + 0) x (legal.0.stamped ∙ sym (plus_zero stamp)) here)
-  | inr rest ↦ let found = change_at (tree_after_entry first entry) history (suc stamp) x legal.1 rest in (suc found.0, stamped (tree_at (tree_after_entry first entry) history found.0) (effect_at (tree_after_entry first entry) history found.0) (suc stamp + found.0) (stamp + suc found.0) x (sym (one_on stamp found.0)) found.1)
+  | inr rest ↦ let found = change_at (tree_after_entry first entry) history (suc stamp) x legal.1 rest in (suc found.0, stamped (tree_at (tree_after_entry first entry) history found.0) (effect_at (tree_after_entry first entry) history found.0) (suc stamp + found.0) (stamp + suc found.0) x (suc_plus stamp found.0) found.1)
 ]
 
 birth_from : (first : TreeState) (history : List Entry) (stamp t : ℕ) (birth : Birth) → IsLegalFrom first stamp history → IsOneOf (births_by (stamp + t) (effect_at first history t) (makes_at first history t)) birth → IsOneOf (births_of first history) birth
 birth_from first [] stamp t birth legal one = absurd one
 birth_from first (entry ∷ history) stamp zero birth legal one = in_left _ _ birth (subst (λ (s : ℕ). IsOneOf (births_by s (verdict first entry.core.0 entry.call).effect (verdict first entry.core.0 entry.call).makes) birth) (plus_zero stamp ∙ sym legal.0.stamped) one)
-birth_from first (entry ∷ history) stamp (suc t) birth legal one = in_right _ _ birth (birth_from (tree_after_entry first entry) history (suc stamp) t birth legal.1 (subst (λ (s : ℕ). IsOneOf (births_by s (effect_at (tree_after_entry first entry) history t) (makes_at (tree_after_entry first entry) history t)) birth) (one_on stamp t) one))
-
-zero_plus : (n : ℕ) → 0 + n ≡ n
-zero_plus n = omega arith
+birth_from first (entry ∷ history) stamp (suc t) birth legal one = in_right _ _ birth (birth_from (tree_after_entry first entry) history (suc stamp) t birth legal.1 (subst (λ (s : ℕ). IsOneOf (births_by s (effect_at (tree_after_entry first entry) history t) (makes_at (tree_after_entry first entry) history t)) birth) (sym (suc_plus stamp t)) one))
 
 -- each change at a stamp is one of the history
 pub change_in : (first : TreeState) (history : List Entry) (t : ℕ) (x : RowChange) → IsLegal first history → IsOneOf (changes_by (tree_at first history t) t (effect_at first history t)) x → IsOneOf (changes_of first history) x
@@ -220,6 +196,9 @@ change_of first history x legal one =
     let found = change_at first history 0 x legal one in
     let here : IsOneOf (changes_by (tree_at first history found.0) found.0 (effect_at first history found.0)) x = stamped (tree_at first history found.0) (effect_at first history found.0) (0 + found.0) found.0 x (zero_plus found.0) found.1 in
     subst (λ (t : ℕ). IsOneOf (changes_by (tree_at first history t) t (effect_at first history t)) x) (sym (stamp_of (tree_at first history found.0) found.0 (effect_at first history found.0) x here)) here
+
+pub made_at : (first : TreeState) (history : List Entry) (is : IsSoundTree first) (legal : IsLegal first history) (x : RowChange) → IsOneOf (changes_of first history) x → Made (run_of first history is legal) x.stamp x
+made_at first history is legal x one = change_of first history x legal one
 
 -- each birth at a stamp is one of the history
 pub birth_in : (first : TreeState) (history : List Entry) (t : ℕ) (birth : Birth) → IsLegal first history → IsOneOf (births_by t (effect_at first history t) (makes_at first history t)) birth → IsOneOf (births_of first history) birth
@@ -260,7 +239,7 @@ till_from first (entry ∷ history) stamp zero legal =
 till_from first (entry ∷ history) stamp (suc t) legal =
     ap (λ l. changes_by first entry.stamp.0 (verdict first entry.core.0 entry.call).effect ++ l) (till_from (tree_after_entry first entry) history (suc stamp) t legal.1)
     ∙ sym (append_assoc (changes_by first entry.stamp.0 (verdict first entry.core.0 entry.call).effect) (changes_till (tree_after_entry first entry) history t) _)
-    ∙ ap (λ s. changes_till first (entry ∷ history) (suc t) ++ changes_by (tree_at (tree_after_entry first entry) history t) s (effect_at (tree_after_entry first entry) history t)) (sym (one_on stamp t))
+    ∙ ap (λ s. changes_till first (entry ∷ history) (suc t) ++ changes_by (tree_at (tree_after_entry first entry) history t) s (effect_at (tree_after_entry first entry) history t)) (suc_plus stamp t)
 
 pub changes_till-more : (first : TreeState) (history : List Entry) (t : ℕ) → IsLegal first history → changes_till first history (suc t) ≡ changes_till first history t ++ changes_by (tree_at first history t) t (effect_at first history t)
 changes_till-more first history t legal = till_from first history 0 t legal ∙ ap (λ s. changes_till first history t ++ changes_by (tree_at first history t) s (effect_at first history t)) (zero_plus t)

@@ -10,10 +10,9 @@ use Rattle.flush_core.specs.Rules.{IsOneOf}
 use Rattle.flush_core.specs.Closure.{Flush}
 use Rattle.flush_core.specs.Machine.{Flight, MachineState}
 use Rattle.flush_core.specs.Runs.{IsRun, flush_by, IsBegun, AreAlive, view_of, Concerns, ComesBefore, ShareANode, AreTied}
-use Rattle.flush_core.proofs.Own.{both}
-use Rattle.flush_core.proofs.Runs.{below_or}
+use Rattle.flush_core.proofs.Basics.{below_or, both, none_some, some_is}
 use Rattle.flush_core.proofs.RunFacts.{flight_found}
-use Rattle.flush_core.proofs.Begun.{some_is, none_some, begun_within, begun_once, one_flush}
+use Rattle.flush_core.proofs.Begun.{begun_within, begun_once, one_flush}
 use Rattle.flush_core.proofs.Flying.{flight_before}
 use Rattle.flush_core.proofs.Stays.{Stays, StayApart}
 use Rattle.flush_core.proofs.Flights.{stay_apart}
@@ -25,7 +24,7 @@ module _ (first : TreeState) (events : List Event) (states : ℕ → MachineStat
       (s.at.theirs node).1 (subst (λ (p : ℕ). Concerns first flight.flush (view_of (states p)) node) (begun_once first events states run begin s.begin flight.commit flush flight.flush begun s.at.begun) (subst (λ (f : Flush). Concerns first f (view_of (states begin)) node) (one_flush first events states run begin s.begin flight.commit flush flight.flush begun s.at.begun) concerned))
 
   -- a commit that becomes durable is a flight till then
-  durable_flies : (place commit : ℕ) → slice_get events place ≡ Some (event.Durable commit) → (flight : Flight) × IsOneOf (states place).flights flight × (flight.commit ≡ commit)
+  pub durable_flies : (place commit : ℕ) → slice_get events place ≡ Some (event.Durable commit) → (flight : Flight) × IsOneOf (states place).flights flight × (flight.commit ≡ commit)
   durable_flies place commit stands =
       let takes = run.steps place (event.Durable commit) stands in
       let found = flight_found (states place) commit takes.moves.0 takes.moves.2 in

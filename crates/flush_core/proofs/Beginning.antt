@@ -13,39 +13,22 @@ use Rattle.flush_core.specs.Closure.{Flush}
 use Rattle.flush_core.specs.Machine.{IsShared, BeginsFlight, Refuses, reason_place, IsRefused, Accepts}
 use Rattle.flush_core.specs.Flights.{flight_as, IsTaken, IsLeastTaken}
 use Rattle.flush_core.specs.State.{KeptState, machine_of}
+use Rattle.flush_core.proofs.Basics.{no_true, none_some}
 
 module _ (old : KeptState) (commit : ℕ) (node : NodeId) (stamp : Stamp) (running : old.crashed ≡ false) (going : old.failed ≡ None) where
   abbrev flush : Flush
   flush = record { node = node.0; stamp = stamp.0 }
 
-  no_crash : {P : Type 0} → old.crashed ≡ true → P
-  no_crash crashed = absurd (differ (sym running ∙ crashed))
-    where
-      differ : false ≡ true → ⊥
-      differ e = cc
-
-  no_fail : {P : Type 0} (failed : ℕ) → old.failed ≡ Some failed → P
-  no_fail failed is = absurd (differ (sym going ∙ is))
-    where
-      differ : {n : ℕ} → None ≡ Some n → ⊥
-      differ e = cc
-
-  none_named : {P : Type 0} {n : ℕ} → None ≡ Some n → P
-  none_named e = cc
-
-  no_needs : {P : Type 0} → false ≡ true → P
-  no_needs e = cc
-
   first_used : (other : Refused) → Refuses (machine_of old) (event.CutAt commit node stamp) other → 5 ≤ reason_place other
-  first_used refused.Crashed holds = no_crash holds
+  first_used refused.Crashed holds = no_true (sym running ∙ holds)
   first_used (refused.NotNext want) holds = absurd holds
   first_used (refused.NotLegal reply) holds = absurd holds
-  first_used (refused.Stopped failed) holds = no_fail failed holds.1
+  first_used (refused.Stopped failed) holds = none_some (sym going ∙ holds.1)
   first_used (refused.Used other) holds = omega arith
   first_used (refused.Meets met) holds = omega arith
   first_used (refused.Late late) holds = omega arith
-  first_used (refused.NotFlying other) holds = none_named holds
-  first_used (refused.NotOpened other) holds = no_needs holds.0
+  first_used (refused.NotFlying other) holds = none_some holds
+  first_used (refused.NotOpened other) holds = no_true holds.0
   first_used (refused.AlreadyOpened other) holds = absurd holds
   first_used refused.NoMemory holds = absurd holds
 
@@ -61,15 +44,15 @@ module _ (old : KeptState) (commit : ℕ) (node : NodeId) (stamp : Stamp) (runni
     share other has taken = record { concerned = (begins.concerned other).0 has; flight = taken.flight; flies = taken.flies; theirs = taken.concerned }
 
     first_meets : (other : Refused) → Refuses (machine_of old) (event.CutAt commit node stamp) other → 6 ≤ reason_place other
-    first_meets refused.Crashed holds = no_crash holds
+    first_meets refused.Crashed holds = no_true (sym running ∙ holds)
     first_meets (refused.NotNext want) holds = absurd holds
     first_meets (refused.NotLegal reply) holds = absurd holds
-    first_meets (refused.Stopped failed) holds = no_fail failed holds.1
+    first_meets (refused.Stopped failed) holds = none_some (sym going ∙ holds.1)
     first_meets (refused.Used other) holds = absurd (unused holds.0)
     first_meets (refused.Meets met) holds = omega arith
     first_meets (refused.Late late) holds = omega arith
-    first_meets (refused.NotFlying other) holds = none_named holds
-    first_meets (refused.NotOpened other) holds = no_needs holds.0
+    first_meets (refused.NotFlying other) holds = none_some holds
+    first_meets (refused.NotOpened other) holds = no_true holds.0
     first_meets (refused.AlreadyOpened other) holds = absurd holds
     first_meets refused.NoMemory holds = absurd holds
 
@@ -84,15 +67,15 @@ module _ (old : KeptState) (commit : ℕ) (node : NodeId) (stamp : Stamp) (runni
       apart other common = let both = shared other common in is_least.none other none both.0 both.1
 
       first_late : (other : Refused) → Refuses (machine_of old) (event.CutAt commit node stamp) other → 7 ≤ reason_place other
-      first_late refused.Crashed holds = no_crash holds
+      first_late refused.Crashed holds = no_true (sym running ∙ holds)
       first_late (refused.NotNext want) holds = absurd holds
       first_late (refused.NotLegal reply) holds = absurd holds
-      first_late (refused.Stopped failed) holds = no_fail failed holds.1
+      first_late (refused.Stopped failed) holds = none_some (sym going ∙ holds.1)
       first_late (refused.Used other) holds = absurd (unused holds.0)
       first_late (refused.Meets met) holds = absurd (apart met.0 holds.0)
       first_late (refused.Late late) holds = omega arith
-      first_late (refused.NotFlying other) holds = none_named holds
-      first_late (refused.NotOpened other) holds = no_needs holds.0
+      first_late (refused.NotFlying other) holds = none_some holds
+      first_late (refused.NotOpened other) holds = no_true holds.0
       first_late (refused.AlreadyOpened other) holds = absurd holds
       first_late refused.NoMemory holds = absurd holds
 
@@ -100,18 +83,18 @@ module _ (old : KeptState) (commit : ℕ) (node : NodeId) (stamp : Stamp) (runni
       late above = record { holds = (above, refl); first = first_late }
 
       none_holds : stamp.0 ≤ length old.entries → (why : Refused) → Refuses (machine_of old) (event.CutAt commit node stamp) why → ⊥
-      none_holds low refused.Crashed holds = no_crash holds
+      none_holds low refused.Crashed holds = no_true (sym running ∙ holds)
       none_holds low (refused.NotNext want) holds = holds
       none_holds low (refused.NotLegal reply) holds = holds
-      none_holds low (refused.Stopped failed) holds = no_fail failed holds.1
+      none_holds low (refused.Stopped failed) holds = none_some (sym going ∙ holds.1)
       none_holds low (refused.Used other) holds = unused holds.0
       none_holds low (refused.Meets met) holds = apart met.0 holds.0
       none_holds low (refused.Late late) holds = not_both low holds.0
         where
           not_both : {a b : ℕ} → a ≤ b → b < a → ⊥
           not_both le lt = omega arith
-      none_holds low (refused.NotFlying other) holds = none_named holds
-      none_holds low (refused.NotOpened other) holds = no_needs holds.0
+      none_holds low (refused.NotFlying other) holds = none_some holds
+      none_holds low (refused.NotOpened other) holds = no_true holds.0
       none_holds low (refused.AlreadyOpened other) holds = holds
       none_holds low refused.NoMemory holds = holds
 

@@ -1,5 +1,5 @@
 -- Where the commits of a run begin.
-use Rattle.std.proofs.Common.{◌≡◌, ℕ, zero, suc, ◌<◌, ◌≤◌, true, List, [], ◌∷◌, length, Some, None, inl, inr, refl, sym, ap, subst, ◌∙◌, arith}
+use Rattle.std.proofs.Common.{◌≡◌, ℕ, zero, suc, ◌<◌, ◌≤◌, true, List, [], ◌∷◌, length, Some, inl, inr, refl, sym, ap, subst, ◌∙◌, arith}
 use Rattle.std.specs.Prelude.{slice_get}
 use Rattle.std.proofs.lemmas.Option.{slice_get_within}
 use Rattle.sfs_base.specs.declared.numbers.NodeId.{NodeId}
@@ -12,8 +12,7 @@ use Rattle.flush_core.specs.Rules.{IsOneOf}
 use Rattle.flush_core.specs.Closure.{Flush}
 use Rattle.flush_core.specs.Machine.{Flight, MachineState, IsShared, Accepts}
 use Rattle.flush_core.specs.Runs.{IsRun, flush_by, IsBegun, view_of, Concerns}
-use Rattle.flush_core.proofs.Runs.{below_or}
-use Rattle.flush_core.proofs.Along.{in_left, in_right}
+use Rattle.flush_core.proofs.Basics.{below_or, in_left, in_right, is_next, none_below, some_is}
 use Rattle.flush_core.proofs.RunFacts.{steady_at, event_there}
 
 -- The event that begins a commit.
@@ -22,12 +21,6 @@ pub record IsCutAt (e : Event) (commit : ℕ) (flush : Flush) : Type 0 where
   pub stamp : Stamp
   pub same : e ≡ event.CutAt commit node stamp
   pub own : record { node = node.0; stamp = stamp.0 } ≡ flush
-
-pub some_is : {X : Type 0} {x y : X} → Some x ≡ Some y → x ≡ y
-some_is e = cc
-
-pub none_some : {X P : Type 0} {x : X} → None ≡ Some x → P
-none_some e = cc
 
 pub cut_at : (e : Event) (commit : ℕ) (flush : Flush) → flush_by e ≡ Some (commit, flush) → IsCutAt e commit flush
 cut_at (event.CutAt other node stamp) commit flush e = record { node = node; stamp = stamp; same = ap (λ (c : ℕ). event.CutAt c node stamp) (ap (λ (begun : ℕ × Flush). begun.0) (some_is e)); own = ap (λ (begun : ℕ × Flush). begun.1) (some_is e) }
@@ -83,18 +76,12 @@ module _ (first : TreeState) (events : List Event) (states : ℕ → MachineStat
   -- the numbers that are used in a state are so in later ones
   used_later : (place later commit : ℕ) → place ≤ later → later ≤ length events → IsOneOf (states place).used commit → IsOneOf (states later).used commit
   used_later place zero commit le within used = subst (λ (p : ℕ). IsOneOf (states p).used commit) (none_below place le) used
-    where
-      none_below : (p : ℕ) → p ≤ 0 → p ≡ 0
-      none_below p le = omega arith
   used_later place (suc later) commit le within used = elim (below_or later place) [
-    | inl lt ↦ subst (λ (p : ℕ). IsOneOf (states p).used commit) (same place later lt le) used
+    | inl lt ↦ subst (λ (p : ℕ). IsOneOf (states p).used commit) (is_next place later le lt) used
     | inr less ↦
         let there = event_there events later (omega arith) in
         used_step (states later) there.0 (states (suc later)) commit (run.steps later there.0 there.1) (used_later place later commit less (omega arith) used)
   ]
-    where
-      same : (p l : ℕ) → l < p → p ≤ suc l → p ≡ suc l
-      same p l lt le = omega arith
 
   begun_used : (place commit : ℕ) (flush : Flush) → IsBegun events place commit flush → IsOneOf (states (suc place)).used commit
   begun_used place commit flush begun =

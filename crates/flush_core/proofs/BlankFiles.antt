@@ -1,9 +1,9 @@
 -- A file without an inode was never flushed, or is dead; so one that gets an inode was blank.
-use Rattle.std.proofs.Common.{◌≡◌, ℕ, Bool, true, false, List, [], ◌∷◌, Option, Some, None, is_some, option_map, ◌⊎◌, inl, inr, refl, sym, ap, subst, ◌∙◌, ◌&&◌, nat_eq, arith}
-use Rattle.std.specs.Prelude.{filter, fold}
+use Rattle.std.proofs.Common.{◌≡◌, ℕ, Bool, true, false, List, [], Option, Some, None, is_some, option_map, ◌⊎◌, inl, inr, refl, sym, ap, subst, ◌∙◌, ◌&&◌, nat_eq, arith}
+use Rattle.std.specs.Prelude.{fold}
 use Rattle.std.specs.Option.{unwrap_or, option_map_or}
 use Rattle.std.specs.Ordering.{nat_cmp}
-use Rattle.std.specs.FinMap.{get, empty, get-empty}
+use Rattle.std.specs.FinMap.{get, get-empty}
 use Rattle.sfs_tree.specs.declared.history.Entry.{Entry}
 use Rattle.sfs_tree.specs.Tree.{TreeState, Node, is_directory, bytes_of}
 use Rattle.sfs_tree.specs.Effect.{edited}
@@ -12,9 +12,8 @@ use Rattle.sfs_tree.specs.History.{tree_after, IsLegal}
 use Rattle.sfs_tree.specs.Laws.{IsSoundTree}
 use Rattle.flush_core.specs.Cut.{Cut, cut_of, tree_at_cut}
 use Rattle.flush_core.specs.Closure.{every_entry, Flush, IsDead, none, one_more, AreFlushed}
-use Rattle.flush_core.specs.LawsInodes.{IsBlank, FilesEnterBlank}
-use Rattle.flush_core.proofs.Own.{both, filter_none}
-use Rattle.flush_core.proofs.Runs.{not_below}
+use Rattle.flush_core.specs.LawsInodes.{FilesEnterBlank}
+use Rattle.flush_core.proofs.Basics.{both, filter_none, not_below}
 use Rattle.flush_core.proofs.CutNodes.{node_at_cut_is}
 use Rattle.flush_core.proofs.MemberKinds.{member_directory}
 use Rattle.flush_core.proofs.KeptInodes.{settles, dead_after, entered_lives}

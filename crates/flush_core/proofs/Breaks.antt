@@ -18,9 +18,8 @@ use Rattle.flush_core.specs.Rules.{IsOneOf, IsChange, IsMove, IsLastPlacing, Bir
 use Rattle.flush_core.specs.Past.{IsPast, row_change_of, birth_of}
 use Rattle.flush_core.specs.Engine.{above_of}
 use Rattle.flush_core.specs.Broken.{CutKeeps, rule_place, IsFirstBroken, SomeIs, IsSplit, LeavesChange, IsBornLate, PlacesBelow, IsLatest, IsNext, LacksAncestor}
-use Rattle.flush_core.proofs.Own.{both}
+use Rattle.flush_core.proofs.Basics.{below_or, both}
 use Rattle.flush_core.proofs.Listed.{from_map, to_map}
-use Rattle.flush_core.proofs.Runs.{below_or}
 use Rattle.flush_core.proofs.Along.{tree_at, core_at, effect_at, makes_at, tree_at-after, sound_at, fits_at, change_of}
 use Rattle.flush_core.proofs.Lives.{live_own}
 use Rattle.flush_core.proofs.Brought.{kept_change, change_kept}
@@ -146,12 +145,12 @@ module _ (first : TreeState) (history : List Entry) (past : Past) (is : IsPast f
       let unplaced = lacks.lacks.unplaced in
       let list = kept_list own.above next.place next.within in
       let keeps = is.above own one in
-      let stand : Above (tree_after first (take own.stamp history)) own.directory (above_of own) = keeps.stand (above_of own) (list.0, list.1, list.2) in
+      let stand : Above (tree_after first (take own.stamp history)) own.directory (above_of own) = subst (λ (l : List ℕ). Above (tree_after first (take own.stamp history)) own.directory l) list.2 (keeps.stand list.0 list.1) in
       let row = row_on_way (tree_after first (take own.stamp history)) own.directory (above_of own) stand next.place node holder next.within next.node_is next.holder_is in
       let last = unplaced.latest.0 in
       let same : last.0.stamp ≡ unplaced.last = last.3 in
       let latest = λ (other : OwnChange) (other_in : IsOneOf changes other) (places : PlacesBelow node own.stamp other). subst (λ (t : ℕ). other.stamp ≤ t) (sym same) (unplaced.latest.1 other other_in places) in
-      let lt = whole (row_change_of own) (above_of own) node holder row.1.0 (row_change_of last.0) (keeps.is_move (above_of own) (list.0, list.1, list.2)) lacks.flushed stand row.0 row.1.1 (last_is node own.stamp last.0 last.1 last.2 latest) in
+      let lt = whole (row_change_of own) (above_of own) node holder row.1.0 (row_change_of last.0) (record { is_change = kept own one; moves = keeps.moves list.0 list.1 }) lacks.flushed stand row.0 row.1.1 (last_is node own.stamp last.0 last.1 last.2 latest) in
       let le = unplaced.late in omega arith
 
   module _ (sound : IsSoundTree first) (legal : IsLegal first history) where
@@ -161,7 +160,7 @@ module _ (first : TreeState) (history : List Entry) (past : Past) (is : IsPast f
     kept_above none own one above node holder name last move within stand on_way row is_it = elim (below_or last.stamp (cut_of cut holder)) [
       | inl lt ↦ lt
       | inr le ↦
-          let found = (is.above own one).all move above stand in
+          let found = (is.above own one).all move.moves above stand in
           let tree = tree_after first (take own.stamp history) in
           let next = next_on_way tree (histories_keep_sound first history own.stamp sound legal).sound own.directory above stand (changed_kind first history sound legal (row_change_of own) (kept own one)) node holder name on_way row in
           let same : above_of own ≡ above = ap (λ (o : Option (Vec ℕ Global)). option_map_or (λ (v : Vec ℕ Global). v.items) o []) found.1 ∙ found.2 in

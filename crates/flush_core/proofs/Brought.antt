@@ -11,7 +11,7 @@ use Rattle.flush_core.specs.declared.past.BornNode.{BornNode}
 use Rattle.flush_core.specs.declared.past.Past.{Past}
 use Rattle.flush_core.specs.declared.sets.NodeSet.{NodeSet}
 use Rattle.flush_core.specs.Cut.{Cut, cut_of}
-use Rattle.flush_core.specs.Rules.{IsOneOf, IsChange, IsMove, Birth, births_of}
+use Rattle.flush_core.specs.Rules.{IsOneOf, IsChange, MovesDirectory, IsMove, Birth, births_of}
 use Rattle.flush_core.specs.Closure.{every_entry, Flush, InSpan, HasNaming, Closure, itself, other_side, ended, ancestor, birth_place}
 use Rattle.flush_core.specs.Past.{IsPast, row_change_of, birth_of}
 use Rattle.flush_core.specs.NodeSets.{has_node}
@@ -71,7 +71,7 @@ module _ (first : TreeState) (history : List Entry) (past : Past) (is : IsPast f
     brought own node one member spans (inr (inr above)) =
         let kept = kept_above own.above node above in
         let keeps = is.above own one in
-        ancestor (row_change_of own) kept.0.items node member (in_span cut flush.stamp own one spans) (keeps.is_move kept.0.items (kept.0, kept.1, refl)) (keeps.stand kept.0.items (kept.0, kept.1, refl)) kept.2
+        ancestor (row_change_of own) kept.0.items node member (in_span cut flush.stamp own one spans) (record { is_change = kept_change own one; moves = keeps.moves kept.0 kept.1 }) (keeps.stand kept.0 kept.1) kept.2
 
     -- what the members bring in is in the closure where they are
     pub wanted_is_in : ((node : ℕ) → has_node members node ≡ true → IsIn node) → (node : ℕ) → IsWanted past cut inodes flush.stamp members node → IsIn node
@@ -109,7 +109,7 @@ module _ (first : TreeState) (history : List Entry) (past : Past) (is : IsPast f
 
       those_above : (change : RowChange) (above : List ℕ) (node : ℕ) → IsMove first history change → Above (tree_after first (take change.stamp history)) change.directory above → IsOneOf above node → (kept : OwnChange) → IsOneOf past.changes.items kept → row_change_of kept ≡ change → Brings kept node
       those_above change above node move stand one kept in_past e =
-          let found = (is.above kept in_past).all (subst (IsMove first history) (sym e) move) above (subst (λ (c : RowChange). Above (tree_after first (take c.stamp history)) c.directory above) (sym e) stand) in
+          let found = (is.above kept in_past).all (subst (λ (c : RowChange). MovesDirectory (tree_after first (take c.stamp history)) c) (sym e) move.moves) above (subst (λ (c : RowChange). Above (tree_after first (take c.stamp history)) c.directory above) (sym e) stand) in
           inr (inr (subst (λ o. IsOneOf (option_map_or (λ (v : Vec ℕ Global). v.items) o []) node) (sym found.1) (subst (λ l. IsOneOf l node) (sym found.2) one)))
 
       pub in_members : (node : ℕ) → IsIn node → has_node members node ≡ true

@@ -1,5 +1,5 @@
 -- A call that is told to a state.
-use Rattle.std.proofs.Common.{◌≡◌, ◌↔◌, ℕ, ◌<◌, ◌≤◌, Bool, true, false, ◌&&◌, [], ◌∷◌, ◌++◌, length, Some, None, IsSome, IsTrue, sym, ap, subst, ◌∙◌, arith}
+use Rattle.std.proofs.Common.{◌≡◌, ◌↔◌, ◌<◌, ◌≤◌, Bool, false, ◌&&◌, [], ◌∷◌, ◌++◌, length, IsSome, IsTrue, sym, ap, subst, ◌∙◌, arith}
 use Rattle.sfs_tree.specs.declared.history.Entry.{Entry}
 use Rattle.sfs_tree.specs.declared.reply.Reply.{Reply}
 use Rattle.sfs_tree.specs.Tree.{TreeState}
@@ -13,6 +13,7 @@ use Rattle.flush_core.specs.declared.past.Past.{Past}
 use Rattle.flush_core.specs.Machine.{Refuses, reason_place, IsRefused, Accepts}
 use Rattle.flush_core.specs.State.{KeptState, machine_of, HasDueAnswer}
 use Rattle.flush_core.specs.Story.{IsReadyPast}
+use Rattle.flush_core.proofs.Basics.{no_true, none_some}
 
 module _ (old : KeptState) (past : Past) (ready : IsReadyPast old.first old.entries past) where
   abbrev tree : TreeState
@@ -39,14 +40,8 @@ module _ (old : KeptState) (past : Past) (ready : IsReadyPast old.first old.entr
       acknowledged = subst (λ b. IsSome entry.ack ↔ IsTrue (b && is_ok_reply entry.reply)) flushing_now answered.acknowledged;
     }
 
-    no_crash : {P : Type 0} → old.crashed ≡ true → P
-    no_crash crashed = absurd (differ (sym running ∙ crashed))
-      where
-        differ : false ≡ true → ⊥
-        differ e = cc
-
     first_not_legal : (other : Refused) → Refuses (machine_of old) (event.Call entry) other → 3 ≤ reason_place other
-    first_not_legal refused.Crashed holds = no_crash holds
+    first_not_legal refused.Crashed holds = no_true (sym running ∙ holds)
     first_not_legal (refused.NotNext want) holds = absurd (holds.0 stamped)
     first_not_legal (refused.NotLegal other) holds = omega arith
     first_not_legal (refused.Stopped commit) holds = omega arith
@@ -62,24 +57,15 @@ module _ (old : KeptState) (past : Past) (ready : IsReadyPast old.first old.entr
     not_legal differs = record { holds = (λ may. differs (answered may), due_now); first = first_not_legal }
 
     none_holds : HasDueAnswer is_flush reply entry → (why : Refused) → Refuses (machine_of old) (event.Call entry) why → ⊥
-    none_holds right refused.Crashed holds = no_crash holds
+    none_holds right refused.Crashed holds = no_true (sym running ∙ holds)
     none_holds right (refused.NotNext want) holds = holds.0 stamped
     none_holds right (refused.NotLegal other) holds = holds.0 (may_come right)
-    none_holds right (refused.Stopped commit) holds = differ holds.0
-      where
-        differ : false ≡ true → ⊥
-        differ e = cc
+    none_holds right (refused.Stopped commit) holds = no_true holds.0
     none_holds right (refused.Used commit) holds = holds
     none_holds right (refused.Meets node) holds = holds
     none_holds right (refused.Late stamp) holds = holds
-    none_holds right (refused.NotFlying commit) holds = differ holds
-      where
-        differ : {n : ℕ} → None ≡ Some n → ⊥
-        differ e = cc
-    none_holds right (refused.NotOpened commit) holds = differ holds.0
-      where
-        differ : false ≡ true → ⊥
-        differ e = cc
+    none_holds right (refused.NotFlying commit) holds = none_some holds
+    none_holds right (refused.NotOpened commit) holds = no_true holds.0
     none_holds right (refused.AlreadyOpened commit) holds = holds
     none_holds right refused.NoMemory holds = holds
 

@@ -1,5 +1,5 @@
 -- The rows of a directory at a cut, their children, and the nodes that all rows at a cut name.
-use Rattle.std.proofs.Common.{◌≡◌, ℕ, ◌+◌, ◌<◌, Bool, true, false, cond, ◌&&◌, T, List, [], ◌∷◌, ◌++◌, length, map, take, get_or, Option, Some, None, IsSome, ◌↔◌, ◌⊎◌, inl, inr, refl, sym, ap, subst, ◌∙◌}
+use Rattle.std.proofs.Common.{◌≡◌, ℕ, ◌+◌, ◌<◌, Bool, true, false, cond, T, List, [], ◌∷◌, ◌++◌, length, map, take, get_or, Option, Some, None, IsSome, ◌↔◌, ◌⊎◌, inl, inr, refl, sym, ap, subst, ◌∙◌}
 use borrow.Author.Tests.{eqb-true}
 use Rattle.std.specs.Prelude.{filter, fold}
 use Rattle.std.specs.Option.{option_map_or}
@@ -20,7 +20,9 @@ use Rattle.sfs_tree.specs.Sound.{IsSound}
 use Rattle.sfs_tree.specs.Changes.{RowChange, is_own_below, with_change, changes_of}
 use Rattle.sfs_tree.proofs.Joined.{is_equal, name_cmp-IsAntisymmetric}
 use Rattle.sfs_tree.proofs.Names.{get-names_where}
-use Rattle.sfs_tree.proofs.Search.{both_first, both_second, is_less}
+use Rattle.sfs_tree.proofs.Search.{is_less}
+use Rattle.sfs_base.proofs.BasicTruth.{both_second}
+use Rattle.sfs_base.proofs.BasicTruth.{both_first}
 use Rattle.flush_core.specs.declared.past.OwnChange.{OwnChange}
 use Rattle.flush_core.specs.declared.past.Past.{Past}
 use Rattle.flush_core.specs.declared.sets.NodeSet.{NodeSet}
@@ -31,8 +33,8 @@ use Rattle.flush_core.specs.Past.{IsPast, row_change_of}
 use Rattle.flush_core.specs.NodeSets.{has_node}
 use Rattle.flush_core.specs.Engine.{OfSome, Joins}
 use Rattle.flush_core.specs.Named.{kept_rows, IsChild, IsChildOf, IsChildIn, AreChildren, AreNamed}
+use Rattle.flush_core.proofs.Basics.{and_second, both}
 use Rattle.flush_core.proofs.CutRows.{names_of-cut}
-use Rattle.flush_core.proofs.Own.{both}
 use Rattle.flush_core.proofs.Listed.{from_map, to_map}
 
 -- rows without a name stay when it is taken away
@@ -119,13 +121,9 @@ came : (d stamp : ℕ) (n : List ℕ) (node : ℕ) (rows : FinMap name_cmp ℕ) 
 came d stamp n node rows [] is = inl is
 came d stamp n node rows (x ∷ cs) is =
     elim (is_own_below d stamp (row_change_of x)) as (λ b. is_own_below d stamp (row_change_of x) ≡ b → get (fold with_change rows (cond b (row_change_of x ∷ filter (is_own_below d stamp) (map row_change_of cs)) (filter (is_own_below d stamp) (map row_change_of cs)))) n ≡ Some node → (get rows n ≡ Some node) ⊎ ((change : OwnChange) × IsOneOf (x ∷ cs) change × (change.directory ≡ d))) [
-      | true ↦ λ own _. inr (x, inl refl, eqb-true _ _ (second_true _ _ own))
+      | true ↦ λ own _. inr (x, inl refl, eqb-true _ _ (and_second _ _ own))
       | false ↦ λ _ here. elim (came d stamp n node rows cs here) [ inl stood ↦ inl stood | inr (change, one, same) ↦ inr (change, inr one, same) ]
     ] refl is
-  where
-    second_true : (a b : Bool) → (a && b) ≡ true → b ≡ true
-    second_true true b is_both = is_both
-    second_true false b is_both = absurd (both is_both refl)
 
 -- what is a directory of a tree is one of its nodes
 directory_there : (found : Option Node) → option_map_or (λ (n : Node). is_directory_kind n.kind) found false ≡ true → IsSome found

@@ -12,9 +12,10 @@ use Rattle.sfs_tree.specs.History.{IsLegal}
 use Rattle.sfs_tree.specs.Laws.{IsSoundTree}
 use Rattle.sfs_tree.proofs.RowFacts.{IsNamed, alive_named, added_cases, removed_cases}
 use Rattle.flush_core.specs.Rules.{IsOneOf}
-use Rattle.flush_core.proofs.Own.{both, comes_in}
+use Rattle.flush_core.proofs.Basics.{below_or, both, is_next, none_below}
+use Rattle.flush_core.proofs.Own.{comes_in}
 use Rattle.flush_core.proofs.Placed.{IsBorn}
-use Rattle.flush_core.proofs.Runs.{Run, Made, Seen, below_or}
+use Rattle.flush_core.proofs.Runs.{Run, Made, Seen}
 use Rattle.flush_core.proofs.Seen.{ahead, behind}
 use Rattle.flush_core.proofs.Lives.{made_node, no_node_yet, later}
 use Rattle.flush_core.proofs.Along.{tree_at, run_of, sound_at, files_at}
@@ -127,20 +128,14 @@ module _ (r : Run) where
   module _ (links : AreNamed r) where
     -- a node that is there and is named later is named
     pub named_since : (u t x : ℕ) → u ≤ t → IsSome (get (r.tree u).nodes x) → IsNamed (r.tree t).rows x → IsNamed (r.tree u).rows x
-    named_since u zero x le some named = subst (λ (k : ℕ). IsNamed (r.tree k).rows x) (none_below u le) named
-      where
-        none_below : (u : ℕ) → u ≤ 0 → 0 ≡ u
-        none_below u le = omega arith
+    named_since u zero x le some named = subst (λ (k : ℕ). IsNamed (r.tree k).rows x) (sym (none_below u le)) named
     named_since u (suc t) x le some named = elim (below_or t u) [
-      | inl lt ↦ subst (λ (k : ℕ). IsNamed (r.tree k).rows x) (same u t le lt) named
+      | inl lt ↦ subst (λ (k : ℕ). IsNamed (r.tree k).rows x) (sym (is_next u t le lt)) named
       | inr less ↦ elim (named_was (r.tree t) (r.core t) t (r.sound t) (r.effect t) (r.makes t) (r.fits t) (links t) named.directory named.name x (sym (ap (λ (tree : TreeState). row_of tree named.directory named.name) (r.next t)) ∙ named.row)) [
         | inl was ↦ named_since u t x less some was
         | inr born ↦ absurd (no_node_yet r t born.directory born.name x born.kind born.adds born.made u less some)
       ]
     ]
-      where
-        same : (u t : ℕ) → u ≤ suc t → t < u → suc t ≡ u
-        same u t le lt = omega arith
 
     -- a node that is there and that a later change names is named
     pub naming_since : (u t : ℕ) (x : RowChange) → u ≤ t → Made r t x → IsSome (get (r.tree u).nodes x.child) → IsNamed (r.tree u).rows x.child

@@ -1,7 +1,7 @@
 -- A closed cut gives a sound tree.
-use Rattle.std.proofs.Common.{◌≡◌, ℕ, ◌<◌, ◌≤◌, Bool, true, false, List, [], ◌∷◌, ◌++◌, length, take, Option, Some, None, IsSome, inl, inr, refl, sym, ap, subst, ◌∙◌}
+use Rattle.std.proofs.Common.{◌≡◌, ℕ, ◌<◌, ◌≤◌, true, false, List, [], ◌∷◌, ◌++◌, length, take, Option, Some, None, inl, inr, refl, sym, ap, subst, ◌∙◌}
 use Rattle.std.specs.Prelude.{filter, fold}
-use Rattle.std.specs.FinMap.{FinMap, get}
+use Rattle.std.specs.FinMap.{FinMap}
 use Rattle.std.proofs.lemmas.List.Sums.{fold-append}
 use Rattle.std.proofs.lemmas.List.Elements.{filter-append}
 use Rattle.sfs_base.specs.declared.numbers.Kind.{Kind}
@@ -14,15 +14,16 @@ use Rattle.sfs_tree.specs.Sound.{Above, IsSound}
 use Rattle.sfs_tree.specs.History.{tree_after, IsLegal}
 use Rattle.sfs_tree.specs.Laws.{IsSoundTree}
 use Rattle.sfs_tree.proofs.KeepsSound.{with_rows}
-use Rattle.sfs_tree.proofs.KeepsNodes.{IsSound-nodes, directory_node}
+use Rattle.sfs_tree.proofs.KeepsNodes.{IsSound-nodes}
 use Rattle.flush_core.specs.Cut.{Cut, cut_of, is_within, with_own, rows_at_cut, nodes_at_cut, tree_at_cut}
 use Rattle.flush_core.specs.Rules.{IsOneOf, IsChange, births_by, IsLastPlacing, IsClosed}
 use Rattle.flush_core.specs.Laws.{ClosedCutsAreSound}
+use Rattle.flush_core.proofs.Basics.{both, some_is}
 use Rattle.flush_core.proofs.Own.{stamp_of, comes_in}
 use Rattle.flush_core.proofs.Placed.{placed}
 use Rattle.flush_core.proofs.Runs.{Run, Made, IsLast, Keeps, Seen}
 use Rattle.flush_core.proofs.Fit.{HasNodes, seen_sound}
-use Rattle.flush_core.proofs.Along.{tree_at, effect_at, makes_at, tree_at-after, run_of, change_in, change_of, birth_in, changes_till, changes_till-end, changes_till-past, changes_till-more, nodes_at}
+use Rattle.flush_core.proofs.Along.{node_first, tree_at, effect_at, makes_at, tree_at-after, run_of, change_in, change_of, birth_in, changes_till, changes_till-end, changes_till-past, changes_till-more, nodes_at}
 use Rattle.flush_core.proofs.CutNodes.{still_node, still_kind}
 
 -- a change that places a child, where an effect places one
@@ -31,19 +32,10 @@ placing tree t Stays node e = cc
 placing tree t (Edits file edit) node e = cc
 placing tree t (Removes d n c) node e = cc
 placing tree t (Adds d n c) node e = (added t d n c None, inl refl, refl, some_is e)
-  where
-    some_is : Some c ≡ Some node → c ≡ node
-    some_is q = cc
 placing tree t (Moves p n q m c) node e = (added t q m c (other_side q p), comes_in tree t p n q m c, refl, some_is e)
-  where
-    some_is : Some c ≡ Some node → c ≡ node
-    some_is q = cc
 
 no_place : {P : Type 0} (x y : RowChange) → x ≡ y → y.places ≡ true → x.places ≡ false → P
 no_place x y e places not = absurd (both (ap (λ (z : RowChange). z.places) e ∙ places) not)
-  where
-    both : {b : Bool} → b ≡ true → b ≡ false → ⊥
-    both t f = cc
 
 -- where a change places a child, its effect does
 pub placed_by : (tree : TreeState) (t : ℕ) (effect : Effect) (x : RowChange) → IsOneOf (changes_by tree t effect) x → x.places ≡ true → placed effect ≡ Some x.child
@@ -101,9 +93,7 @@ module _ (first : TreeState) (history : List Entry) (is : IsSoundTree first) (le
         let found = last_change node t s last in
         subst (λ (k : ℕ). k < cut_of cut holder) found.2 (closed.ancestors x above node holder name found.0 (record {
           is_change = in_history t x one;
-          places = places;
-          other = other;
-          kind = (nodes_at first history t is legal x.child (directory_node (tree_at first history t) x.child kind)).1 ∙ kind;
+          moves = record { places = places; other = other; kind = subst (λ (w : TreeState). is_directory w x.child ≡ true) tree kind };
         }) (subst (λ (k : ℕ). k < cut_of cut x.directory) (sym e) lt) (subst (λ (w : TreeState). Above w x.directory above) tree way) among (subst (λ (w : TreeState). row_of w holder name ≡ Some node) tree row) (subst (λ (k : ℕ). IsLastPlacing first history node k found.0) (sym e) found.1));
   }
     where
@@ -156,14 +146,10 @@ module _ (first : TreeState) (history : List Entry) (is : IsSoundTree first) (le
 
   begins : IsSound (with_rows whole first.rows)
   begins = IsSound-nodes first (nodes_at_cut first history cut) (tree_after first history).made is.sound (record {
-    node = λ x some. still_node cut_bytes (tree_after first history).nodes x (nodes_at first history 0 is legal x (at_first history x some)).0;
-    kind = λ x some. still_kind cut_bytes (tree_after first history).nodes x ∙ (nodes_at first history 0 is legal x (at_first history x some)).1 ∙ kind_first history x;
+    node = λ x some. still_node cut_bytes (tree_after first history).nodes x (nodes_at first history 0 is legal x (node_first first history x some)).0;
+    kind = λ x some. still_kind cut_bytes (tree_after first history).nodes x ∙ (nodes_at first history 0 is legal x (node_first first history x some)).1 ∙ kind_first history x;
   })
     where
-      at_first : (h : List Entry) (x : ℕ) → IsSome (get first.nodes x) → IsSome (get (tree_at first h 0).nodes x)
-      at_first [] x some = some
-      at_first (e ∷ h) x some = some
-
       kind_first : (h : List Entry) (x : ℕ) → is_directory (tree_at first h 0) x ≡ is_directory first x
       kind_first [] x = refl
       kind_first (e ∷ h) x = refl

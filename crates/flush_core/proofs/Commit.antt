@@ -1,7 +1,5 @@
 -- An fsync keeps the cut closed, and each directory with an inode has its making below its birth place's cut.
 use Rattle.std.proofs.Common.{◌≡◌, ℕ, suc, ◌+◌, ◌<◌, ◌≤◌, Bool, true, false, List, [], ◌∷◌, length, take, Option, Some, None, ◌⊎◌, inl, inr, refl, sym, ap, subst, ◌∙◌, arith}
-use Rattle.std.specs.Prelude.{max}
-use Rattle.std.proofs.Math.Nat.{le-max_left, le-max_right, max-le}
 use Rattle.std.specs.FinMap.{FinMap, get}
 use Rattle.sfs_base.specs.declared.numbers.Kind.{Kind}
 use Rattle.sfs_tree.specs.declared.history.Entry.{Entry}
@@ -19,8 +17,10 @@ use Rattle.flush_core.specs.Cut.{Cut, cut_of, IsWithin, rows_at_cut}
 use Rattle.flush_core.specs.Rules.{IsOneOf, IsChange, Birth, births_by, births_of, IsLastPlacing, IsMove, IsClosed}
 use Rattle.flush_core.specs.Closure.{every_entry, Flush, InSpan, Closure, other_side, ended, ancestor, birth_place, IsRaised, AreInodesAfter, AreBorn, KeepsCut}
 use Rattle.flush_core.specs.Laws.{FsyncsKeep}
-use Rattle.flush_core.proofs.Runs.{Run, Made, below_or}
-use Rattle.flush_core.proofs.Along.{tree_at, effect_at, makes_at, tree_at-after, run_of, change_in, change_of, in_either, nodes_at}
+use Rattle.flush_core.proofs.Basics.{below_or, both, in_either, plus_zero, suc_plus, zero_plus}
+use Rattle.flush_core.proofs.Raises.{cuts_rise, members_rise, was_or_spanned}
+use Rattle.flush_core.proofs.Runs.{Run}
+use Rattle.flush_core.proofs.Along.{made_at, tree_at, effect_at, makes_at, tree_at-after, run_of, change_in, nodes_at}
 use Rattle.flush_core.proofs.Closed.{keeps_of, seen_of, seen_end}
 use Rattle.flush_core.proofs.Lives.{live_at, holder_above, born_before, ended_before, named_born}
 
@@ -54,22 +54,13 @@ birth_from first (entry ∷ history) stamp birth legal one = elim (in_either _ _
       (0, found.4 ∙ legal.0.stamped ∙ sym (plus_zero stamp), record { name = found.0; kind = found.1; adds = found.2; made = found.3 })
   | inr rest ↦
       let found = birth_from (tree_after_entry first entry) history (suc stamp) birth legal.1 rest in
-      (suc found.0, found.1 ∙ one_on stamp found.0, record { name = found.2.name; kind = found.2.kind; adds = found.2.adds; made = found.2.made })
+      (suc found.0, found.1 ∙ suc_plus stamp found.0, record { name = found.2.name; kind = found.2.kind; adds = found.2.adds; made = found.2.made })
 ]
-  where
-    plus_zero : (n : ℕ) → n + 0 ≡ n
-    plus_zero n = omega arith
-
-    one_on : (n m : ℕ) → suc n + m ≡ n + suc m
-    one_on n m = omega arith
 
 pub birth_at : (first : TreeState) (history : List Entry) (birth : Birth) → IsLegal first history → IsOneOf (births_of first history) birth → IsBornAt first history birth birth.stamp
 birth_at first history birth legal one =
     let found = birth_from first history 0 birth legal one in
     subst (λ (t : ℕ). IsBornAt first history birth t) (sym (found.1 ∙ zero_plus found.0)) found.2
-  where
-    zero_plus : (n : ℕ) → 0 + n ≡ n
-    zero_plus n = omega arith
 
 module _ (first : TreeState) (history : List Entry) (is : IsSoundTree first) (legal : IsLegal first history) (cut : Cut) (inodes : ℕ → Bool) (flush : Flush) (raised : Cut) (kept : KeepsCut first history cut inodes) (raise : IsRaised first history every_entry cut inodes flush raised) where
   abbrev run : Run
@@ -78,46 +69,28 @@ module _ (first : TreeState) (history : List Entry) (is : IsSoundTree first) (le
   abbrev Member : ℕ → Type 0
   Member node = Closure first history every_entry cut inodes flush node
 
-  made : (x : RowChange) → IsChange first history x → Made run x.stamp x
-  made x one = change_of first history x legal one
-
   -- what lay below the cut still does
   up : (t d : ℕ) → t < cut_of cut d → t < cut_of raised d
-  up t d lt = elim (raise.other d) [
-    | inl member ↦ let e = raise.member d member in let le = le-max_left (cut_of cut d) flush.stamp in omega arith
-    | inr e ↦ subst (λ (k : ℕ). t < k) (sym e) lt
-  ]
+  up t d lt = let le = cuts_rise first history every_entry cut inodes flush raised raise d in omega arith
 
   -- of a member all that lies below the fsync's stamp does
   member_up : (t d : ℕ) → Member d → t < flush.stamp → t < cut_of raised d
-  member_up t d member lt = let e = raise.member d member in let le = le-max_right (cut_of cut d) flush.stamp in omega arith
+  member_up t d member lt = let le = members_rise first history every_entry cut inodes flush raised raise d member in omega arith
 
   -- what lies below the raised cut lay below the cut, or in a member's span
   split : (t d : ℕ) → t < cut_of raised d → (t < cut_of cut d) ⊎ (Member d × (cut_of cut d ≤ t) × (t < flush.stamp))
-  split t d lt = elim (below_or t (cut_of cut d)) [
-    | inl less ↦ inl less
-    | inr le ↦ elim (raise.other d) [
-      | inl member ↦ inr (member, le, below_stamp le (raise.member d member))
-      | inr e ↦ absurd (no_less (subst (λ (k : ℕ). t < k) e lt) le)
-    ]
-  ]
-    where
-      no_less : {a b : ℕ} → a < b → b ≤ a → ⊥
-      no_less lt le = omega arith
-
-      below_stamp : cut_of cut d ≤ t → cut_of raised d ≡ max (cut_of cut d) flush.stamp → t < flush.stamp
-      below_stamp le e = elim (below_or t flush.stamp) [
-        | inl less ↦ less
-        | inr more ↦ absurd (no_less (subst (λ (k : ℕ). t < k) e lt) (max-le le more))
-      ]
+  split = was_or_spanned first history every_entry cut inodes flush raised raise
 
   span : (x : RowChange) → IsChange first history x → cut_of cut x.directory ≤ x.stamp → x.stamp < flush.stamp → InSpan first history every_entry cut flush.stamp x
   span x one from lt = record { is_change = one; counted = refl; from = from; below = lt }
 
+  earlier : (a b : ℕ) → a < b → b < flush.stamp → a < flush.stamp
+  earlier a b lt le = omega arith
+
   -- a directory with a change is one of the last tree
   kind_of_own : (own : RowChange) → IsChange first history own → is_directory (tree_after first history) own.directory ≡ true
   kind_of_own own one =
-      let live = live_at run own.stamp own (made own one) in
+      let live = live_at run own.stamp own (made_at first history is legal own one) in
       (nodes_at first history own.stamp is legal own.directory (directory_node (tree_at first history own.stamp) own.directory live.kind)).1 ∙ live.kind
 
   -- the making of a member without an inode that has a change below the stamp
@@ -125,7 +98,7 @@ module _ (first : TreeState) (history : List Entry) (is : IsSoundTree first) (le
   makes_up birth own one own_is same member none lt =
       elim (below_or birth.stamp (cut_of cut birth.directory)) [
         | inl less ↦ up birth.stamp birth.directory less
-        | inr le ↦ member_up birth.stamp birth.directory (birth_place birth member one none (record { change = naming; is_change = naming_is; counted = refl; child = refl; unflushed = le })) (earlier birth.stamp own.stamp (born_before run birth.stamp birth.directory born.name birth.node born.kind born.adds born.made own.stamp own (made own own_is) same) lt)
+        | inr le ↦ member_up birth.stamp birth.directory (birth_place birth member one none (record { change = naming; is_change = naming_is; counted = refl; child = refl; unflushed = le })) (earlier birth.stamp own.stamp (born_before run birth.stamp birth.directory born.name birth.node born.kind born.adds born.made own.stamp own (made_at first history is legal own own_is) same) lt)
       ]
     where
       born : IsBornAt first history birth birth.stamp
@@ -136,9 +109,6 @@ module _ (first : TreeState) (history : List Entry) (is : IsSoundTree first) (le
 
       naming_is : IsChange first history naming
       naming_is = change_in first history birth.stamp naming legal (subst (λ (f : Effect). IsOneOf (changes_by (tree_at first history birth.stamp) birth.stamp f) naming) (sym born.adds) (inl refl))
-
-      earlier : (a b : ℕ) → a < b → b < flush.stamp → a < flush.stamp
-      earlier a b lt le = omega arith
 
   births_raised : (birth : Birth) (own : RowChange) → IsOneOf (births_of first history) birth → IsChange first history own → own.directory ≡ birth.node → IsWithin raised own → birth.stamp < cut_of raised birth.directory
   births_raised birth own one own_is same within = elim (split own.stamp own.directory within) [
@@ -154,14 +124,11 @@ module _ (first : TreeState) (history : List Entry) (is : IsSoundTree first) (le
   ancestors_raised change above node holder name last move within way among row placing = elim (split change.stamp change.directory within) [
     | inl lt ↦ up last.stamp holder (kept.closed.ancestors change above node holder name last move lt way among row placing)
     | inr more ↦
-        let live = live_at run change.stamp change (made change move.is_change) in
+        let live = live_at run change.stamp change (made_at first history is legal change move.is_change) in
         let sound = histories_keep_sound first history change.stamp is legal in
         let kind : is_directory (tree_after first (take change.stamp history)) change.directory ≡ true = subst (λ (w : TreeState). is_directory w change.directory ≡ true) (tree_at-after first history change.stamp) live.kind in
         member_up last.stamp holder (ancestor change above holder more.0 (span change move.is_change more.1 more.2) move way (holder_above (tree_after first (take change.stamp history)) 0 0 sound.sound way kind node holder name among row)) (earlier last.stamp change.stamp placing.below more.2)
   ]
-    where
-      earlier : (a b : ℕ) → a < b → b < flush.stamp → a < flush.stamp
-      earlier a b lt le = omega arith
 
   pub closed_raised : IsClosed first history raised
   closed_raised = record {
@@ -172,15 +139,12 @@ module _ (first : TreeState) (history : List Entry) (is : IsSoundTree first) (le
     removals = λ change own one ends within own_is same. elim (split change.stamp change.directory within) [
       | inl lt ↦ up own.stamp own.directory (kept.closed.removals change own one ends lt own_is same)
       | inr more ↦
-          let before = ended_before run change.stamp change own.stamp own (made change one) ends (made own own_is) same in
+          let before = ended_before run change.stamp change own.stamp own (made_at first history is legal change one) ends (made_at first history is legal own own_is) same in
           member_up own.stamp own.directory (subst (λ (y : ℕ). Member y) (sym same) (ended change more.0 (span change one more.1 more.2) ends)) (earlier own.stamp change.stamp before more.2)
     ];
     births = births_raised;
     ancestors = ancestors_raised;
   }
-    where
-      earlier : (a b : ℕ) → a < b → b < flush.stamp → a < flush.stamp
-      earlier a b lt le = omega arith
 
   -- a directory that a row at the raised cut names was made below its birth place's cut
   named_raised : (birth : Birth) → IsOneOf (births_of first history) birth → is_directory (tree_after first history) birth.node ≡ true → (d : ℕ) (n : List ℕ) → get (rows_at_cut first history raised) (d, n) ≡ Some birth.node → birth.stamp < cut_of raised birth.directory
@@ -198,9 +162,6 @@ module _ (first : TreeState) (history : List Entry) (is : IsSoundTree first) (le
           | inr file ↦ absurd (both kind file.1)
         ]
       ] refl
-    where
-      both : {b : Bool} → b ≡ true → b ≡ false → ⊥
-      both t f = cc
 
 pub fsyncs_keep : FsyncsKeep
 fsyncs_keep first history cut raised inodes after flush is legal kept raise sets = record {

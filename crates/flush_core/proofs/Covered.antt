@@ -1,8 +1,7 @@
 -- An fsync is covered by the cut that it leaves.
-use Rattle.std.proofs.Common.{◌≡◌, ℕ, ◌<◌, ◌≤◌, Bool, true, false, cond, List, [], ◌∷◌, take, Some, None, IsSome, ◌⊎◌, inl, inr, refl, sym, subst, arith}
+use Rattle.std.proofs.Common.{◌≡◌, ℕ, ◌<◌, Bool, true, false, cond, List, [], ◌∷◌, take, Some, None, IsSome, ◌⊎◌, inl, inr, refl, sym, subst, arith}
 use borrow.Author.Tests.{ltb-true}
 use Rattle.std.specs.Prelude.{filter, fold}
-use Rattle.std.proofs.Math.Nat.{le-max_left, le-max_right}
 use Rattle.std.specs.FinMap.{FinMap, get, insert, remove}
 use Rattle.sfs_tree.specs.declared.history.Entry.{Entry}
 use Rattle.sfs_tree.specs.Order.{key_cmp}
@@ -17,8 +16,9 @@ use Rattle.flush_core.specs.Rules.{IsOneOf, Birth, births_of}
 use Rattle.flush_core.specs.Closure.{every_entry, Flush, HasNode, HasNaming, Closure, itself, birth_place, IsRaised, AreInodesAfter}
 use Rattle.flush_core.specs.Covers.{IsPlacedByCut, IsCovered, ArePlaced}
 use Rattle.flush_core.specs.Laws.{FsyncsCover}
-use Rattle.flush_core.proofs.Runs.{below_or}
-use Rattle.flush_core.proofs.Along.{tree_at, tree_at-after, run_of, change_in}
+use Rattle.flush_core.proofs.Basics.{below_or}
+use Rattle.flush_core.proofs.Raises.{cuts_rise, members_rise}
+use Rattle.flush_core.proofs.Along.{node_first, tree_at, tree_at-after, run_of, change_in}
 use Rattle.flush_core.proofs.Lives.{no_node_yet}
 use Rattle.flush_core.proofs.Commit.{IsBornAt, birth_at}
 
@@ -55,19 +55,18 @@ from_rows w (c ∷ cs) d n rows x row =
       | false ↦ λ _ r. elim (from_rows w cs d n rows x r) [ inl there ↦ inl there | inr f ↦ inr (further w c cs x f) ]
     ] refl row
 
+module _ (first : TreeState) (history : List Entry) (cut : Cut) (inodes : ℕ → Bool) (flush : Flush) (raised : Cut) (raise : IsRaised first history every_entry cut inodes flush raised) where
+  pub up : (node : ℕ) → IsPlacedByCut first history cut node → IsPlacedByCut first history raised node
+  up node p = record { change = p.change; is_change = p.is_change; places = p.places; child = p.child; within = let lt = p.within in let le = cuts_rise first history every_entry cut inodes flush raised raise p.change.directory in omega arith }
+
+  -- what was covered still is
+  pub raised_covers : (other : Flush) → IsCovered first history cut other → IsCovered first history raised other
+  raised_covers other c = record {
+    stamp = let before = c.stamp in let le = cuts_rise first history every_entry cut inodes flush raised raise other.node in omega arith;
+    placed = λ birth one same. up other.node (c.placed birth one same);
+  }
+
 module _ (first : TreeState) (history : List Entry) (is : IsSoundTree first) (legal : IsLegal first history) (cut : Cut) (inodes : ℕ → Bool) (flush : Flush) (raised : Cut) (placed : ArePlaced first history cut inodes) (there : HasNode first history flush) (raise : IsRaised first history every_entry cut inodes flush raised) where
-  low : (d : ℕ) → cut_of cut d ≤ cut_of raised d
-  low d = elim (raise.other d) [
-    | inl member ↦ let e = raise.member d member in let le = le-max_left (cut_of cut d) flush.stamp in omega arith
-    | inr e ↦ omega arith
-  ]
-
-  member_low : (d : ℕ) → Closure first history every_entry cut inodes flush d → flush.stamp ≤ cut_of raised d
-  member_low d member = let e = raise.member d member in let le = le-max_right (cut_of cut d) flush.stamp in omega arith
-
-  up : (node : ℕ) → IsPlacedByCut first history cut node → IsPlacedByCut first history raised node
-  up node p = record { change = p.change; is_change = p.is_change; places = p.places; child = p.child; within = let lt = p.within in let le = low p.change.directory in omega arith }
-
   -- the making of a node is a change that places it
   by_birth : (birth : Birth) → IsOneOf (births_of first history) birth → birth.stamp < cut_of raised birth.directory → IsPlacedByCut first history raised birth.node
   by_birth birth one lt = record {
@@ -91,9 +90,9 @@ module _ (first : TreeState) (history : List Entry) (is : IsSoundTree first) (le
           is_change = change_in first history birth.stamp (added birth.stamp birth.directory born.name birth.node None) legal (subst (λ (f : Effect). IsOneOf (changes_by (tree_at first history birth.stamp) birth.stamp f) (added birth.stamp birth.directory born.name birth.node None)) (sym born.adds) (inl refl));
           counted = refl;
           child = refl;
-          unflushed = let lower = low birth.directory in omega arith;
+          unflushed = let lower = cuts_rise first history every_entry cut inodes flush raised raise birth.directory in omega arith;
         } in
-        let most = member_low birth.directory (birth_place birth (subst (λ (y : ℕ). Closure first history every_entry cut inodes flush y) (sym same) itself) one out naming) in
+        let most = members_rise first history every_entry cut inodes flush raised raise birth.directory (birth_place birth (subst (λ (y : ℕ). Closure first history every_entry cut inodes flush y) (sym same) itself) one out naming) in
         let earlier = made_before in
         by_birth birth one (omega arith)
   ]
@@ -109,28 +108,24 @@ module _ (first : TreeState) (history : List Entry) (is : IsSoundTree first) (le
 
   own_placed : (birth : Birth) → IsOneOf (births_of first history) birth → birth.node ≡ flush.node → IsPlacedByCut first history raised birth.node
   own_placed birth one same = elim (inodes birth.node) as (λ b. inodes birth.node ≡ b → IsPlacedByCut first history raised birth.node) [
-    | true ↦ λ e. up birth.node (placed birth one e)
+    | true ↦ λ e. up first history cut inodes flush raised raise birth.node (placed birth one e)
     | false ↦ λ e. own_without birth one same e
   ] refl
 
   -- a node that a row at the raised cut names is placed
   row_placed : (birth : Birth) → IsOneOf (births_of first history) birth → (d : ℕ) (n : List ℕ) → get (rows_at_cut first history raised) (d, n) ≡ Some birth.node → IsPlacedByCut first history raised birth.node
   row_placed birth one d n row = elim (from_rows (is_within raised) (changes_of first history) d n first.rows birth.node row) [
-    | inl before ↦ absurd (no_node_yet (run_of first history is legal) birth.stamp birth.directory born.name birth.node born.kind born.adds born.made 0 (omega arith) (at_first history (is.sound.node d n birth.node before)))
+    | inl before ↦ absurd (no_node_yet (run_of first history is legal) birth.stamp birth.directory born.name birth.node born.kind born.adds born.made 0 (omega arith) (node_first first history birth.node (is.sound.node d n birth.node before)))
     | inr f ↦ record { change = f.change; is_change = f.one; places = f.places; child = f.child; within = ltb-true _ _ f.passes }
   ]
     where
       born : IsBornAt first history birth birth.stamp
       born = birth_at first history birth legal one
 
-      at_first : (h : List Entry) → IsSome (get first.nodes birth.node) → IsSome (get (tree_at first h 0).nodes birth.node)
-      at_first [] some = some
-      at_first (e ∷ h) some = some
-
   all_placed : (after : ℕ → Bool) → AreInodesAfter first history every_entry cut inodes flush raised after → ArePlaced first history raised after
   all_placed after sets birth one has =
       elim (inodes birth.node) as (λ b. inodes birth.node ≡ b → IsPlacedByCut first history raised birth.node) [
-        | true ↦ λ e. up birth.node (placed birth one e)
+        | true ↦ λ e. up first history cut inodes flush raised raise birth.node (placed birth one e)
         | false ↦ λ e. elim ((sets.enters birth.node e).0 has).1 [
           | inl named ↦ row_placed birth one named.directory named.name named.row
           | inr file ↦ own_placed birth one file.0
@@ -139,19 +134,13 @@ module _ (first : TreeState) (history : List Entry) (is : IsSoundTree first) (le
 
   own_covered : IsCovered first history raised flush
   own_covered = record {
-    stamp = member_low flush.node itself;
+    stamp = members_rise first history every_entry cut inodes flush raised raise flush.node itself;
     placed = λ birth one same. subst (λ (y : ℕ). IsPlacedByCut first history raised y) same (own_placed birth one same);
-  }
-
-  still_covered : (other : Flush) → IsCovered first history cut other → IsCovered first history raised other
-  still_covered other c = record {
-    stamp = let before = c.stamp in let le = low other.node in omega arith;
-    placed = λ birth one same. up other.node (c.placed birth one same);
   }
 
 pub fsyncs_cover : FsyncsCover
 fsyncs_cover first history cut raised inodes after flush is legal placed there raise sets = record {
   own = own_covered first history is legal cut inodes flush raised placed there raise;
-  earlier = still_covered first history is legal cut inodes flush raised placed there raise;
+  earlier = raised_covers first history cut inodes flush raised raise;
   placed = all_placed first history is legal cut inodes flush raised placed there raise after sets;
 }

@@ -1,19 +1,20 @@
 -- Where a directory stands in a tree and at a closed cut: its row is flushed, or is left at the cut, or is gone from both.
-use Rattle.std.proofs.Common.{◌≡◌, ℕ, zero, suc, ◌<◌, ◌≤◌, true, false, List, [], ◌∷◌, ◌++◌, Option, Some, None, IsSome, ◌⊎◌, inl, inr, refl, sym, ap, subst, ◌∙◌, arith}
+use Rattle.std.proofs.Common.{◌≡◌, ℕ, zero, suc, ◌<◌, ◌≤◌, true, false, List, Option, Some, None, IsSome, ◌⊎◌, inl, inr, refl, sym, ap, subst, ◌∙◌, arith}
 use Rattle.std.specs.FinMap.{get}
 use Rattle.sfs_base.specs.declared.numbers.Kind.{Kind}
 use Rattle.sfs_tree.specs.Tree.{TreeState, row_of, is_alive, is_directory}
 use Rattle.sfs_tree.specs.Effect.{Effect, Stays, Adds, Removes, Moves, Edits}
-use Rattle.sfs_tree.specs.Changes.{RowChange, added, removed, changes_by}
+use Rattle.sfs_tree.specs.Changes.{RowChange, changes_by}
 use Rattle.sfs_tree.specs.Sound.{IsSound}
 use Rattle.sfs_tree.specs.Fits.{Fits}
 use Rattle.sfs_tree.proofs.RowFacts.{IsNamed, alive_named, named_alive}
 use Rattle.flush_core.specs.Rules.{IsOneOf}
-use Rattle.flush_core.proofs.Own.{both, sides}
-use Rattle.flush_core.proofs.Placed.{IsBorn, WasNamed, IsMoved, named_before, row_stays}
-use Rattle.flush_core.proofs.Runs.{Run, Made, Keeps, Seen, below_or}
+use Rattle.flush_core.proofs.Basics.{below_or, both, not_none}
+use Rattle.flush_core.proofs.Own.{sides}
+use Rattle.flush_core.proofs.Placed.{IsBorn, IsMoved, named_before, row_stays}
+use Rattle.flush_core.proofs.Runs.{Run, Made, Keeps, Seen}
 use Rattle.flush_core.proofs.Seen.{IsSettled, ahead, behind, row_added, row_moved, other_end}
-use Rattle.flush_core.proofs.Children.{OfMove, replaces, moves, of_move, AreNamed, child_named}
+use Rattle.flush_core.proofs.Children.{replaces, moves, of_move, AreNamed, child_named}
 
 -- a number at most a count but not below it is the count
 same_stamp : (u t : ℕ) → u < suc t → t ≤ u → t ≡ u
@@ -31,12 +32,9 @@ module _ (tree : TreeState) (core t : ℕ) (s : IsSound tree) where
     | inr none ↦ absurd none
   ]
   names_placed (Adds e k c) (Some mk) f files d name x kind row y one child = elim one [
-    | inl same ↦ absurd (no_node (s.node d name x row) (ap (get tree.nodes) (sym (ap (λ (z : RowChange). z.child) same ∙ child)) ∙ f.fresh))
+    | inl same ↦ absurd (not_none (s.node d name x row) (ap (get tree.nodes) (sym (ap (λ (z : RowChange). z.child) same ∙ child)) ∙ f.fresh))
     | inr none ↦ absurd none
   ]
-    where
-      no_node : {A : Type 0} {o : Option A} → IsSome o → o ≡ None → ⊥
-      no_node some none = cc
   names_placed (Removes e k c) None f files d name x kind row y one child = elim one [
     | inl same ↦ inl (sym (ap (λ (z : RowChange). z.directory) same) ∙ (s.once e d k name x (f.row ∙ ap Some (ap (λ (z : RowChange). z.child) same ∙ child)) row kind).0)
     | inr none ↦ absurd none
@@ -133,8 +131,12 @@ module _ (r : Run) (cut : ℕ → ℕ) (s : Seen r cut) (keeps : Keeps r cut) (l
     | inr le ↦ inr (sym (behind r cut s t e k le) ∙ row, le)
   ]
 
+  -- no row at the cut that names it stays as the stamp passes
+  abbrev NoneStays : ℕ → Type 0
+  NoneStays t = (e : ℕ) (k : List ℕ) → get (s.rows t) (e, k) ≡ Some x → cut e ≤ t → ⊥
+
   -- it stands in a directory where it is placed below the cut
-  now_there : (t d : ℕ) (n : List ℕ) → t < cut d → row_of (r.tree (suc t)) d n ≡ Some x → ((e : ℕ) (k : List ℕ) → get (s.rows t) (e, k) ≡ Some x → cut e ≤ t → ⊥) → AreFlushedTill (suc t) → IsNow (suc t)
+  now_there : (t d : ℕ) (n : List ℕ) → t < cut d → row_of (r.tree (suc t)) d n ≡ Some x → NoneStays t → AreFlushedTill (suc t) → IsNow (suc t)
   now_there t d n lt row none flushed = record {
     directory = d;
     name = n;
@@ -147,7 +149,7 @@ module _ (r : Run) (cut : ℕ → ℕ) (s : Seen r cut) (keeps : Keeps r cut) (l
     flushed = flushed;
   }
 
-  gone_there : (t : ℕ) → (IsNamed (r.tree (suc t)).rows x → ⊥) → ((e : ℕ) (k : List ℕ) → get (s.rows t) (e, k) ≡ Some x → cut e ≤ t → ⊥) → AreFlushedTill (suc t) → IsGone (suc t)
+  gone_there : (t : ℕ) → (IsNamed (r.tree (suc t)).rows x → ⊥) → NoneStays t → AreFlushedTill (suc t) → IsGone (suc t)
   gone_there t unnamed none flushed = record {
     unnamed = unnamed;
     unseen = λ named. elim (came_or_was t named.directory named.name named.row) [
@@ -169,7 +171,7 @@ module _ (r : Run) (cut : ℕ → ℕ) (s : Seen r cut) (keeps : Keeps r cut) (l
     ])))
   ]
     where
-      unseen : (e : ℕ) (k : List ℕ) → get (s.rows t) (e, k) ≡ Some x → cut e ≤ t → ⊥
+      unseen : NoneStays t
       unseen e k row le = g.unseen (record { directory = e; name = k; row = row })
 
       lt : (born : IsBorn (r.tree t) (r.core t) (r.sound t) (r.effect t) (r.makes t) x) → t < cut born.directory
@@ -199,7 +201,7 @@ module _ (r : Run) (cut : ℕ → ℕ) (s : Seen r cut) (keeps : Keeps r cut) (l
           kind : is_directory (r.tree t) x ≡ true
           kind = kind_at t p.directory p.name p.row
 
-          other : (e : ℕ) (k : List ℕ) → get (s.rows t) (e, k) ≡ Some x → cut e ≤ t → ⊥
+          other : NoneStays t
           other e k row le = no_less (subst (λ (d : ℕ). cut d ≤ t) (p.only e k row) le)
             where
               no_less : cut p.directory ≤ t → ⊥

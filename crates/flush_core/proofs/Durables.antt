@@ -13,8 +13,8 @@ use Rattle.flush_core.specs.Rules.{IsOneOf}
 use Rattle.flush_core.specs.Closure.{Flush}
 use Rattle.flush_core.specs.Machine.{MachineState}
 use Rattle.flush_core.specs.Runs.{IsRun, flush_by, IsBegun, flush_or, flush_of, durable_by}
-use Rattle.flush_core.proofs.Runs.{below_or}
-use Rattle.flush_core.proofs.Begun.{some_is, none_some, one_flush}
+use Rattle.flush_core.proofs.Basics.{below_or, no_less, none_some, some_is}
+use Rattle.flush_core.proofs.Begun.{one_flush}
 
 -- the one at a place comes behind those before it
 pub take_next : {X : Type 0} (xs : List X) (place : ℕ) (x : X) → slice_get xs place ≡ Some x → take (suc place) xs ≡ take place xs ++ x ∷ []
@@ -40,6 +40,11 @@ in_taken xs zero many x le one = absurd one
 in_taken [] (suc few) many x le one = absurd one
 in_taken (y ∷ xs) (suc few) zero x le one = absurd (omega arith)
 in_taken (y ∷ xs) (suc few) (suc many) x le one = elim one [ inl same ↦ inl same | inr more ↦ inr (in_taken xs few many x (omega arith) more) ]
+
+-- one of a list stands at a place
+pub place_of_one : {X : Type 0} (xs : List X) (x : X) → IsOneOf xs x → (place : ℕ) × (slice_get xs place ≡ Some x)
+place_of_one [] x one = absurd one
+place_of_one (y ∷ xs) x one = elim one [ inl same ↦ (0, ap Some same) | inr rest ↦ let there = place_of_one xs x rest in (suc there.0, there.1) ]
 
 -- what is given of a list is given of one of it, and so the other way round
 given_by : {X Y : Type 0} (f : X → Option Y) (xs : List X) (y : Y) → IsOneOf (filter_map f xs) y → (x : X) × IsOneOf xs x × (f x ≡ Some y)
@@ -112,10 +117,13 @@ is_durable_by events chosen (event.Durable commit) flush e =
 pub not_chosen : (events : List Event) (chosen : ℕ → Bool) (commit : ℕ) → chosen commit ≡ false → durable_by events chosen (event.Durable commit) ≡ None
 not_chosen events chosen commit is = ap (λ b. cond b (flush_of events commit) None) is
 
--- A commit that is one of some, and begins before a place.
-pub record IsChosen (events : List Event) (place : ℕ) (chosen : ℕ → Bool) (flush : Flush) : Type 0 where
+-- A commit that is one of some, begins before a place, and becomes durable before a count of events.
+pub record IsChosen (events : List Event) (place so_many : ℕ) (chosen : ℕ → Bool) (flush : Flush) : Type 0 where
   pub commit : ℕ
   pub is_chosen : chosen commit ≡ true
+  pub durable : ℕ
+  pub stands : slice_get events durable ≡ Some (event.Durable commit)
+  pub earlier : durable < so_many
   pub begin : ℕ
   pub before : begin < place
   pub begun : IsBegun events begin commit flush
@@ -145,13 +153,15 @@ module _ (first : TreeState) (events : List Event) (states : ℕ → MachineStat
       has.1 ∙ ap Some (one_flush first events states run there.0 begin commit has.0 flush (begun_before there.0 commit has.0 there.1).1 begun)
 
   -- each of them is one of the commits
-  pub each_chosen : (so_many : ℕ) (flush : Flush) → IsOneOf (so_far so_many) flush → IsChosen events place chosen flush
+  pub each_chosen : (so_many : ℕ) (flush : Flush) → IsOneOf (so_far so_many) flush → IsChosen events place so_many chosen flush
   each_chosen so_many flush one =
       let given = given_by (durable_by (take place events) chosen) (take so_many events) flush one in
       let by = is_durable_by (take place events) chosen given.0 flush given.2 in
       let there = of_begun (take place events) by.commit flush by.own in
       let begun = begun_before there.0 by.commit flush there.1 in
-      record { commit = by.commit; is_chosen = by.is_chosen; begin = there.0; before = begun.0; begun = begun.1; own = own_flush there.0 by.commit flush begun.1 }
+      let place_of = place_of_one (take so_many events) given.0 given.1 in
+      let at = taken_at events so_many place_of.0 given.0 place_of.1 in
+      record { commit = by.commit; is_chosen = by.is_chosen; durable = place_of.0; stands = at.1 ∙ ap Some by.same; earlier = at.0; begin = there.0; before = begun.0; begun = begun.1; own = own_flush there.0 by.commit flush begun.1 }
 
   -- with more events there are more of them
   pub more_so_far : (few many : ℕ) → few ≤ many → (flush : Flush) → IsOneOf (so_far few) flush → IsOneOf (so_far many) flush
@@ -195,9 +205,6 @@ below_greater t a b lt = elim (below_or t a) [
   | inl less ↦ inl less
   | inr le ↦ elim (below_or t b) [ inl less ↦ inr less | inr more ↦ absurd (let most = max-le le more in no_less lt most) ]
 ]
-  where
-    no_less : {x y : ℕ} → x < y → y ≤ x → ⊥
-    no_less less le = omega arith
 
 pub below_greatest : (flushes : List Flush) (t : ℕ) → t < greatest flushes → (flush : Flush) × IsOneOf flushes flush × (t < flush.stamp)
 below_greatest [] t lt = absurd (omega arith)

@@ -13,33 +13,22 @@ use Rattle.flush_core.specs.Closure.{every_entry, Flush, AreRaised, none, one_mo
 use Rattle.flush_core.specs.Machine.{Flight, Refuses, reason_place, IsRefused, Accepts, flight_of, is_flying, is_opened}
 use Rattle.flush_core.specs.Flights.{flight_as, flush_in}
 use Rattle.flush_core.specs.State.{KeptState, machine_of, inodes_of, IsRaisedTo, kept_flushes}
-
-no_true : {P : Type 0} → false ≡ true → P
-no_true e = cc
-
-no_some : {P : Type 0} {n : ℕ} → None ≡ Some n → P
-no_some e = cc
+use Rattle.flush_core.proofs.Basics.{no_true, none_some}
 
 -- a kept state with another cut, other inodes and other flights
 abbrev raised_to : KeptState → Raise → KeptState
 raised_to old raise = record old { cut = raise.cut; inodes = Some raise.inodes }
 
 module _ (old : KeptState) (commit : ℕ) (running : old.crashed ≡ false) (going : old.failed ≡ None) where
-  no_crash : {P : Type 0} → old.crashed ≡ true → P
-  no_crash crashed = no_true (sym running ∙ crashed)
-
-  no_fail : {P : Type 0} (failed : ℕ) → old.failed ≡ Some failed → P
-  no_fail failed is = no_some (sym going ∙ is)
-
   -- none of one commit passes a test that it fails
   not_found : (test : ℕ → Bool) (n : ℕ) → test commit ≡ true → find (λ named. not (test named)) (commit ∷ []) ≡ Some n → ⊥
-  not_found test n passes found = no_some (sym (ap (λ b. cond (not b) (Some commit) None) passes) ∙ found)
+  not_found test n passes found = none_some (sym (ap (λ b. cond (not b) (Some commit) None) passes) ∙ found)
 
   none_holds : is_flying (machine_of old) commit ≡ true → is_opened (machine_of old) commit ≡ true → (why : Refused) → Refuses (machine_of old) (event.Durable commit) why → ⊥
-  none_holds flies opened refused.Crashed holds = no_crash holds
+  none_holds flies opened refused.Crashed holds = no_true (sym running ∙ holds)
   none_holds flies opened (refused.NotNext want) holds = holds
   none_holds flies opened (refused.NotLegal reply) holds = holds
-  none_holds flies opened (refused.Stopped failed) holds = no_fail failed holds.1
+  none_holds flies opened (refused.Stopped failed) holds = none_some (sym going ∙ holds.1)
   none_holds flies opened (refused.Used other) holds = holds
   none_holds flies opened (refused.Meets met) holds = holds
   none_holds flies opened (refused.Late late) holds = holds
@@ -75,11 +64,8 @@ module _ (old : KeptState) (kept : List ℕ) (spare : ℕ) (running : old.crashe
   abbrev e : Event
   e = event.Crash (record { items = kept; spare = spare })
 
-  crash_not_twice : {P : Type 0} → old.crashed ≡ true → P
-  crash_not_twice crashed = no_true (sym running ∙ crashed)
-
   first_not_flying : (other : Refused) → Refuses (machine_of old) e other → 8 ≤ reason_place other
-  first_not_flying refused.Crashed holds = crash_not_twice holds
+  first_not_flying refused.Crashed holds = no_true (sym running ∙ holds)
   first_not_flying (refused.NotNext want) holds = absurd holds
   first_not_flying (refused.NotLegal reply) holds = absurd holds
   first_not_flying (refused.Stopped failed) holds = no_true holds.0
@@ -96,14 +82,14 @@ module _ (old : KeptState) (kept : List ℕ) (spare : ℕ) (running : old.crashe
 
   module _ (flying : find (λ named. not (is_flying (machine_of old) named)) kept ≡ None) where
     first_not_opened : (other : Refused) → Refuses (machine_of old) e other → 9 ≤ reason_place other
-    first_not_opened refused.Crashed holds = crash_not_twice holds
+    first_not_opened refused.Crashed holds = no_true (sym running ∙ holds)
     first_not_opened (refused.NotNext want) holds = absurd holds
     first_not_opened (refused.NotLegal reply) holds = absurd holds
     first_not_opened (refused.Stopped failed) holds = no_true holds.0
     first_not_opened (refused.Used other) holds = absurd holds
     first_not_opened (refused.Meets met) holds = absurd holds
     first_not_opened (refused.Late late) holds = absurd holds
-    first_not_opened (refused.NotFlying other) holds = no_some (sym flying ∙ holds)
+    first_not_opened (refused.NotFlying other) holds = none_some (sym flying ∙ holds)
     first_not_opened (refused.NotOpened other) holds = omega arith
     first_not_opened (refused.AlreadyOpened other) holds = omega arith
     first_not_opened refused.NoMemory holds = omega arith
@@ -113,15 +99,15 @@ module _ (old : KeptState) (kept : List ℕ) (spare : ℕ) (running : old.crashe
 
     module _ (opened : find (λ named. not (is_opened (machine_of old) named)) kept ≡ None) where
       none_refuses : (why : Refused) → Refuses (machine_of old) e why → ⊥
-      none_refuses refused.Crashed holds = crash_not_twice holds
+      none_refuses refused.Crashed holds = no_true (sym running ∙ holds)
       none_refuses (refused.NotNext want) holds = holds
       none_refuses (refused.NotLegal reply) holds = holds
       none_refuses (refused.Stopped failed) holds = no_true holds.0
       none_refuses (refused.Used other) holds = holds
       none_refuses (refused.Meets met) holds = holds
       none_refuses (refused.Late late) holds = holds
-      none_refuses (refused.NotFlying other) holds = no_some (sym flying ∙ holds)
-      none_refuses (refused.NotOpened other) holds = no_some (sym opened ∙ holds.1)
+      none_refuses (refused.NotFlying other) holds = none_some (sym flying ∙ holds)
+      none_refuses (refused.NotOpened other) holds = none_some (sym opened ∙ holds.1)
       none_refuses (refused.AlreadyOpened other) holds = holds
       none_refuses refused.NoMemory holds = holds
 

@@ -1,45 +1,80 @@
--- The entries of a legal history stand at their stamps.
-use Rattle.std.proofs.Common.{◌≡◌, ℕ, zero, suc, ◌+◌, List, [], ◌∷◌, take, Some, inl, inr, refl, sym, ap, subst, ◌∙◌, arith}
+-- The entries of a legal history stand at their stamps, and their calls are a run.
+use Rattle.std.proofs.Common.{◌≡◌, ℕ, zero, suc, ◌+◌, List, [], ◌∷◌, length, take, map, Some, refl, sym, ap, subst, ◌∙◌}
 use Rattle.std.specs.Prelude.{slice_get}
 use Rattle.sfs_tree.specs.declared.history.Entry.{Entry}
 use Rattle.sfs_tree.specs.Tree.{TreeState}
 use Rattle.sfs_tree.specs.History.{tree_after, tree_after_entry, MayCome, IsLegalFrom, IsLegal}
-use Rattle.flush_core.specs.Rules.{IsOneOf}
-use Rattle.flush_core.specs.LawsGrowth.{MayComeThere, EntriesMayCome, StampsAreOnce}
-use Rattle.flush_core.proofs.Begun.{some_is}
+use Rattle.flush_core.specs.declared.event.Event.{Event}
+use Rattle.flush_core.specs.declared.event.Event.TheVariants as event
+use Rattle.flush_core.specs.declared.event.Refused.{Refused}
+use Rattle.flush_core.specs.declared.event.Refused.TheVariants as refused
+use Rattle.flush_core.specs.Machine.{start_of, Refuses, Accepts}
+use Rattle.flush_core.specs.LawsGrowth.{EntriesMayCome, StampsAreOnce}
+use Rattle.flush_core.specs.LawsRuns.{told, CallsAreARun}
+use Rattle.flush_core.proofs.Basics.{no_true, none_some, plus_zero, some_is, suc_plus, zero_plus}
+use Rattle.flush_core.proofs.Durables.{place_of_one, take_next}
 
--- An entry stands at a place, and may come there.
-record StandsAt (first : TreeState) (stamp : ℕ) (history : List Entry) (entry : Entry) (place : ℕ) : Type 0 where
-  stands : slice_get history place ≡ Some entry
-  may : MayCome (tree_after first (take place history)) (stamp + place) entry
+-- what stands at a place of a legal history may come there
+may_from : (first : TreeState) (stamp : ℕ) (history : List Entry) (place : ℕ) (entry : Entry) → IsLegalFrom first stamp history → slice_get history place ≡ Some entry → MayCome (tree_after first (take place history)) (stamp + place) entry
+may_from first stamp [] place entry legal stands = none_some stands
+may_from first stamp (next ∷ history) zero entry legal stands = subst (λ (s : ℕ). MayCome first s entry) (sym (plus_zero stamp)) (subst (MayCome first stamp) (some_is stands) legal.0)
+may_from first stamp (next ∷ history) (suc place) entry legal stands =
+    subst (λ (s : ℕ). MayCome (tree_after (tree_after_entry first next) (take place history)) s entry) (suc_plus stamp place) (may_from (tree_after_entry first next) (suc stamp) history place entry legal.1 stands)
 
-stands_from : (first : TreeState) (stamp : ℕ) (history : List Entry) (entry : Entry) → IsLegalFrom first stamp history → IsOneOf history entry → (place : ℕ) × StandsAt first stamp history entry place
-stands_from first stamp [] entry legal one = absurd one
-stands_from first stamp (next ∷ history) entry legal one = elim one [
-  | inl same ↦ (0, record { stands = ap Some same; may = subst (λ (s : ℕ). MayCome first s entry) (sym (plus_zero stamp)) (subst (MayCome first stamp) same legal.0) })
-  | inr rest ↦
-      let there = stands_from (tree_after_entry first next) (suc stamp) history entry legal.1 rest in
-      (suc there.0, record { stands = there.1.stands; may = subst (λ (s : ℕ). MayCome (tree_after (tree_after_entry first next) (take there.0 history)) s entry) (one_on stamp there.0) there.1.may })
-]
-  where
-    plus_zero : (n : ℕ) → n + 0 ≡ n
-    plus_zero n = omega arith
-
-    one_on : (n m : ℕ) → suc n + m ≡ n + suc m
-    one_on n m = omega arith
+may_at : (first : TreeState) (history : List Entry) (place : ℕ) (entry : Entry) → IsLegal first history → slice_get history place ≡ Some entry → MayCome (tree_after first (take place history)) place entry
+may_at first history place entry legal stands = subst (λ (s : ℕ). MayCome (tree_after first (take place history)) s entry) (zero_plus place) (may_from first 0 history place entry legal stands)
 
 pub entries_may_come : EntriesMayCome
 entries_may_come first history entry legal one =
-    let there = stands_from first 0 history entry legal one in
-    let at : entry.stamp.0 ≡ there.0 = there.1.may.stamped ∙ zero_plus there.0 in
+    let there = place_of_one history entry one in
+    let may = may_at first history there.0 entry legal there.1 in
     record {
-      stands = ap (slice_get history) at ∙ there.1.stands;
-      may = subst (λ (place : ℕ). MayCome (tree_after first (take place history)) place entry) (sym at) (subst (λ (s : ℕ). MayCome (tree_after first (take there.0 history)) s entry) (zero_plus there.0) there.1.may);
+      stands = ap (slice_get history) may.stamped ∙ there.1;
+      may = subst (λ (place : ℕ). MayCome (tree_after first (take place history)) place entry) (sym may.stamped) may;
     }
-  where
-    zero_plus : (n : ℕ) → 0 + n ≡ n
-    zero_plus n = omega arith
 
 pub stamps_are_once : StampsAreOnce
 stamps_are_once first history entry other legal one also same =
     some_is (sym (entries_may_come first history entry legal one).stands ∙ ap (slice_get history) same ∙ (entries_may_come first history other legal also).stands)
+
+-- an entry behind a map to calls
+called_at : (history : List Entry) (place : ℕ) (e : Event) → slice_get (map event.Call history) place ≡ Some e → (entry : Entry) × (slice_get history place ≡ Some entry) × (event.Call entry ≡ e)
+called_at [] place e stands = none_some stands
+called_at (entry ∷ history) zero e stands = (entry, refl, some_is stands)
+called_at (entry ∷ history) (suc place) e stands = called_at history place e stands
+
+taken_length : (history : List Entry) (place : ℕ) (entry : Entry) → slice_get history place ≡ Some entry → length (take place history) ≡ place
+taken_length [] place entry stands = none_some stands
+taken_length (next ∷ history) zero entry stands = refl
+taken_length (next ∷ history) (suc place) entry stands = ap suc (taken_length history place entry stands)
+
+module _ (first : TreeState) (history : List Entry) (legal : IsLegal first history) (place : ℕ) (entry : Entry) (stands : slice_get history place ≡ Some entry) where
+  may : MayCome (tree_after first (take place history)) (length (take place history)) entry
+  may = subst (λ (s : ℕ). MayCome (tree_after first (take place history)) s entry) (sym (taken_length history place entry stands)) (may_at first history place entry legal stands)
+
+  nothing_refuses : (why : Refused) → Refuses (told first history place) (event.Call entry) why → ⊥
+  nothing_refuses refused.Crashed r = cc
+  nothing_refuses (refused.NotNext want) r = r.0 may.stamped
+  nothing_refuses (refused.NotLegal reply) r = r.0 may
+  nothing_refuses (refused.Stopped commit) r = no_true r.0
+  nothing_refuses (refused.Used commit) r = absurd r
+  nothing_refuses (refused.Meets node) r = absurd r
+  nothing_refuses (refused.Late stamp) r = absurd r
+  nothing_refuses (refused.NotFlying commit) r = none_some r
+  nothing_refuses (refused.NotOpened commit) r = none_some r.1
+  nothing_refuses (refused.AlreadyOpened commit) r = absurd r
+  nothing_refuses refused.NoMemory r = absurd r
+
+  call_accepted : Accepts (told first history place) (event.Call entry) (told first history (suc place))
+  call_accepted = record {
+    free = nothing_refuses;
+    moves = (may, ap (λ (h : List Entry). record (start_of first) { history = h }) (take_next history place entry stands));
+  }
+
+pub calls_are_a_run : CallsAreARun
+calls_are_a_run first history legal = record {
+  begins = refl;
+  steps = λ place e stands.
+      let at = called_at history place e stands in
+      subst (λ (f : Event). Accepts (told first history place) f (told first history (suc place))) at.2 (call_accepted first history legal place at.0 at.1);
+}

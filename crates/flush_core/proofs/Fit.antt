@@ -5,7 +5,7 @@ use Rattle.std.specs.Prelude.{filter, fold}
 use Rattle.std.specs.FinMap.{FinMap, get}
 use Rattle.sfs_base.specs.declared.numbers.Kind.{Kind}
 use Rattle.sfs_tree.specs.Order.{key_cmp}
-use Rattle.sfs_tree.specs.Tree.{TreeState, Node, row_of, is_directory, next_number}
+use Rattle.sfs_tree.specs.Tree.{TreeState, row_of, is_directory, next_number}
 use Rattle.sfs_tree.specs.Effect.{Effect, Stays, Adds, Removes, Moves, Edits, tree_with}
 use Rattle.sfs_tree.specs.Changes.{RowChange, added, removed, other_side, changes_by}
 use Rattle.sfs_tree.specs.Sound.{Above, at_root, below, IsSound}
@@ -16,18 +16,16 @@ use Rattle.sfs_tree.proofs.KeepsMoves.{IsSound-moves}
 use Rattle.sfs_tree.proofs.KeepsNodes.{directory_node, node_cases}
 use Rattle.flush_core.specs.Cut.{with_own}
 use Rattle.flush_core.specs.Rules.{IsOneOf}
-use Rattle.flush_core.proofs.Own.{both, folds, stamp_of, sides, comes_in, replaced_in, filter_all, filter_none}
+use Rattle.flush_core.proofs.Basics.{below_or, both, filter_all, filter_none, no_less, not_below, not_none}
+use Rattle.flush_core.proofs.Own.{folds, stamp_of, sides, comes_in, replaced_in}
 use Rattle.flush_core.proofs.Nodes.{node_stays}
-use Rattle.flush_core.proofs.Runs.{Run, Made, IsLast, Keeps, Seen, below_cut, below_or, not_below}
+use Rattle.flush_core.proofs.Runs.{Run, Made, IsLast, Keeps, Seen, below_cut}
 use Rattle.flush_core.proofs.Seen.{ahead, behind, held, all_seen, other_end, first_end, stays_named}
 
 -- the nodes of all trees of a run, each with its kind
 pub record HasNodes (r : Run) (whole : TreeState) : Type 0 where
   pub node : (t x : ℕ) → IsSome (get (r.tree t).nodes x) → IsSome (get whole.nodes x)
   pub kind : (t x : ℕ) → IsSome (get (r.tree t).nodes x) → is_directory whole x ≡ is_directory (r.tree t) x
-
-no_node : {o : Option Node} → IsSome o → o ≡ None → ⊥
-no_node some none = cc
 
 module _ (r : Run) (cut : ℕ → ℕ) (s : Seen r cut) (keeps : Keeps r cut) (whole : TreeState) (nodes : HasNodes r whole) where
   -- the tree at the cut, with what lies below a stamp
@@ -83,8 +81,8 @@ module _ (r : Run) (cut : ℕ → ℕ) (s : Seen r cut) (keeps : Keeps r cut) (w
   adds_seen t d n c (Some kind) e mk f lt = record {
     holder = may_hold t d f.holder (added t d n c None) (made t (Adds d n c) (added t d n c None) e (inl refl)) refl lt;
     free = ahead r cut s t d n (omega arith) ∙ f.free;
-    no_root = λ root. no_node (directory_node (r.tree t) 0 (r.sound t).root) (ap (get (r.tree t).nodes) (sym root) ∙ f.fresh);
-    placeless = λ dir k m row. no_node (node_seen t k m c row) f.fresh;
+    no_root = λ root. not_none (directory_node (r.tree t) 0 (r.sound t).root) (ap (get (r.tree t).nodes) (sym root) ∙ f.fresh);
+    placeless = λ dir k m row. not_none (node_seen t k m c row) f.fresh;
     node = nodes.node (suc t) c (subst (λ (tree : TreeState). IsSome (get tree.nodes c)) (sym (r.next t ∙ ap (λ (g : Effect). tree_with (r.tree t) (r.core t) g (r.makes t)) e ∙ ap (tree_with (r.tree t) (r.core t) (Adds d n c)) mk)) (elim (node_cases (r.tree t).nodes (next_number (r.tree t) (r.core t)) (record { kind = kind; bytes = [] }) c) [
       | inl here ↦ subst IsSome (sym here.1) refl
       | inr other ↦ absurd (other.0 f.number)
@@ -170,14 +168,11 @@ module _ (r : Run) (cut : ℕ → ℕ) (s : Seen r cut) (keeps : Keeps r cut) (w
     | inr le ↦ spared t (Moves p n q m c) sound (λ y one. elim (sides (r.tree t) t p n q m c y one) [
       | inl same ↦ subst (λ (k : ℕ). cut k ≤ t) (sym same) le
       | inr same ↦ subst (λ (k : ℕ). cut k ≤ t) (sym same) (elim (below_or t (cut q)) [
-        | inl lq ↦ absurd (no_less t (cut p) (first_end r cut s keeps t p n q m c e lq) le)
+        | inl lq ↦ absurd (no_less (first_end r cut s keeps t p n q m c e lq) le)
         | inr above ↦ above
       ])
     ])
   ]
-    where
-      no_less : (a b : ℕ) → a < b → b ≤ a → ⊥
-      no_less a b lt le = omega arith
 
   next_sound : (t : ℕ) (effect : Effect) (makes : Option Kind) → r.effect t ≡ effect → r.makes t ≡ makes → Fits (r.tree t) (r.core t) effect makes → IsSound (seen_tree t) → Next t effect
   next_sound t Stays makes e mk f sound = sound

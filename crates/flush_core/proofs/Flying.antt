@@ -9,8 +9,7 @@ use Rattle.flush_core.specs.Rules.{IsOneOf}
 use Rattle.flush_core.specs.Closure.{every_entry, Flush, AreRaised}
 use Rattle.flush_core.specs.Machine.{Flight, MachineState, opened_for, BeginsFlight, Accepts}
 use Rattle.flush_core.specs.Runs.{IsRun, IsBegun, view_of, Concerns, durable_by}
-use Rattle.flush_core.proofs.Runs.{below_or}
-use Rattle.flush_core.proofs.Along.{in_either}
+use Rattle.flush_core.proofs.Basics.{below_or, in_either, is_next, none_below}
 use Rattle.flush_core.proofs.Listed.{from_map}
 use Rattle.flush_core.proofs.RunFacts.{in_filter, flight_found, event_there, steady_at}
 
@@ -91,12 +90,9 @@ module _ (first : TreeState) (events : List Event) (states : ℕ → MachineStat
 
   -- a flight of a later state was one at a place, or begins from there on
   pub flight_before : (place later : ℕ) → place ≤ later → later ≤ length events → (flight : Flight) → IsOneOf (states later).flights flight → IsAmong (states place).flights flight ⊎ ((begin : ℕ) × (place ≤ begin) × (begin < later) × IsBegun events begin flight.commit flight.flush)
-  flight_before place zero le within flight one = inl (among_itself (states place).flights flight (subst (λ (p : ℕ). IsOneOf (states p).flights flight) (none_below place le) one))
-    where
-      none_below : (p : ℕ) → p ≤ 0 → 0 ≡ p
-      none_below p le = omega arith
+  flight_before place zero le within flight one = inl (among_itself (states place).flights flight (subst (λ (p : ℕ). IsOneOf (states p).flights flight) (sym (none_below place le)) one))
   flight_before place (suc later) le within flight one = elim (below_or later place) [
-    | inl lt ↦ inl (among_itself (states place).flights flight (subst (λ (p : ℕ). IsOneOf (states p).flights flight) (same place later lt le) one))
+    | inl lt ↦ inl (among_itself (states place).flights flight (subst (λ (p : ℕ). IsOneOf (states p).flights flight) (sym (is_next place later le lt)) one))
     | inr less ↦ elim (flight_from later within flight one) [
       | inr new ↦ inr (later, less, omega arith, new.begun)
       | inl old ↦ elim (flight_before place later less (omega arith) old.was old.there) [
@@ -105,6 +101,3 @@ module _ (first : TreeState) (events : List Event) (states : ℕ → MachineStat
       ]
     ]
   ]
-    where
-      same : (p l : ℕ) → l < p → p ≤ suc l → suc l ≡ p
-      same p l lt le = omega arith

@@ -14,9 +14,9 @@ use Rattle.flush_core.specs.declared.past.OwnChange.{OwnChange}
 use Rattle.flush_core.specs.declared.past.Past.{Past}
 use Rattle.flush_core.specs.Rules.{Birth, births_by}
 use Rattle.flush_core.specs.Past.{row_change_of, birth_of}
-use Rattle.flush_core.specs.Plan.{AreNoted, plan_of}
+use Rattle.flush_core.specs.Plan.{KeepAllAbove, plan_of}
 use Rattle.flush_core.specs.Grows.{Grows, HasBirth}
-use Rattle.flush_core.proofs.Noted.{noted_plain, noted_more}
+use Rattle.flush_core.proofs.KeptAbove.{noted_plain, noted_more}
 use Rattle.flush_core.proofs.Planned.{MakesNone, follows_plan, none_born, makes_node, makes_nothing}
 
 module _ (old new : Past) (entry : Entry) (tree : new.tree ≡ tree_after_entry old.tree entry) where
@@ -60,7 +60,7 @@ module _ (old new : Past) (entry : Entry) (tree : new.tree ≡ tree_after_entry 
       (ap (λ (c : Call). births_by entry.stamp.0 (verdict old.tree entry.core.0 c).effect (verdict old.tree entry.core.0 c).makes) is ∙ both.1)
 
   -- any other call was answered Ok
-  pub grows_planned : (planned : List OwnChange) → MakesNone entry.call → (verdict old.tree entry.core.0 entry.call).reply ≡ reply.Ok → map row_change_of planned ≡ changes_by old.tree entry.stamp.0 (plan_of old.tree entry.call) → AreNoted old.tree planned
+  pub grows_planned : (planned : List OwnChange) → MakesNone entry.call → (verdict old.tree entry.core.0 entry.call).reply ≡ reply.Ok → map row_change_of planned ≡ changes_by old.tree entry.stamp.0 (plan_of old.tree entry.call) → KeepAllAbove old.tree planned
       → new.changes.items ≡ old.changes.items ++ planned → new.births.items ≡ old.births.items → Grows old entry new
   grows_planned planned none ok rows noted more same_births =
       let follows = follows_plan old.tree entry.core.0 entry.stamp.0 entry.call none in

@@ -1,32 +1,25 @@
 -- A past to which a legal call was added is that of the longer history.
-use Rattle.std.proofs.Common.{◌≡◌, ◌≢◌, ℕ, ◌<◌, ◌≤◌, true, false, List, [], ◌∷◌, ◌++◌, length, take, map, Option, Some, None, IsSome, inl, inr, refl, sym, ap, subst, ◌∙◌, arith}
+use Rattle.std.proofs.Common.{◌≡◌, ℕ, ◌<◌, ◌≤◌, true, List, [], ◌∷◌, ◌++◌, length, take, map, inl, inr, refl, sym, ap, subst, ◌∙◌, arith}
 use Rattle.std.proofs.lemmas.List.{append_assoc, append-nil, map-append}
-use Rattle.std.specs.FinMap.{get}
-use Rattle.sfs_base.specs.declared.numbers.Kind.{Kind}
 use Rattle.sfs_tree.specs.declared.history.Entry.{Entry}
-use Rattle.sfs_tree.specs.Tree.{TreeState, row_of, is_directory, is_alive}
-use Rattle.sfs_tree.specs.Effect.{Effect, Stays, Adds, Removes, Moves, Edits}
-use Rattle.sfs_tree.specs.Sound.{Above, IsSound}
-use Rattle.sfs_tree.specs.Fits.{Fits}
+use Rattle.sfs_tree.specs.Tree.{TreeState, is_directory, is_alive}
+use Rattle.sfs_tree.specs.Effect.{Effect}
 use Rattle.sfs_tree.specs.Verdict.{verdict}
-use Rattle.sfs_tree.specs.Changes.{RowChange, added, removed, replaced, other_side, changes_by, changes_of}
+use Rattle.sfs_tree.specs.Changes.{RowChange, changes_by, changes_of}
 use Rattle.sfs_tree.specs.History.{tree_after, tree_after_entry, IsLegal}
 use Rattle.sfs_tree.specs.Laws.{IsSoundTree}
 use Rattle.sfs_tree.proofs.Histories.{tree_after-push}
-use Rattle.sfs_tree.proofs.KeepsNodes.{directory_node}
 use Rattle.sfs_tree.proofs.SoundTrees.{calls_fit}
 use Rattle.sfs_tree.proofs.FileHistories.{histories_keep_sound}
 use Rattle.flush_core.specs.declared.past.OwnChange.{OwnChange}
 use Rattle.flush_core.specs.declared.past.Past.{Past}
-use Rattle.flush_core.specs.Rules.{IsOneOf, IsChange, IsMove, births_by, births_of}
+use Rattle.flush_core.specs.Rules.{IsOneOf, IsChange, births_by, births_of}
 use Rattle.flush_core.specs.Past.{row_change_of, KeepsAbove, IsPast}
-use Rattle.flush_core.specs.Plan.{IsNoted}
 use Rattle.flush_core.specs.Grows.{Grows}
+use Rattle.flush_core.proofs.Basics.{in_either}
 use Rattle.flush_core.proofs.Own.{stamp_of}
-use Rattle.flush_core.proofs.Along.{tree_at-after, in_right, in_either}
 use Rattle.flush_core.proofs.Lives.{live_own}
-use Rattle.flush_core.proofs.Prefix.{take_take, change_below, kind_whole}
-use Rattle.flush_core.proofs.Prefixes.{move_whole, move_prefix}
+use Rattle.flush_core.proofs.Prefix.{take_take, change_below}
 
 -- the changes and births of a history with an entry more
 pub changes_of-push : (first : TreeState) (history : List Entry) (entry : Entry) → changes_of first (history ++ entry ∷ []) ≡ changes_of first history ++ changes_by (tree_after first history) entry.stamp.0 (verdict (tree_after first history) entry.core.0 entry.call).effect
@@ -44,40 +37,6 @@ births_of-push first (e ∷ history) entry =
 take_length : {X : Type 0} (xs ys : List X) → take (length xs) (xs ++ ys) ≡ xs
 take_length [] ys = refl
 take_length (x ∷ xs) ys = ap (λ l. x ∷ l) (take_length xs ys)
-
--- what a rename places stood in the tree before
-mover_there : (tree : TreeState) (core t : ℕ) (s : IsSound tree) (effect : Effect) (makes : Option Kind) → Fits tree core effect makes → (x : RowChange) → IsOneOf (changes_by tree t effect) x → x.places ≡ true → x.other ≢ None → IsSome (get tree.nodes x.child)
-mover_there tree core t s Stays makes f x one places other = absurd one
-mover_there tree core t s (Edits file edit) makes f x one places other = absurd one
-mover_there tree core t s (Adds d n c) makes f x one places other = elim one [
-  | inl e ↦ absurd (other (ap (λ (y : RowChange). y.other) (sym e)))
-  | inr none ↦ absurd none
-]
-mover_there tree core t s (Removes d n c) makes f x one places other = elim one [
-  | inl e ↦ absurd (other (ap (λ (y : RowChange). y.other) (sym e)))
-  | inr none ↦ absurd none
-]
-mover_there tree core t s (Moves p n q m c) (Some kind) f x one places other = absurd f
-mover_there tree core t s (Moves p n q m c) None f x one places other =
-    elim (row_of tree q m) as (λ o. IsOneOf (replaced tree t p q m o ++ removed t p n c (other_side p q) false ∷ added t q m c (other_side q p) ∷ []) x → IsSome (get tree.nodes x.child)) [
-      | None ↦ λ h. two h
-      | Some there ↦ λ h. elim h [ inl e ↦ absurd (gone (removed t q m there (other_side q p) (is_directory tree there)) e refl) | inr rest ↦ two rest ]
-    ] one
-  where
-    gone : (y : RowChange) → y ≡ x → y.places ≡ false → ⊥
-    gone y e no_place = differ (sym no_place ∙ ap (λ (z : RowChange). z.places) e ∙ places)
-      where
-        differ : false ≡ true → ⊥
-        differ e = cc
-
-    two : IsOneOf (removed t p n c (other_side p q) false ∷ added t q m c (other_side q p) ∷ []) x → IsSome (get tree.nodes x.child)
-    two h = elim h [
-      | inl e ↦ absurd (gone (removed t p n c (other_side p q) false) e refl)
-      | inr rest ↦ elim rest [
-        | inl e ↦ subst (λ (y : RowChange). IsSome (get tree.nodes y.child)) e (s.node p n c f.row)
-        | inr none ↦ absurd none
-      ]
-    ]
 
 module _ (first : TreeState) (history : List Entry) (entry : Entry) (is : IsSoundTree first) (legal : IsLegal first (history ++ entry ∷ [])) (stamped : entry.stamp.0 ≡ length history) (core : entry.core.0 < length (tree_after first history).made) where
   abbrev whole : List Entry
@@ -104,46 +63,13 @@ module _ (first : TreeState) (history : List Entry) (entry : Entry) (is : IsSoun
   same_take : (s : ℕ) → s ≤ n → take s history ≡ take s whole
   same_take s le = ap (take s) (sym prefix) ∙ take_take whole s n le
 
-  -- what was kept of a change is kept
-  still_kept : (change : OwnChange) → IsChange first history (row_change_of change) → KeepsAbove first history change → KeepsAbove first whole change
-  still_kept change one keeps = record {
-    is_move = λ above v. move_whole first whole is legal n (row_change_of change) (subst (λ (h : List Entry). IsMove first h (row_change_of change)) (sym prefix) (keeps.is_move above v));
-    stand = λ above v. subst (λ (h : List Entry). Above (tree_after first h) change.directory above) (same_take change.stamp low) (keeps.stand above v);
-    all = λ move above way.
-        keeps.all (subst (λ (h : List Entry). IsMove first h (row_change_of change)) prefix (move_prefix first whole is legal n (row_change_of change) lower move)) above
-        (subst (λ (h : List Entry). Above (tree_after first h) change.directory above) (sym (same_take change.stamp low)) way);
-  }
+  -- what is kept of a change by the tree at its stamp is kept in the longer history
+  still_kept : (change : OwnChange) → IsChange first history (row_change_of change) → KeepsAbove (tree_after first (take change.stamp history)) change → KeepsAbove (tree_after first (take change.stamp whole)) change
+  still_kept change one keeps = let lt = before prefix (row_change_of change) one in subst (λ (h : List Entry). KeepsAbove (tree_after first h) change) (same_take change.stamp (omega arith)) keeps
+
+  newly_kept : (change : OwnChange) → IsOneOf (changes_by tree entry.stamp.0 effect) (row_change_of change) → KeepsAbove tree change → KeepsAbove (tree_after first (take change.stamp whole)) change
+  newly_kept change one keeps = subst (λ (h : List Entry). KeepsAbove (tree_after first h) change) (sym there) keeps
     where
-      lower : change.stamp < n
-      lower = before prefix (row_change_of change) one
-
-      low : change.stamp ≤ n
-      low = let lt = lower in omega arith
-
-  -- a directory of the tree is one of the longer history's
-  kind_on : (x : ℕ) → IsSome (get tree.nodes x) → is_directory (tree_after first whole) x ≡ is_directory tree x
-  kind_on x some =
-      kind_whole first whole n legal x is (subst (λ (t : TreeState). IsSome (get t.nodes x)) (sym (tree_at-after first whole n ∙ ap (tree_after first) prefix)) some)
-      ∙ ap (λ (h : List Entry). is_directory (tree_after first h) x) prefix
-
-  -- what was noted of a new change is kept
-  newly_kept : (change : OwnChange) → IsOneOf (changes_by tree entry.stamp.0 effect) (row_change_of change) → IsNoted tree change → KeepsAbove first whole change
-  newly_kept change one noted = record {
-    is_move = λ above v.
-        let moves = noted.moves v.0 v.1 in
-        record { is_change = in_whole; places = moves.places; other = moves.other; kind = kind_on change.child (directory_node tree change.child moves.kind) ∙ moves.kind };
-    stand = λ above v. subst (λ (h : List Entry). Above (tree_after first h) change.directory above) (sym there) (subst (λ l. Above tree change.directory l) v.2 (noted.stand v.0 v.1));
-    all = λ move above way.
-        noted.all (record { places = move.places; other = move.other; kind = sym (kind_on change.child (mover_there tree entry.core.0 entry.stamp.0 sound.sound effect _ fits (row_change_of change) one move.places move.other)) ∙ move.kind }) above
-        (subst (λ (h : List Entry). Above (tree_after first h) change.directory above) there way);
-  }
-    where
-      fits : Fits tree entry.core.0 effect (verdict tree entry.core.0 entry.call).makes
-      fits = calls_fit tree entry.core.0 entry.call sound core
-
-      in_whole : IsChange first whole (row_change_of change)
-      in_whole = subst (λ l. IsOneOf l (row_change_of change)) (sym (changes_of-push first history entry)) (in_right (changes_of first history) _ (row_change_of change) one)
-
       there : take change.stamp whole ≡ history
       there = ap (λ s. take s whole) (stamp_of tree entry.stamp.0 effect (row_change_of change) one ∙ stamped) ∙ prefix
 
@@ -159,7 +85,7 @@ module _ (first : TreeState) (history : List Entry) (entry : Entry) (is : IsSoun
       | inr more ↦
           let row = subst (λ l. IsOneOf l (row_change_of change)) own (in_mapped grows.more change more) in
           let live = live_own tree entry.core.0 entry.stamp.0 sound.sound effect _ (calls_fit tree entry.core.0 entry.call sound core) (row_change_of change) row in
-          newly_kept change row (subst (λ (t : TreeState). IsNoted t change) past.tree
+          newly_kept change row (subst (λ (t : TreeState). KeepsAbove t change) past.tree
           (grows.noted change more (subst (λ (t : TreeState). is_directory t change.directory ≡ true) (sym past.tree) live.kind) (subst (λ (t : TreeState). is_alive t change.directory ≡ true) (sym past.tree) live.alive)))
     ];
   }

@@ -1,5 +1,5 @@
 -- What the fsyncs of a history's first entries keep is kept in the whole history.
-use Rattle.std.proofs.Common.{◌≡◌, ℕ, suc, ◌<◌, ◌≤◌, Bool, true, false, List, [], ◌∷◌, take, Some, IsSome, inl, inr, refl, sym, subst, ◌∙◌, arith}
+use Rattle.std.proofs.Common.{◌≡◌, ℕ, suc, ◌<◌, ◌≤◌, Bool, true, false, List, take, Some, IsSome, inl, inr, refl, sym, subst, ◌∙◌, arith}
 use borrow.Author.Tests.{lt-ltb}
 use Rattle.std.specs.FinMap.{get}
 use Rattle.sfs_tree.specs.declared.history.Entry.{Entry}
@@ -11,14 +11,15 @@ use Rattle.sfs_tree.specs.Laws.{IsSoundTree}
 use Rattle.flush_core.specs.Cut.{Cut, cut_of, is_within, rows_at_cut}
 use Rattle.flush_core.specs.Rules.{IsChange, IsLastPlacing, IsClosed}
 use Rattle.flush_core.specs.Closure.{every_entry, Flush, AreInodesAfter, AreRaised, none, one_more, IsNamedIn, IsReached, KeepsCut, AreBorn}
-use Rattle.flush_core.proofs.Runs.{Run, below_or}
-use Rattle.flush_core.proofs.Along.{tree_at, tree_at-after, run_of, nodes_at}
+use Rattle.flush_core.proofs.Basics.{below_or}
+use Rattle.flush_core.proofs.Runs.{Run}
+use Rattle.flush_core.proofs.Along.{made_at, node_first, nodes_at, run_of, tree_at, tree_at-after}
 use Rattle.flush_core.proofs.Lives.{born_before, ended_before, no_node_yet}
 use Rattle.flush_core.proofs.Commit.{IsBornAt, birth_at, fsyncs_keep}
 use Rattle.flush_core.proofs.Covered.{from_rows}
 use Rattle.flush_core.proofs.Children.{child_node}
 use Rattle.flush_core.proofs.Prefix.{change_whole, change_prefix, birth_prefix, kind_whole, counted_rows-take}
-use Rattle.flush_core.proofs.Prefixes.{made_at, move_prefix, same_tree}
+use Rattle.flush_core.proofs.Prefixes.{move_prefix, same_tree}
 use Rattle.flush_core.proofs.Views.{below}
 use Rattle.flush_core.proofs.Recount.{counted_rows-low}
 use Rattle.flush_core.proofs.NamedKept.{named_after}
@@ -100,15 +101,11 @@ module _ (first : TreeState) (history : List Entry) (is : IsSoundTree first) (le
   reached_node : (flush : Flush) (raised : Cut) (node : ℕ) → IsReached first history every_entry flush raised node → IsSome (get (tree_after first history).nodes node)
   reached_node flush raised node reached = elim reached [
     | inl named ↦ elim (from_rows (is_within raised) (changes_of first history) named.directory named.name first.rows node named.row) [
-      | inl before ↦ at_end 0 node (at_first history (is.sound.node named.directory named.name node before))
+      | inl before ↦ at_end 0 node (node_first first history node (is.sound.node named.directory named.name node before))
       | inr f ↦ subst (λ (y : ℕ). IsSome (get (tree_after first history).nodes y)) f.child (child_at_end f.change f.one)
     ]
     | inr file ↦ subst (λ (y : ℕ). IsSome (get (tree_after first history).nodes y)) file.2.child (child_at_end file.2.change file.2.is_change)
   ]
-    where
-      at_first : (h : List Entry) → IsSome (get first.nodes node) → IsSome (get (tree_at first h 0).nodes node)
-      at_first [] some = some
-      at_first (e ∷ h) some = some
 
   -- an fsync gives inodes to nodes alone
   nodes_raised : (cut : Cut) (inodes : ℕ → Bool) (flush : Flush) (raised : Cut) (after : ℕ → Bool) → AreInodesAfter first history every_entry cut inodes flush raised after → AreNodes first history inodes → AreNodes first history after
@@ -134,5 +131,5 @@ flushes_keep first history is legal (one_more flushes flush before raised inodes
     record {
       kept = fsyncs_keep first history before raised inodes_before after flush is legal now.kept raise sets;
       nodes = nodes_raised first history is legal before inodes_before flush raised after sets now.nodes;
-      named = named_after first history every_entry flush before raised inodes_before is legal (λ t lt. refl) raise after sets refl now.named;
+      named = named_after first history every_entry flush before raised inodes_before is legal (λ t lt. refl) raise after sets (λ node row. row) now.named;
     }

@@ -1,9 +1,9 @@
 -- What is held over a whole history in each state of a run that leads to it.
-use Rattle.std.proofs.Common.{◌≡◌, ℕ, zero, suc, ◌≤◌, Bool, true, List, [], ◌∷◌, ◌++◌, length, take, Option, Some, None, IsSome, is_some, inl, inr, refl, sym, ap, subst, ◌∙◌, nat_eq, not, arith}
+use Rattle.std.proofs.Common.{◌≡◌, ℕ, zero, suc, ◌≤◌, Bool, true, List, [], ◌∷◌, ◌++◌, length, take, Some, is_some, inl, inr, refl, sym, ap, subst, ◌∙◌, nat_eq, not, arith}
 use Rattle.std.specs.Prelude.{slice_get}
 use Rattle.std.specs.FinMap.{get, empty}
 use Rattle.sfs_tree.specs.declared.history.Entry.{Entry}
-use Rattle.sfs_tree.specs.Tree.{TreeState, Node, is_alive}
+use Rattle.sfs_tree.specs.Tree.{TreeState, is_alive}
 use Rattle.sfs_tree.specs.History.{tree_after, IsLegal}
 use Rattle.sfs_tree.specs.Laws.{IsSoundTree}
 use Rattle.flush_core.specs.declared.event.Event.{Event}
@@ -13,7 +13,7 @@ use Rattle.flush_core.specs.Rules.{IsOneOf}
 use Rattle.flush_core.specs.Closure.{every_entry, Flush, HasLiveNode, AreRaised, none, one_more}
 use Rattle.flush_core.specs.Machine.{Flight, MachineState, opened_for, kept_of, IsRaisedBy, Accepts}
 use Rattle.flush_core.specs.Runs.{IsRun, AreAlive}
-use Rattle.flush_core.proofs.Along.{in_left, in_right, in_either}
+use Rattle.flush_core.proofs.Basics.{in_either, in_left, in_right}
 use Rattle.flush_core.proofs.Lists.{first_kept_well}
 use Rattle.flush_core.proofs.Views.{IsHeld}
 use Rattle.flush_core.proofs.Listed.{from_map}

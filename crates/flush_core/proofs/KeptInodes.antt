@@ -1,7 +1,6 @@
 -- What fsyncs leave of nodes that have an inode, and of those that they do not concern.
-use Rattle.std.proofs.Common.{◌≡◌, ℕ, ◌<◌, ◌≤◌, Bool, true, false, List, [], ◌∷◌, length, Option, Some, None, IsSome, is_some, ◌⊎◌, inl, inr, refl, sym, ap, subst, ◌∙◌, nat_eq, arith}
+use Rattle.std.proofs.Common.{◌≡◌, ℕ, ◌<◌, ◌≤◌, Bool, true, false, List, length, Option, Some, ◌⊎◌, inl, inr, refl, sym, ap, subst, ◌∙◌, nat_eq, arith}
 use borrow.Author.Tests.{eqb-true, eqb-false}
-use Rattle.std.specs.Prelude.{◌↔◌}
 use Rattle.std.specs.FinMap.{FinMap, get, empty}
 use Rattle.sfs_base.specs.declared.numbers.Kind.{Kind}
 use Rattle.sfs_tree.specs.declared.history.Entry.{Entry}
@@ -13,30 +12,25 @@ use Rattle.sfs_tree.specs.History.{tree_after, IsLegal}
 use Rattle.sfs_tree.specs.Laws.{IsSoundTree}
 use Rattle.flush_core.specs.Cut.{Cut, cut_of, IsWithin, is_within, rows_at_cut}
 use Rattle.flush_core.specs.Rules.{IsOneOf, IsChange, births_by}
-use Rattle.flush_core.specs.Closure.{every_entry, Flush, IsConcerned, member, itself, IsNamedIn, IsRaised, IsReached, IsDead, AreInodesAfter, KeepsCut, AreRaised, none, one_more, AreFlushed}
+use Rattle.flush_core.specs.Closure.{every_entry, Flush, IsConcerned, member, itself, IsNamedIn, IsRaised, IsReached, IsDead, AreInodesAfter, KeepsCut, none, one_more, AreFlushed}
 use Rattle.flush_core.specs.LawsInodes.{OthersStay, StaysAsItWas, IsNeverNamed, NoneIsDead, DirectoriesAreNamed, DirectoriesStayNamed, FilesSettle}
-use Rattle.flush_core.proofs.Own.{both, skip}
-use Rattle.flush_core.proofs.Runs.{Run, below_or, not_below}
-use Rattle.flush_core.proofs.Along.{tree_at-first, effect_at, makes_at, run_of, birth_in, nodes_at}
+use Rattle.flush_core.proofs.Basics.{below_or, both, no_less, not_below}
+use Rattle.flush_core.proofs.Own.{skip}
+use Rattle.flush_core.proofs.Runs.{Run}
+use Rattle.flush_core.proofs.Raises.{cuts_rise}
+use Rattle.flush_core.proofs.Along.{birth_in, effect_at, made_at, nodes_at, run_of}
 use Rattle.flush_core.proofs.Closed.{keeps_of, seen_of, seen_end, closed_cuts_are_sound}
 use Rattle.flush_core.proofs.Children.{links_named}
-use Rattle.flush_core.proofs.Prefixes.{made_at}
 use Rattle.flush_core.proofs.Prefix.{stamp_below}
-use Rattle.flush_core.proofs.MemberKinds.{still_directory}
+use Rattle.flush_core.proofs.MemberKinds.{root_directory}
 use Rattle.flush_core.proofs.Lists.{nothing_within, lists_keep}
-use Rattle.flush_core.proofs.NamedKept.{up, is_between, between_concerned, between_change, row_raised, row_before}
+use Rattle.flush_core.proofs.NamedKept.{is_between, between_concerned, between_change, row_raised, row_before}
 use Rattle.flush_core.proofs.DirectoryPlaces.{place_at, now, left, gone}
 use Rattle.flush_core.proofs.Commit.{fsyncs_keep}
 
 module _ (first : TreeState) (history : List Entry) (cut raised : Cut) (inodes after : ℕ → Bool) (flush : Flush) (is : IsSoundTree first) (legal : IsLegal first history) (raise : IsRaised first history every_entry cut inodes flush raised) (sets : AreInodesAfter first history every_entry cut inodes flush raised after) where
-  abbrev higher : (d : ℕ) → cut_of cut d ≤ cut_of raised d
-  higher = up first history every_entry flush cut raised inodes is legal (λ t lt. refl) raise
-
   abbrev IsConcernedHere : ℕ → Type 0
   IsConcernedHere node = IsConcerned first history every_entry cut inodes flush node
-
-  no_less : (a b : ℕ) → a < b → b ≤ a → ⊥
-  no_less a b lt le = omega arith
 
   -- a change that names a node is flushed as it was, or the node is concerned
   pub flushed_or_concerned : (change : RowChange) → IsChange first history change → IsWithin raised change → IsWithin cut change ⊎ IsConcernedHere change.child
@@ -46,7 +40,7 @@ module _ (first : TreeState) (history : List Entry) (cut raised : Cut) (inodes a
   ]
 
   still_within : (change : RowChange) → IsWithin cut change → IsWithin raised change
-  still_within change within = let le = higher change.directory in omega arith
+  still_within change within = let le = cuts_rise first history every_entry cut inodes flush raised raise change.directory in omega arith
 
   module _ (node : ℕ) (none : IsConcernedHere node → ⊥) where
     same_inode : after node ≡ inodes node
@@ -94,7 +88,7 @@ module _ (first : TreeState) (history : List Entry) (cut raised : Cut) (inodes a
     | inr file ↦
         let naming = file.2 in
         let within = dead.flushed naming.change naming.is_change naming.counted naming.child in
-        no_less naming.change.stamp (cut_of raised naming.change.directory) within naming.unflushed
+        no_less within naming.unflushed
   ]
 
   -- what is dead stays dead
@@ -106,7 +100,7 @@ module _ (first : TreeState) (history : List Entry) (cut raised : Cut) (inodes a
       | inr b ↦
           let change = between_change first history every_entry flush cut raised inodes is legal (λ t lt. refl) raise node b in
           let within = dead.flushed b.change change.0 refl b.child in
-          no_less b.change.stamp (cut_of cut b.change.directory) within change.1
+          no_less within change.1
     ];
     flushed = λ change one counted child. still_within change (dead.flushed change one counted child);
   }
@@ -126,16 +120,13 @@ module _ (first : TreeState) (history : List Entry) (cut raised : Cut) (inodes a
     where
       unreached : (IsReached first history every_entry flush raised flush.node → ⊥) → IsDead first history every_entry raised flush.node
       unreached none_reached = record {
-        no_root = λ root. both (still_root root) file;
+        no_root = λ root. both (root_directory first history is legal) (subst (λ (y : ℕ). is_directory (tree_after first history) y ≡ false) root file);
         unnamed = λ named. none_reached (inl named);
         flushed = λ change one counted child. elim (below_or change.stamp (cut_of raised change.directory)) [
           | inl lt ↦ lt
           | inr le ↦ absurd (none_reached (inr (refl, file, record { change = change; is_change = one; counted = counted; child = child; unflushed = le })))
         ];
       }
-        where
-          still_root : flush.node ≡ 0 → is_directory (tree_after first history) flush.node ≡ true
-          still_root root = subst (λ (y : ℕ). is_directory (tree_after first history) y ≡ true) (sym root) (still_directory first history is legal 0 0 (subst (λ (tree : TreeState). is_directory tree 0 ≡ true) (sym (tree_at-first first history)) is.sound.root))
 
 pub others_stay : OthersStay
 others_stay first history cut raised inodes after flush node is legal raise sets unconcerned = as_it_was first history cut raised inodes after flush is legal raise sets node unconcerned

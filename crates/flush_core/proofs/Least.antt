@@ -6,7 +6,7 @@ use Rattle.flush_core.specs.NodeSets.{has_node}
 use Rattle.flush_core.specs.Machine.{Flight}
 use Rattle.flush_core.specs.Rules.{IsOneOf}
 use Rattle.flush_core.specs.Flights.{IsTaken, lesser_of, IsLeastTaken}
-use Rattle.flush_core.proofs.Along.{in_left, in_right, in_either}
+use Rattle.flush_core.proofs.Basics.{in_either, in_left, in_right, le_of, none_some, some_is}
 
 pub record IsLeastOf (flights : List Flight) (nodes : List ℕ) (least : Option ℕ) : Type 0 where
   pub is_in : (node : ℕ) → least ≡ Some node → IsOneOf nodes node
@@ -14,20 +14,14 @@ pub record IsLeastOf (flights : List Flight) (nodes : List ℕ) (least : Option 
   pub least_of : (node other : ℕ) → least ≡ Some node → IsOneOf nodes other → IsTaken flights other → node ≤ other
   pub none : (other : ℕ) → least ≡ None → IsOneOf nodes other → IsTaken flights other → ⊥
 
-no_some : {P : Type 0} {n : ℕ} → None ≡ Some n → P
-no_some e = cc
-
 some_no : {P : Type 0} {n : ℕ} → Some n ≡ None → P
 some_no e = cc
 
-same_some : {a b : ℕ} → Some a ≡ Some b → a ≡ b
-same_some e = cc
-
 pub least_none : (flights : List Flight) → IsLeastOf flights [] None
 least_none flights = record {
-  is_in = λ node e. no_some e;
-  taken = λ node e. no_some e;
-  least_of = λ node other e one taken. no_some e;
+  is_in = λ node e. none_some e;
+  taken = λ node e. none_some e;
+  least_of = λ node other e one taken. none_some e;
   none = λ other e one taken. absurd one;
 }
 
@@ -49,17 +43,14 @@ least_passed flights nodes node least is free = record {
 module _ (flights : List Flight) (nodes : List ℕ) (node : ℕ) (taken : IsTaken flights node) where
   first_one : IsLeastOf flights nodes None → IsLeastOf flights (nodes ++ node ∷ []) (Some node)
   first_one is = record {
-    is_in = λ n e. in_right nodes (node ∷ []) n (inl (same_some e));
-    taken = λ n e. subst (IsTaken flights) (same_some e) taken;
+    is_in = λ n e. in_right nodes (node ∷ []) n (inl (some_is e));
+    taken = λ n e. subst (IsTaken flights) (some_is e) taken;
     least_of = λ n other e one theirs. elim (in_either nodes (node ∷ []) other one) [
       | inl old ↦ absurd (is.none other refl old theirs)
-      | inr new ↦ elim new [ inl same ↦ le_of (sym (same_some e) ∙ same) | inr nothing ↦ absurd nothing ]
+      | inr new ↦ elim new [ inl same ↦ le_of (sym (some_is e) ∙ same) | inr nothing ↦ absurd nothing ]
     ];
     none = λ other e one theirs. some_no e;
   }
-    where
-      le_of : {a b : ℕ} → a ≡ b → a ≤ b
-      le_of e = omega arith
 
   stays_least : (other : ℕ) → other ≤ node → IsLeastOf flights nodes (Some other) → IsLeastOf flights (nodes ++ node ∷ []) (Some other)
   stays_least other le is = record {
@@ -67,7 +58,7 @@ module _ (flights : List Flight) (nodes : List ℕ) (node : ℕ) (taken : IsTake
     taken = is.taken;
     least_of = λ n third e one theirs. elim (in_either nodes (node ∷ []) third one) [
       | inl old ↦ is.least_of n third e old theirs
-      | inr new ↦ elim new [ inl same ↦ below (same_some e) same | inr nothing ↦ absurd nothing ]
+      | inr new ↦ elim new [ inl same ↦ below (some_is e) same | inr nothing ↦ absurd nothing ]
     ];
     none = λ third e one theirs. some_no e;
   }
@@ -77,18 +68,15 @@ module _ (flights : List Flight) (nodes : List ℕ) (node : ℕ) (taken : IsTake
 
   less_now : (other : ℕ) → node ≤ other → IsLeastOf flights nodes (Some other) → IsLeastOf flights (nodes ++ node ∷ []) (Some node)
   less_now other le is = record {
-    is_in = λ n e. in_right nodes (node ∷ []) n (inl (same_some e));
-    taken = λ n e. subst (IsTaken flights) (same_some e) taken;
+    is_in = λ n e. in_right nodes (node ∷ []) n (inl (some_is e));
+    taken = λ n e. subst (IsTaken flights) (some_is e) taken;
     least_of = λ n third e one theirs. elim (in_either nodes (node ∷ []) third one) [
-      | inl old ↦ low (same_some e) (is.least_of other third refl old theirs)
-      | inr new ↦ elim new [ inl same ↦ le_of (sym (same_some e) ∙ same) | inr nothing ↦ absurd nothing ]
+      | inl old ↦ low (some_is e) (is.least_of other third refl old theirs)
+      | inr new ↦ elim new [ inl same ↦ le_of (sym (some_is e) ∙ same) | inr nothing ↦ absurd nothing ]
     ];
     none = λ third e one theirs. some_no e;
   }
     where
-      le_of : {a b : ℕ} → a ≡ b → a ≤ b
-      le_of e = omega arith
-
       low : {n third : ℕ} → node ≡ n → other ≤ third → n ≤ third
       low e below = omega arith
 

@@ -1,3 +1,5 @@
+pub mod Basics
+pub mod Raises
 mod CutRows
 pub mod Nodes
 pub mod Own
@@ -12,7 +14,7 @@ pub mod Lives
 pub mod Commit
 pub mod Stamps
 pub mod Growing
-pub mod Noted
+pub mod KeptAbove
 pub mod Planned
 pub mod Views
 pub mod Prefix
@@ -70,3 +72,7 @@ pub mod DirectoryPlaces
 pub mod KeptInodes
 pub mod BlankFiles
 pub mod NewNodes
+pub mod RaisedRuns
+pub mod CoveredRuns
+pub mod LongerRuns
+pub mod OwnFiles

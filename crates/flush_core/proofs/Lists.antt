@@ -1,19 +1,20 @@
 -- A list of fsyncs, from the cut 0 and the nodes of the first tree.
-use Rattle.std.proofs.Common.{◌≡◌, ℕ, ◌<◌, Bool, true, List, [], ◌∷◌, Option, Some, None, IsSome, is_some, inl, inr, refl, sym, ap, subst, ◌∙◌, arith}
+use Rattle.std.proofs.Common.{◌≡◌, ℕ, ◌<◌, Bool, true, List, [], ◌∷◌, is_some, inl, inr, refl, sym, ap, subst, ◌∙◌, arith}
 use borrow.Author.Tests.{ltb-true}
 use Rattle.std.specs.Option.{unwrap_or}
 use Rattle.std.specs.Ordering.{nat_cmp}
 use Rattle.std.specs.FinMap.{get, empty, get-empty}
 use Rattle.sfs_tree.specs.declared.history.Entry.{Entry}
-use Rattle.sfs_tree.specs.Tree.{TreeState, Node}
+use Rattle.sfs_tree.specs.Tree.{TreeState}
 use Rattle.sfs_tree.specs.History.{IsLegal}
 use Rattle.sfs_tree.specs.Laws.{IsSoundTree}
 use Rattle.flush_core.specs.Cut.{Cut, cut_of, is_within, rows_at_cut}
 use Rattle.flush_core.specs.Rules.{IsClosed, IsOneOf}
 use Rattle.flush_core.specs.Covers.{ArePlaced, IsCovered}
 use Rattle.flush_core.specs.Closure.{every_entry, Flush, HasNode, IsNamedIn, AreFlushed, none, one_more, KeepsCut}
-use Rattle.flush_core.specs.Laws.{ListsCover, ListsKeep}
-use Rattle.flush_core.proofs.Along.{tree_at, run_of, in_left, in_right, in_either, first_nodes}
+use Rattle.flush_core.specs.Laws.{HistoriesAreCovered, ListsCover, ListsKeep}
+use Rattle.flush_core.proofs.Basics.{if_some, in_either, in_left, in_right, some_if}
+use Rattle.flush_core.proofs.Along.{node_first, run_of, first_nodes}
 use Rattle.flush_core.proofs.Covered.{from_rows, fsyncs_cover}
 use Rattle.flush_core.proofs.Closed.{closed_cuts_are_sound}
 use Rattle.flush_core.proofs.Lives.{no_node_yet}
@@ -40,57 +41,37 @@ first_kept first history inodes is legal same = record {
   closed = empty_closed first history;
   born = λ birth one has kind.
       let born = birth_at first history birth legal one in
-      absurd (no_node_yet (run_of first history is legal) birth.stamp birth.directory born.name birth.node born.kind born.adds born.made 0 (omega arith) (at_first history birth.node (some (get first.nodes birth.node) (sym (same birth.node) ∙ has))));
+      absurd (no_node_yet (run_of first history is legal) birth.stamp birth.directory born.name birth.node born.kind born.adds born.made 0 (omega arith) (node_first first history birth.node (some_if (get first.nodes birth.node) (sym (same birth.node) ∙ has))));
 }
-  where
-    some : (o : Option Node) → is_some o ≡ true → IsSome o
-    some (Some x) e = refl
-    some None e = cc
 
-    at_first : (h : List Entry) (x : ℕ) → IsSome (get first.nodes x) → IsSome (get (tree_at first h 0).nodes x)
-    at_first [] x some = some
-    at_first (e ∷ h) x some = some
-
--- what a row at the cut 0 names is a node of the first tree
-first_named : (first : TreeState) (history : List Entry) → IsSoundTree first → (node : ℕ) → IsNamedIn (rows_at_cut first history empty) node → is_some (get first.nodes node) ≡ true
-first_named first history is node row = elim (from_rows (is_within empty) _ row.directory row.name first.rows node row.row) [
-  | inl there ↦ some (get first.nodes node) (is.sound.node row.directory row.name node there)
+-- a row at the cut 0 is one of the first tree
+pub first_row : (first : TreeState) (history : List Entry) (node : ℕ) → IsNamedIn (rows_at_cut first history empty) node → IsNamedIn first.rows node
+first_row first history node row = elim (from_rows (is_within empty) _ row.directory row.name first.rows node row.row) [
+  | inl there ↦ record { directory = row.directory; name = row.name; row = there }
   | inr f ↦ nothing_within f.change.stamp f.change.directory (ltb-true _ _ f.passes)
 ]
-  where
-    some : (o : Option Node) → IsSome o → is_some o ≡ true
-    some (Some x) e = refl
-    some None e = cc
+
+-- so what it names is a node of that
+first_named : (first : TreeState) (history : List Entry) → IsSoundTree first → (node : ℕ) → IsNamedIn (rows_at_cut first history empty) node → is_some (get first.nodes node) ≡ true
+first_named first history is node named = let row = first_row first history node named in if_some (get first.nodes node) (is.sound.node row.directory row.name node row.row)
 
 -- at the cut 0, with the nodes of the first tree, all is kept
 pub first_kept_well : (first : TreeState) (history : List Entry) → IsSoundTree first → IsLegal first history → IsKeptWell first history empty (λ node. is_some (get first.nodes node))
 first_kept_well first history is legal = record {
   kept = first_kept first history (λ node. is_some (get first.nodes node)) is legal (λ _. refl);
-  nodes = λ node has. (first_nodes first history 0 is legal node (some (get first.nodes node) has)).0;
+  nodes = λ node has. (first_nodes first history 0 is legal node (some_if (get first.nodes node) has)).0;
   named = first_named first history is;
 }
-  where
-    some : (o : Option Node) → is_some o ≡ true → IsSome o
-    some (Some x) e = refl
-    some None e = cc
 
 pub lists_keep : ListsKeep
 lists_keep first history flushes cut inodes is legal flushed =
     let all = flushes_keep first history is legal flushed (first_kept_well first history is legal) in
-    record { kept = all.kept; sound = closed_cuts_are_sound first history cut is legal all.kept.closed; named = all.named }
+    record { kept = all.kept; sound = closed_cuts_are_sound first history cut is legal all.kept.closed; named = all.named; nodes = all.nodes }
 
 first_placed : (first : TreeState) (history : List Entry) (inodes : ℕ → Bool) → IsSoundTree first → IsLegal first history → ((node : ℕ) → inodes node ≡ is_some (get first.nodes node)) → ArePlaced first history empty inodes
 first_placed first history inodes is legal same birth one has =
     let born = birth_at first history birth legal one in
-    absurd (no_node_yet (run_of first history is legal) birth.stamp birth.directory born.name birth.node born.kind born.adds born.made 0 (omega arith) (at_first history birth.node (some (get first.nodes birth.node) (sym (same birth.node) ∙ has))))
-  where
-    some : (o : Option Node) → is_some o ≡ true → IsSome o
-    some (Some x) e = refl
-    some None e = cc
-
-    at_first : (h : List Entry) (x : ℕ) → IsSome (get first.nodes x) → IsSome (get (tree_at first h 0).nodes x)
-    at_first [] x some = some
-    at_first (e ∷ h) x some = some
+    absurd (no_node_yet (run_of first history is legal) birth.stamp birth.directory born.name birth.node born.kind born.adds born.made 0 (omega arith) (node_first first history birth.node (some_if (get first.nodes birth.node) (sym (same birth.node) ∙ has))))
 
 -- what a list of fsyncs leaves: nodes with an inode are placed, and each fsync of the list is covered
 record AreCovered (first : TreeState) (history : List Entry) (flushes : List Flush) (cut : Cut) (inodes : ℕ → Bool) : Type 0 where
@@ -115,3 +96,6 @@ all_covered first history is legal (one_more flushes flush cut raised inodes aft
 
 pub lists_cover : ListsCover
 lists_cover first history flushes cut inodes is legal flushed there flush one = (all_covered first history is legal flushed there).each flush one
+
+pub histories_are_covered : HistoriesAreCovered
+histories_are_covered first history flushes cut inodes moment is legal flushed there all flush ack acknowledged le = (all_covered first history is legal flushed there).each flush (all flush ack acknowledged le)

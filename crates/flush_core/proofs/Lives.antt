@@ -2,7 +2,7 @@
 use Rattle.std.proofs.Common.{◌≡◌, ◌≢◌, ℕ, zero, suc, ◌<◌, ◌≤◌, true, false, List, [], ◌∷◌, ◌++◌, Option, Some, None, IsSome, inl, inr, refl, sym, ap, subst, ◌∙◌, arith}
 use Rattle.std.specs.FinMap.{get, remove}
 use Rattle.sfs_base.specs.declared.numbers.Kind.{Kind}
-use Rattle.sfs_tree.specs.Tree.{TreeState, Node, row_of, is_alive, is_directory, next_number}
+use Rattle.sfs_tree.specs.Tree.{TreeState, row_of, is_alive, is_directory, next_number}
 use Rattle.sfs_tree.specs.Effect.{Effect, Stays, Adds, Removes, Moves, Edits, tree_with}
 use Rattle.sfs_tree.specs.Changes.{RowChange, added, removed, other_side, replaced, changes_by}
 use Rattle.sfs_tree.specs.Sound.{Above, at_root, below, IsSound}
@@ -10,14 +10,12 @@ use Rattle.sfs_tree.specs.Fits.{Fits}
 use Rattle.sfs_tree.proofs.RowFacts.{IsNamed, alive_named, added_cases, removed_cases, some_not_none}
 use Rattle.sfs_tree.proofs.KeepsNodes.{directory_node, node_cases}
 use Rattle.flush_core.specs.Rules.{IsOneOf}
-use Rattle.flush_core.proofs.Own.{both, sides}
+use Rattle.flush_core.proofs.Basics.{below_or, both, is_equal, is_next, none_below, not_none}
+use Rattle.flush_core.proofs.Own.{sides}
 use Rattle.flush_core.proofs.Nodes.{node_stays}
 use Rattle.flush_core.proofs.Placed.{named_before}
-use Rattle.flush_core.proofs.Runs.{Run, Made, Keeps, Seen, below_or}
+use Rattle.flush_core.proofs.Runs.{Run, Made, Keeps, Seen}
 use Rattle.flush_core.proofs.Seen.{ahead, behind, first_end}
-
-no_node : {o : Option Node} → IsSome o → o ≡ None → ⊥
-no_node some none = cc
 
 no_end : {P : Type 0} (x y : RowChange) → x ≡ y → y.ends ≡ true → x.ends ≡ false → P
 no_end x y e ends not = absurd (both (ap (λ (z : RowChange). z.ends) e ∙ ends) not)
@@ -166,23 +164,17 @@ module _ (r : Run) where
   -- a node stays one
   pub later : (u t x : ℕ) → u ≤ t → IsSome (get (r.tree u).nodes x) → IsSome (get (r.tree t).nodes x)
   later u zero x le some = subst (λ (k : ℕ). IsSome (get (r.tree k).nodes x)) (none_below u le) some
-    where
-      none_below : (u : ℕ) → u ≤ 0 → u ≡ 0
-      none_below u le = omega arith
   later u (suc t) x le some = elim (below_or t u) [
-    | inl lt ↦ subst (λ (k : ℕ). IsSome (get (r.tree k).nodes x)) (same u t le lt) some
+    | inl lt ↦ subst (λ (k : ℕ). IsSome (get (r.tree k).nodes x)) (is_next u t le lt) some
     | inr less ↦ subst (λ (tree : TreeState). IsSome (get tree.nodes x)) (sym (r.next t)) (node_stays (r.tree t) (r.core t) (r.effect t) (r.makes t) x (r.fits t) (later u t x less some))
   ]
-    where
-      same : (u t : ℕ) → u ≤ suc t → t < u → u ≡ suc t
-      same u t le lt = omega arith
 
   -- a making: its number is no node's before, and one's after
   fits_made : (b d : ℕ) (n : List ℕ) (x : ℕ) (kind : Kind) → r.effect b ≡ Adds d n x → r.makes b ≡ Some kind → Fits (r.tree b) (r.core b) (Adds d n x) (Some kind)
   fits_made b d n x kind adds makes = subst (λ (m : Option Kind). Fits (r.tree b) (r.core b) (Adds d n x) m) makes (subst (λ (f : Effect). Fits (r.tree b) (r.core b) f (r.makes b)) adds (r.fits b))
 
   pub no_node_yet : (b d : ℕ) (n : List ℕ) (x : ℕ) (kind : Kind) → r.effect b ≡ Adds d n x → r.makes b ≡ Some kind → (u : ℕ) → u ≤ b → IsSome (get (r.tree u).nodes x) → ⊥
-  no_node_yet b d n x kind adds makes u le some = no_node (later u b x le some) (made_fresh (r.tree b) (r.core b) d n x kind (fits_made b d n x kind adds makes))
+  no_node_yet b d n x kind adds makes u le some = not_none (later u b x le some) (made_fresh (r.tree b) (r.core b) d n x kind (fits_made b d n x kind adds makes))
 
   pub is_node_now : (b d : ℕ) (n : List ℕ) (x : ℕ) (kind : Kind) → r.effect b ≡ Adds d n x → r.makes b ≡ Some kind → IsSome (get (r.tree (suc b)).nodes x)
   is_node_now b d n x kind adds makes =
@@ -208,19 +200,13 @@ module _ (r : Run) where
   -- a directory that no row names is named no more
   pub stays_gone : (u x : ℕ) → IsSome (get (r.tree u).nodes x) → (IsNamed (r.tree u).rows x → ⊥) → (t : ℕ) → u ≤ t → is_directory (r.tree t) x ≡ true → IsNamed (r.tree t).rows x → ⊥
   stays_gone u x some none zero le kind named = none (subst (λ (k : ℕ). IsNamed (r.tree k).rows x) (sym (none_below u le)) named)
-    where
-      none_below : (u : ℕ) → u ≤ 0 → u ≡ 0
-      none_below u le = omega arith
   stays_gone u x some none (suc t) le kind named = elim (below_or t u) [
-    | inl lt ↦ none (subst (λ (k : ℕ). IsNamed (r.tree k).rows x) (sym (same u t le lt)) named)
+    | inl lt ↦ none (subst (λ (k : ℕ). IsNamed (r.tree k).rows x) (sym (is_next u t le lt)) named)
     | inr less ↦ elim (named_before (r.tree t) (r.core t) (r.sound t) (r.effect t) (r.makes t) (r.fits t) (r.files t) named.directory named.name x (sym (ap (λ (tree : TreeState). is_directory tree x) (r.next t)) ∙ kind) (sym (ap (λ (tree : TreeState). row_of tree named.directory named.name) (r.next t)) ∙ named.row)) [
       | inl was ↦ stays_gone u x some none t less was.0 was.1
       | inr born ↦ no_node_yet t born.directory born.name x born.kind born.adds born.made u less some
     ]
   ]
-    where
-      same : (u t : ℕ) → u ≤ suc t → t < u → u ≡ suc t
-      same u t le lt = omega arith
 
   -- a directory that a change ends has own changes only before it
   pub ended_before : (t : ℕ) (x : RowChange) (u : ℕ) (own : RowChange) → Made r t x → x.ends ≡ true → Made r u own → own.directory ≡ x.child → u < t
@@ -231,7 +217,7 @@ module _ (r : Run) where
         | inl root ↦ (r.sound t).unnamed x.directory x.name (ended.row ∙ ap Some root)
         | inr named ↦ stays_gone (suc t) x.child after gone u (next_below t u lt) (subst (λ (y : ℕ). is_directory (r.tree u) y ≡ true) same live.kind) named
       ]
-      | inr ge ↦ ended.others own (subst (λ (k : ℕ). IsOneOf (changes_by (r.tree k) k (r.effect k)) own) (equal u t le ge) change) same
+      | inr ge ↦ ended.others own (subst (λ (k : ℕ). IsOneOf (changes_by (r.tree k) k (r.effect k)) own) (is_equal u t le ge) change) same
     ])
   ]
     where
@@ -249,9 +235,6 @@ module _ (r : Run) where
 
       next_below : (a b : ℕ) → a < b → suc a ≤ b
       next_below a b lt = omega arith
-
-      equal : (a b : ℕ) → b ≤ a → a ≤ b → a ≡ b
-      equal a b le ge = omega arith
 
   -- a directory that a row at a cut names was made below the cut of its birth place
   pub named_born : (cut : ℕ → ℕ) (s : Seen r cut) → Keeps r cut → (x b d : ℕ) (n : List ℕ) (kind : Kind) → r.effect b ≡ Adds d n x → r.makes b ≡ Some kind → ((t : ℕ) → IsSome (get (r.tree t).nodes x) → is_directory (r.tree t) x ≡ true) → (t h : ℕ) (k : List ℕ) → get (s.rows t) (h, k) ≡ Some x → b < cut d

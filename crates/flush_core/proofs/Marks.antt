@@ -3,8 +3,7 @@ use Rattle.std.proofs.Common.{◌≡◌, ◌≢◌, ℕ, zero, suc, ◌+◌, ◌
 use borrow.Author.Tests.{eqb-true, eqb-false, eq-eqb}
 use Rattle.flush_core.specs.NodeSets.{with_member}
 use Rattle.flush_core.specs.Rules.{IsOneOf}
-use Rattle.flush_core.proofs.Along.{in_left, in_right, in_either}
-use Rattle.flush_core.proofs.Own.{both}
+use Rattle.flush_core.proofs.Basics.{both, in_either, in_left, in_right}
 
 -- a list has the marked places below this one
 abbrev pub AreMarkedBelow : List Bool → ℕ → List ℕ → Type 0

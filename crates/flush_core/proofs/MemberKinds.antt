@@ -13,12 +13,11 @@ use Rattle.flush_core.specs.Rules.{IsOneOf, IsChange, Birth, births_of}
 use Rattle.flush_core.specs.Closure as closure
 use Rattle.flush_core.specs.Closure.{Counts, Flush, Closure, IsConcerned}
 use Rattle.flush_core.specs.LawsInodes.{MembersAreDirectories, FilesFlushThemselves}
-use Rattle.flush_core.proofs.Own.{both}
+use Rattle.flush_core.proofs.Basics.{both}
 use Rattle.flush_core.proofs.Runs.{Run, Made}
-use Rattle.flush_core.proofs.Along.{tree_at, effect_at, tree_at-after, run_of, sound_at, nodes_at}
+use Rattle.flush_core.proofs.Along.{effect_at, made_at, nodes_at, run_of, sound_at, tree_at, tree_at-after, tree_at-first}
 use Rattle.flush_core.proofs.Lives.{live_at, ended_at}
 use Rattle.flush_core.proofs.Commit.{IsBornAt, birth_at}
-use Rattle.flush_core.proofs.Prefixes.{made_at}
 use Rattle.flush_core.proofs.Members.{other_changes, above_directory}
 
 module _ (first : TreeState) (history : List Entry) (is : IsSoundTree first) (legal : IsLegal first history) where
@@ -31,6 +30,9 @@ module _ (first : TreeState) (history : List Entry) (is : IsSoundTree first) (le
   -- a directory of one of the trees is one of the last
   pub still_directory : (t node : ℕ) → is_directory (tree_at first history t) node ≡ true → IsDirectory node
   still_directory t node kind = (nodes_at first history t is legal node (directory_node (tree_at first history t) node kind)).1 ∙ kind
+
+  pub root_directory : IsDirectory 0
+  root_directory = still_directory 0 0 (subst (λ (tree : TreeState). is_directory tree 0 ≡ true) (sym (tree_at-first first history)) is.sound.root)
 
   -- what changes is a directory
   pub own_directory : (t : ℕ) (x : RowChange) → Made run t x → IsDirectory x.directory
@@ -69,7 +71,7 @@ module _ (first : TreeState) (history : List Entry) (is : IsSoundTree first) (le
       no_change : (change : RowChange) → IsChange first history change → change.directory ≡ flush.node → ⊥
       no_change change one same = both (subst IsDirectory same (own_directory change.stamp change (made_at first history is legal change one))) file
 
-      member_alone : {node : ℕ} → Closure first history counts cut inodes flush node → node ≡ flush.node
+      pub member_alone : {node : ℕ} → Closure first history counts cut inodes flush node → node ≡ flush.node
       member_alone closure.itself = refl
       member_alone (closure.other_side change other own span two) = absurd (no_change change span.is_change (member_alone own))
       member_alone (closure.ended change own span ends) = absurd (no_change change span.is_change (member_alone own))

@@ -13,13 +13,14 @@ use Rattle.flush_core.specs.Cut.{Cut}
 use Rattle.flush_core.specs.Rules.{IsOneOf, IsChange, Birth, births_of}
 use Rattle.flush_core.specs.Closure as closure
 use Rattle.flush_core.specs.Closure.{Counts, Flush, HasLiveNode, Closure, IsConcerned}
+use Rattle.flush_core.proofs.Basics.{below_or, none_some}
 use Rattle.flush_core.proofs.Own.{goes_in, comes_in}
-use Rattle.flush_core.proofs.Runs.{Run, Made, below_or}
-use Rattle.flush_core.proofs.Along.{tree_at, effect_at, tree_at-after, run_of, sound_at}
+use Rattle.flush_core.proofs.Runs.{Run, Made}
+use Rattle.flush_core.proofs.Along.{effect_at, made_at, run_of, sound_at, tree_at, tree_at-after}
 use Rattle.flush_core.proofs.Lives.{live_at, later, no_node_yet}
 use Rattle.flush_core.proofs.Commit.{IsBornAt, birth_at}
 use Rattle.flush_core.proofs.Children.{child_node}
-use Rattle.flush_core.proofs.Prefixes.{made_at, live_node}
+use Rattle.flush_core.proofs.Prefixes.{live_node}
 
 -- the other one of two directories is the second
 other_is : (a b o : ℕ) → other_side a b ≡ Some o → b ≡ o
@@ -36,14 +37,8 @@ HasOwn tree t effect d = (y : RowChange) × IsOneOf (changes_by tree t effect) y
 pub other_changes : (tree : TreeState) (t : ℕ) (effect : Effect) (x : RowChange) (o : ℕ) → IsOneOf (changes_by tree t effect) x → x.other ≡ Some o → HasOwn tree t effect o
 other_changes tree t Stays x o one two = absurd one
 other_changes tree t (Edits file edit) x o one two = absurd one
-other_changes tree t (Adds d n c) x o one two = elim one [ inl e ↦ absurd (none (ap (λ (y : RowChange). y.other) e ∙ two)) | inr none ↦ absurd none ]
-  where
-    none : None ≡ Some o → ⊥
-    none q = cc
-other_changes tree t (Removes d n c) x o one two = elim one [ inl e ↦ absurd (none (ap (λ (y : RowChange). y.other) e ∙ two)) | inr none ↦ absurd none ]
-  where
-    none : None ≡ Some o → ⊥
-    none q = cc
+other_changes tree t (Adds d n c) x o one two = elim one [ inl e ↦ absurd (none_some (ap (λ (y : RowChange). y.other) e ∙ two)) | inr none ↦ absurd none ]
+other_changes tree t (Removes d n c) x o one two = elim one [ inl e ↦ absurd (none_some (ap (λ (y : RowChange). y.other) e ∙ two)) | inr none ↦ absurd none ]
 other_changes tree t (Moves p n q m c) x o one two =
     elim (row_of tree q m) as (λ r. IsOneOf (replaced tree t p q m r ++ removed t p n c (other_side p q) false ∷ added t q m c (other_side q p) ∷ []) x → HasOwn tree t (Moves p n q m c) o) [
       | None ↦ λ h. both h

@@ -1,7 +1,5 @@
 -- What an fsync does with the rows at the cut, and that what they name keeps an inode.
 use Rattle.std.proofs.Common.{◌≡◌, ℕ, zero, suc, ◌<◌, ◌≤◌, Bool, true, false, List, length, Some, ◌⊎◌, inl, inr, refl, sym, ap, subst, ◌∙◌, arith}
-use Rattle.std.specs.Prelude.{max}
-use Rattle.std.proofs.Math.Nat.{le-max_left, max-le}
 use Rattle.std.specs.FinMap.{FinMap, get}
 use Rattle.sfs_tree.specs.declared.history.Entry.{Entry}
 use Rattle.sfs_tree.specs.Order.{key_cmp}
@@ -12,8 +10,10 @@ use Rattle.sfs_tree.specs.Laws.{IsSoundTree}
 use Rattle.flush_core.specs.Cut.{Cut, cut_of, rows_at_cut, counted_rows_at_cut}
 use Rattle.flush_core.specs.Rules.{IsChange}
 use Rattle.flush_core.specs.Closure.{Counts, Flush, Closure, IsConcerned, named, IsNamedIn, IsRaised, AreInodesAfter}
-use Rattle.flush_core.proofs.Own.{both, stamp_of}
-use Rattle.flush_core.proofs.Runs.{Run, Made, Seen, below_or}
+use Rattle.flush_core.proofs.Basics.{below_or, both, no_less}
+use Rattle.flush_core.proofs.Own.{stamp_of}
+use Rattle.flush_core.proofs.Raises.{cuts_rise, was_or_spanned}
+use Rattle.flush_core.proofs.Runs.{Run, Made, Seen}
 use Rattle.flush_core.proofs.Seen.{ahead, behind}
 use Rattle.flush_core.proofs.Along.{tree_at, effect_at, run_of, change_in, change_of}
 use Rattle.flush_core.proofs.Closed.{seen_of, seen_end}
@@ -84,30 +84,9 @@ module _ (first : TreeState) (history : List Entry) (counts : Counts) (flush : F
   abbrev IsMember : ℕ → Type 0
   IsMember node = Closure first history counts cut inodes flush node
 
-  pub up : (d : ℕ) → cut_of cut d ≤ cut_of raised d
-  up d = elim (raise.other d) [
-    | inl own ↦ let e = raise.member d own in let le = le-max_left (cut_of cut d) flush.stamp in omega arith
-    | inr e ↦ omega arith
-  ]
-
   -- a stamp from a cut to below the raised one is in a member's span
   in_span : (d t : ℕ) → cut_of cut d ≤ t → t < cut_of raised d → IsMember d × (t < flush.stamp)
-  in_span d t from lt = elim (raise.other d) [
-    | inl own ↦ (own, below_stamp (raise.member d own))
-    | inr e ↦ absurd (no_less e)
-  ]
-    where
-      no_less : cut_of raised d ≡ cut_of cut d → ⊥
-      no_less e = omega arith
-
-      below_stamp : cut_of raised d ≡ max (cut_of cut d) flush.stamp → t < flush.stamp
-      below_stamp e = elim (below_or t flush.stamp) [
-        | inl less ↦ less
-        | inr more ↦ absurd (let le = max-le from more in no_less_than e le)
-      ]
-        where
-          no_less_than : cut_of raised d ≡ max (cut_of cut d) flush.stamp → max (cut_of cut d) flush.stamp ≤ t → ⊥
-          no_less_than e le = omega arith
+  in_span d t from lt = elim (was_or_spanned first history counts cut inodes flush raised raise t d lt) [ inl less ↦ absurd (no_less less from) | inr spanned ↦ (spanned.0, spanned.2) ]
 
   -- the child of a change between the two cuts is concerned
   pub between_concerned : (node : ℕ) → IsBetween run (cut_of cut) (cut_of raised) node → IsConcerned first history counts cut inodes flush node
@@ -139,24 +118,21 @@ module _ (first : TreeState) (history : List Entry) (counts : Counts) (flush : F
 
   -- a row at the raised cut is one at the cut, or a change between the two names its child
   pub row_raised : (directory : ℕ) (name : List ℕ) (node : ℕ) → get (rows_at_cut first history raised) (directory, name) ≡ Some node → (get (rows_at_cut first history cut) (directory, name) ≡ Some node) ⊎ IsBetween run (cut_of cut) (cut_of raised) node
-  row_raised directory name node row = elim (raised_row run (cut_of cut) (cut_of raised) (seen_of first history is legal cut) (seen_of first history is legal raised) up (length history) directory name node (at_end raised directory name ∙ row)) [
+  row_raised directory name node row = elim (raised_row run (cut_of cut) (cut_of raised) (seen_of first history is legal cut) (seen_of first history is legal raised) (cuts_rise first history counts cut inodes flush raised raise) (length history) directory name node (at_end raised directory name ∙ row)) [
     | inl there ↦ inl (sym (at_end cut directory name) ∙ there)
     | inr between ↦ inr between
   ]
 
   -- and the other way round
   pub row_before : (directory : ℕ) (name : List ℕ) (node : ℕ) → get (rows_at_cut first history cut) (directory, name) ≡ Some node → (get (rows_at_cut first history raised) (directory, name) ≡ Some node) ⊎ IsBetween run (cut_of cut) (cut_of raised) node
-  row_before directory name node row = elim (kept_row run (cut_of cut) (cut_of raised) (seen_of first history is legal cut) (seen_of first history is legal raised) up (length history) directory name node (at_end cut directory name ∙ row)) [
+  row_before directory name node row = elim (kept_row run (cut_of cut) (cut_of raised) (seen_of first history is legal cut) (seen_of first history is legal raised) (cuts_rise first history counts cut inodes flush raised raise) (length history) directory name node (at_end cut directory name ∙ row)) [
     | inl there ↦ inl (sym (at_end raised directory name) ∙ there)
     | inr between ↦ inr between
   ]
 
-  -- where the rows at the raised cut are those by the entries that count, what they name has an inode
-  module _ (after : ℕ → Bool) (sets : AreInodesAfter first history counts cut inodes flush raised after) (same_rows : rows_at_cut first history raised ≡ counted_rows_at_cut first history counts raised)
+  -- where what a row at the raised cut names is named by the entries that count, it has an inode
+  module _ (after : ℕ → Bool) (sets : AreInodesAfter first history counts cut inodes flush raised after) (counted_row : (node : ℕ) → IsNamedIn (rows_at_cut first history raised) node → IsNamedIn (counted_rows_at_cut first history counts raised) node)
       (had : (node : ℕ) → IsNamedIn (rows_at_cut first history cut) node → inodes node ≡ true) where
-    counted_row : (node : ℕ) → IsNamedIn (rows_at_cut first history raised) node → IsNamedIn (counted_rows_at_cut first history counts raised) node
-    counted_row node row = subst (λ (rows : FinMap key_cmp ℕ). IsNamedIn rows node) same_rows row
-
     pub named_after : (node : ℕ) → IsNamedIn (rows_at_cut first history raised) node → after node ≡ true
     named_after node row = elim (inodes node) as (λ b. inodes node ≡ b → after node ≡ true) [
       | true ↦ λ has. elim (after node) as (λ b. after node ≡ b → b ≡ true) [ true ↦ λ _. refl | false ↦ λ gone. absurd (((sets.leaves node has).0 gone).1.unnamed (counted_row node row)) ] refl

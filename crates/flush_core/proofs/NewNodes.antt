@@ -1,5 +1,5 @@
 -- A node is made in a legal history exactly where the tree after it has the node and the first tree has not.
-use Rattle.std.proofs.Common.{◌≡◌, ℕ, zero, suc, List, [], ◌∷◌, ◌++◌, Option, Some, None, IsSome, inl, inr, refl, sym, ap, subst, ◌∙◌, arith}
+use Rattle.std.proofs.Common.{◌≡◌, ℕ, suc, List, [], ◌∷◌, Option, Some, None, IsSome, inl, inr, refl, sym, ap, subst, ◌∙◌, arith}
 use Rattle.std.specs.FinMap.{get}
 use Rattle.sfs_base.specs.declared.numbers.Kind.{Kind}
 use Rattle.sfs_tree.specs.declared.history.Entry.{Entry}
@@ -13,7 +13,8 @@ use Rattle.sfs_tree.proofs.KeepsNodes.{node_cases}
 use Rattle.sfs_tree.proofs.SoundTrees.{calls_keep_sound, calls_fit}
 use Rattle.flush_core.specs.Rules.{IsOneOf, Birth, births_by, births_of}
 use Rattle.flush_core.specs.LawsInodes.{BirthsAreNewNodes}
-use Rattle.flush_core.proofs.Along.{tree_at, tree_at-first, run_of, nodes_at, in_left, in_right}
+use Rattle.flush_core.proofs.Basics.{in_left, in_right}
+use Rattle.flush_core.proofs.Along.{tree_at, node_first, run_of, nodes_at}
 use Rattle.flush_core.proofs.Commit.{birth_at}
 use Rattle.flush_core.proofs.Lives.{no_node_yet, is_node_now}
 
@@ -71,7 +72,7 @@ is_new first history node is legal found =
     let born = birth_at first history birth legal found.1 in
     let run = run_of first history is legal in (
       (nodes_at first history (suc birth.stamp) is legal node (subst (λ (y : ℕ). IsSome (get (tree_at first history (suc birth.stamp)).nodes y)) found.2 (is_node_now run birth.stamp birth.directory born.name birth.node born.kind born.adds born.made))).0,
-      not_some (get first.nodes node) (λ some. no_node_yet run birth.stamp birth.directory born.name birth.node born.kind born.adds born.made 0 (omega arith) (subst (λ (tree : TreeState). IsSome (get tree.nodes birth.node)) (sym (tree_at-first first history)) (subst (λ (y : ℕ). IsSome (get first.nodes y)) (sym found.2) some))),
+      not_some (get first.nodes node) (λ some. no_node_yet run birth.stamp birth.directory born.name birth.node born.kind born.adds born.made 0 (omega arith) (node_first first history birth.node (subst (λ (y : ℕ). IsSome (get first.nodes y)) (sym found.2) some))),
     )
   where
     not_some : (o : Option Node) → (IsSome o → ⊥) → o ≡ None

@@ -12,9 +12,7 @@ use Rattle.sfs_tree.proofs.Moved as moved
 use Rattle.sfs_tree.proofs.RowFacts.{added_other, removed_other}
 use Rattle.flush_core.specs.Cut.{with_own}
 use Rattle.flush_core.specs.Rules.{IsOneOf}
-
-pub both : {b : Bool} → b ≡ true → b ≡ false → ⊥
-both t f = cc
+use Rattle.flush_core.proofs.Basics.{both}
 
 -- a change leaves the rows of other directories
 pub with_own-other : (d : ℕ) (n : List ℕ) (rows : FinMap key_cmp ℕ) (x : RowChange) → x.directory ≢ d → get (with_own rows x) (d, n) ≡ get rows (d, n)
@@ -124,12 +122,3 @@ replaced_in tree t p n q m c there row =
   where
     same : (other : ℕ) → Some other ≡ Some there → other ≡ there
     same other e = cc
-
--- all pass, or none does
-pub filter_all : (w : RowChange → Bool) (cs : List RowChange) → ((x : RowChange) → IsOneOf cs x → w x ≡ true) → filter w cs ≡ cs
-filter_all w [] h = refl
-filter_all w (x ∷ cs) h = ap (λ b. cond b (x ∷ filter w cs) (filter w cs)) (h x (inl refl)) ∙ ap (λ l. x ∷ l) (filter_all w cs (λ y one. h y (inr one)))
-
-pub filter_none : {X : Type 0} (w : X → Bool) (cs : List X) → ((x : X) → IsOneOf cs x → w x ≡ false) → filter w cs ≡ []
-filter_none w [] h = refl
-filter_none w (x ∷ cs) h = ap (λ b. cond b (x ∷ filter w cs) (filter w cs)) (h x (inl refl)) ∙ filter_none w cs (λ y one. h y (inr one))

@@ -1,14 +1,14 @@
 -- What an effect that fits does with the row of a directory.
-use Rattle.std.proofs.Common.{◌≡◌, ◌≢◌, ℕ, true, false, List, Option, Some, None, IsSome, ◌⊎◌, inl, inr, refl, sym, ap, subst, ◌∙◌}
+use Rattle.flush_core.proofs.Basics.{both, none_some, not_none, some_is}
+use Rattle.std.proofs.Common.{◌≡◌, ◌≢◌, ℕ, true, false, List, Option, Some, None, ◌⊎◌, inl, inr, refl, sym, ap, subst, ◌∙◌}
 use Rattle.std.specs.FinMap.{get, insert, remove}
 use Rattle.sfs_base.specs.declared.numbers.Kind.{Kind}
-use Rattle.sfs_tree.specs.Tree.{TreeState, Node, row_of, is_directory}
+use Rattle.sfs_tree.specs.Tree.{TreeState, row_of, is_directory}
 use Rattle.sfs_tree.specs.Effect.{Effect, Stays, Adds, Removes, Moves, Edits, tree_with}
 use Rattle.sfs_tree.specs.Sound.{IsSound}
 use Rattle.sfs_tree.specs.Fits.{Fits}
 use Rattle.sfs_tree.proofs.RowFacts.{IsNamed, added_cases, added_other, removed_cases, removed_other, is_here, same_some, some_not_none}
 use Rattle.sfs_tree.proofs.Holders.{directory_stays}
-use Rattle.flush_core.proofs.Own.{both}
 
 -- the child that an effect places
 abbrev pub placed : Effect → Option ℕ
@@ -16,24 +16,15 @@ placed (Adds directory name child) = Some child
 placed (Moves directory name to_directory to_name child) = Some child
 placed _ = None
 
-none_is : {x : ℕ} → None ≡ Some x → ⊥
-none_is e = cc
-
-some_is : {x y : ℕ} → Some x ≡ Some y → x ≡ y
-some_is e = cc
-
-no_node : {o : Option Node} → IsSome o → o ≡ None → ⊥
-no_node some none = cc
-
 pub row_at : (tree : TreeState) (d e : ℕ) (k l : List ℕ) (x : ℕ) → d ≡ e → k ≡ l → row_of tree d k ≡ Some x → row_of tree e l ≡ Some x
 row_at tree d e k l x same names row = subst (λ (y : ℕ). row_of tree y l ≡ Some x) same (subst (λ (y : List ℕ). row_of tree d y ≡ Some x) names row)
 
 module _ (tree : TreeState) (core : ℕ) (s : IsSound tree) where
   -- a directory's row after an effect was there and the effect places another child, or it places this one
   pub came : (effect : Effect) (makes : Option Kind) → Fits tree core effect makes → (h : ℕ) (k : List ℕ) (a : ℕ) → is_directory (tree_with tree core effect makes) a ≡ true → row_of (tree_with tree core effect makes) h k ≡ Some a → ((row_of tree h k ≡ Some a) × (placed effect ≢ Some a)) ⊎ (placed effect ≡ Some a)
-  came Stays None f h k a kind row = inl (row, none_is)
-  came (Edits file edit) None f h k a kind row = inl (row, none_is)
-  came (Removes d n c) None f h k a kind row = inl ((removed_cases tree.rows h d k n a row).1, none_is)
+  came Stays None f h k a kind row = inl (row, none_some)
+  came (Edits file edit) None f h k a kind row = inl (row, none_some)
+  came (Removes d n c) None f h k a kind row = inl ((removed_cases tree.rows h d k n a row).1, none_some)
   came (Adds d n c) None f h k a kind row = elim (added_cases tree.rows h d k n c a row) [
     | inl new ↦ inr (ap Some (sym new.2))
     | inr old ↦ inl (old.1, λ e. f.placeless (subst (λ (y : ℕ). is_directory tree y ≡ true) (sym (some_is e)) kind) h k (old.1 ∙ sym e))
@@ -46,7 +37,7 @@ module _ (tree : TreeState) (core : ℕ) (s : IsSound tree) where
   ]
   came (Adds d n c) (Some mk) f h k a kind row = elim (added_cases tree.rows h d k n c a row) [
     | inl new ↦ inr (ap Some (sym new.2))
-    | inr old ↦ inl (old.1, λ e. no_node (s.node h k a old.1) (ap (get tree.nodes) (sym (some_is e)) ∙ f.fresh))
+    | inr old ↦ inl (old.1, λ e. not_none (s.node h k a old.1) (ap (get tree.nodes) (sym (some_is e)) ∙ f.fresh))
   ]
   came Stays (Some mk) f h k a kind row = absurd f
   came (Edits file edit) (Some mk) f h k a kind row = absurd f

@@ -1,5 +1,5 @@
 -- What a legal history's first entries have of the whole history's trees, effects, changes and births.
-use Rattle.std.proofs.Common.{◌≡◌, ℕ, zero, suc, ◌+◌, ◌<◌, ◌≤◌, Bool, false, cond, ◌&&◌, List, [], ◌∷◌, ◌++◌, length, take, Option, Some, IsSome, inl, inr, refl, sym, ap, subst, ◌∙◌, arith}
+use Rattle.std.proofs.Common.{◌≡◌, ℕ, zero, suc, ◌+◌, ◌<◌, ◌≤◌, false, ◌&&◌, List, [], ◌∷◌, ◌++◌, length, take, Option, Some, IsSome, inl, inr, refl, sym, ap, subst, ◌∙◌, arith}
 use borrow.Author.Tests.{lt-ltb}
 use Rattle.std.specs.Prelude.{filter, fold}
 use Rattle.std.proofs.lemmas.List.Elements.{filter-append}
@@ -16,9 +16,9 @@ use Rattle.sfs_tree.specs.Laws.{IsSoundTree}
 use Rattle.flush_core.specs.Cut.{Cut, is_within, is_counted_within, with_own, counted_rows_at_cut}
 use Rattle.flush_core.specs.Rules.{IsOneOf, IsChange, Birth, births_by, births_of}
 use Rattle.flush_core.specs.Closure.{every_entry}
-use Rattle.flush_core.proofs.Own.{stamp_of, filter_none}
-use Rattle.flush_core.proofs.Runs.{below_or, not_below}
-use Rattle.flush_core.proofs.Along.{tree_at, effect_at, makes_at, tree_at-after, change_in, change_of, birth_in, in_either, nodes_at}
+use Rattle.flush_core.proofs.Basics.{below_or, filter_none, filter_same, in_either, not_below}
+use Rattle.flush_core.proofs.Own.{stamp_of}
+use Rattle.flush_core.proofs.Along.{tree_at, effect_at, makes_at, tree_at-after, change_in, change_of, birth_in, nodes_at}
 use Rattle.flush_core.proofs.Commit.{IsBornAt, birth_at}
 use Rattle.flush_core.proofs.Views.{below}
 
@@ -132,12 +132,6 @@ module _ (first : TreeState) (history : List Entry) (n : ℕ) (legal : IsLegal f
 -- a change of a legal history lies below its length
 pub stamp_below : (first : TreeState) (history : List Entry) (x : RowChange) → IsLegal first history → IsChange first history x → x.stamp < length history
 stamp_below first history x legal one = change_below first history (length history) legal x (subst (λ (h : List Entry). IsChange first h x) (sym (take-length history)) one)
-
--- tests that give one answer for each of a list pass the same
-pub filter_same : (w v : RowChange → Bool) (cs : List RowChange) → ((x : RowChange) → IsOneOf cs x → w x ≡ v x) → filter w cs ≡ filter v cs
-filter_same w v [] h = refl
-filter_same w v (x ∷ cs) h =
-    ap (λ b. cond b (x ∷ filter w cs) (filter w cs)) (h x (inl refl)) ∙ ap (λ l. cond (v x) (x ∷ l) l) (filter_same w v cs (λ y one. h y (inr one)))
 
 -- each change of a legal history from a stamp on has that stamp at least
 stamps_from : (first : TreeState) (history : List Entry) (stamp : ℕ) (x : RowChange) → IsLegalFrom first stamp history → IsOneOf (changes_of first history) x → stamp ≤ x.stamp

@@ -12,15 +12,17 @@ use Rattle.sfs_tree.specs.Laws.{IsSoundTree}
 use Rattle.sfs_tree.proofs.RowFacts.{alive_named}
 use Rattle.sfs_tree.proofs.KeepsNodes.{directory_node}
 use Rattle.flush_core.specs.Cut.{Cut, counted_rows_at_cut}
-use Rattle.flush_core.specs.Rules.{IsChange, IsOneOf, Birth, births_of, IsMove}
+use Rattle.flush_core.specs.Rules.{IsChange, IsOneOf, Birth, births_of, MovesDirectory, IsMove}
 use Rattle.flush_core.specs.Closure.{every_entry, Flush, HasLiveNode, InSpan, HasNaming, IsNamedIn, IsReached, IsDead}
-use Rattle.flush_core.proofs.Runs.{Run, Made, below_or}
-use Rattle.flush_core.proofs.Along.{tree_at, tree_at-after, run_of, change_of, sound_at}
+use Rattle.flush_core.proofs.Basics.{below_or}
+use Rattle.flush_core.proofs.Runs.{Run}
+use Rattle.flush_core.proofs.Along.{made_at, tree_at, tree_at-after, run_of, sound_at}
 use Rattle.flush_core.proofs.Lives.{later, no_node_yet}
 use Rattle.flush_core.proofs.Commit.{birth_at}
 use Rattle.flush_core.proofs.Views.{below, PrefixesCount}
 use Rattle.flush_core.proofs.Prefix.{take_take, change_below, change_whole, change_prefix, birth_whole, birth_prefix, kind_whole, counted_rows-take}
 use Rattle.flush_core.proofs.Children.{child_node}
+use Rattle.flush_core.specs.Runs.{CommitView}
 use Rattle.flush_core.proofs.Alike.{Carries, GiveAlike, are_alike}
 
 -- what is alive is a node
@@ -34,16 +36,13 @@ module _ (first : TreeState) (history : List Entry) (is : IsSoundTree first) (le
   abbrev pub run : Run
   run = run_of first history is legal
 
-  pub made_at : (x : RowChange) → IsChange first history x → Made run x.stamp x
-  made_at x one = change_of first history x legal one
-
   -- a node is made before a change names it
   pub born_by : (birth : Birth) (x : RowChange) → IsOneOf (births_of first history) birth → IsChange first history x → x.child ≡ birth.node → birth.stamp ≤ x.stamp
   born_by birth x one is_change same = elim (below_or x.stamp birth.stamp) [
     | inr le ↦ le
     | inl lt ↦
         let born = birth_at first history birth legal one in
-        absurd (no_node_yet run birth.stamp birth.directory born.name birth.node born.kind born.adds born.made (suc x.stamp) (omega arith) (subst (λ (y : ℕ). IsSome (get (run.tree (suc x.stamp)).nodes y)) same (child_node run x.stamp x (made_at x is_change) (suc x.stamp) (omega arith))))
+        absurd (no_node_yet run birth.stamp birth.directory born.name birth.node born.kind born.adds born.made (suc x.stamp) (omega arith) (subst (λ (y : ℕ). IsSome (get (run.tree (suc x.stamp)).nodes y)) same (child_node run x.stamp x (made_at first history is legal x is_change) (suc x.stamp) (omega arith))))
   ]
 
   -- an fsync's node is one from its stamp on
@@ -90,43 +89,46 @@ module _ (first : TreeState) (history : List Entry) (is : IsSoundTree first) (le
       unflushed = naming.unflushed;
     }
 
-    child_kind : (x : RowChange) → IsChange first history x → x.stamp < n → is_directory (tree_after first history) x.child ≡ is_directory (tree_after first prefix) x.child
-    child_kind x one lt = kind_whole first history n legal x.child is (child_node run x.stamp x (made_at x one) n lt)
+    pub same_tree : (s : ℕ) → s < n → tree_after first (take s prefix) ≡ tree_after first (take s history)
+    same_tree s lt = ap (tree_after first) (take_take history s n (omega arith))
 
     pub move_whole : (x : RowChange) → IsMove first prefix x → IsMove first history x
     move_whole x move = record {
       is_change = change_whole first history n legal x move.is_change;
-      places = move.places;
-      other = move.other;
-      kind = child_kind x (change_whole first history n legal x move.is_change) (change_below first history n legal x move.is_change) ∙ move.kind;
+      moves = subst (λ (tree : TreeState). MovesDirectory tree x) (same_tree x.stamp (change_below first history n legal x move.is_change)) move.moves;
     }
 
     pub move_prefix : (x : RowChange) → x.stamp < n → IsMove first history x → IsMove first prefix x
     move_prefix x lt move = record {
       is_change = change_prefix first history n legal x move.is_change lt;
-      places = move.places;
-      other = move.other;
-      kind = sym (child_kind x move.is_change lt) ∙ move.kind;
+      moves = subst (λ (tree : TreeState). MovesDirectory tree x) (sym (same_tree x.stamp lt)) move.moves;
     }
 
-    pub same_tree : (s : ℕ) → s < n → tree_after first (take s prefix) ≡ tree_after first (take s history)
-    same_tree s lt = ap (tree_after first) (take_take history s n (omega arith))
-
     module _ (flush : Flush) (cut : Cut) (inodes : ℕ → Bool) (low : flush.stamp ≤ n) (live : HasLiveNode first history flush) where
-      to_whole : Carries first prefix every_entry history (below n) cut inodes flush
+      abbrev short : CommitView
+      short = record { history = prefix; counts = every_entry; cut = cut; inodes = inodes }
+
+      abbrev whole : CommitView
+      whole = record { history = history; counts = below n; cut = cut; inodes = inodes }
+
+      to_whole : Carries first flush short whole
       to_whole = record {
-        span = λ x span. span_whole cut flush.stamp x span;
+        span = λ x own there span. span_whole cut flush.stamp x span;
         moves = λ x span move. move_whole x move;
         stands = λ x above span way. subst (λ (tree : TreeState). Above tree x.directory above) (same_tree x.stamp (change_below first history n legal x span.is_change)) way;
-        births = λ birth own one none naming. (birth_whole first history n legal birth one, naming_whole cut birth.node naming);
+        births = λ birth own there l. record { one = birth_whole first history n legal birth l.one; lacks = l.lacks; naming = naming_whole cut birth.node l.naming };
       }
 
-      to_prefix : Carries first history (below n) prefix every_entry cut inodes flush
+      to_prefix : Carries first flush whole short
       to_prefix = record {
-        span = λ x span. span_prefix cut flush.stamp x span;
+        span = λ x own there span. span_prefix cut flush.stamp x span;
         moves = λ x span move. move_prefix x (ltb-true x.stamp n span.counted) move;
         stands = λ x above span way. subst (λ (tree : TreeState). Above tree x.directory above) (sym (same_tree x.stamp (ltb-true x.stamp n span.counted))) way;
-        births = λ birth own one none naming. (birth_prefix first history n legal birth one (let le = born_by birth naming.change one naming.is_change naming.child in let lt = ltb-true naming.change.stamp n naming.counted in omega arith), naming_prefix cut birth.node naming);
+        births = λ birth own there l. record {
+          one = birth_prefix first history n legal birth l.one (let le = born_by birth l.naming.change l.one l.naming.is_change l.naming.child in let lt = ltb-true l.naming.change.stamp n l.naming.counted in omega arith);
+          lacks = l.lacks;
+          naming = naming_prefix cut birth.node l.naming;
+        };
       }
 
       module _ (raised : Cut) where

@@ -18,7 +18,7 @@ use Rattle.flush_core.specs.Engine.{RaisesThose}
 use Rattle.flush_core.specs.Members.{AreConcerned}
 use Rattle.flush_core.specs.Named.{AreNamed}
 use Rattle.flush_core.specs.Inodes.{GetsInode, LosesInode, Settles}
-use Rattle.flush_core.proofs.Own.{both}
+use Rattle.flush_core.proofs.Basics.{both}
 use Rattle.flush_core.proofs.Listed.{one_more, still_one, next_one}
 use Rattle.flush_core.proofs.Marks.{with_in, with_other}
 use Rattle.flush_core.proofs.Brought.{naming_is, is_naming}

@@ -1,17 +1,17 @@
 -- What fsyncs keep over the whole history: what the tree at the cut names has an inode.
-use Rattle.std.proofs.Common.{◌≡◌, ℕ, ◌<◌, ◌≤◌, Bool, true, List, refl, sym, arith}
+use Rattle.std.proofs.Common.{ℕ, ◌≤◌, Bool, List, refl, arith}
 use borrow.Author.Tests.{lt-ltb}
 use Rattle.sfs_tree.specs.declared.history.Entry.{Entry}
 use Rattle.sfs_tree.specs.Tree.{TreeState}
 use Rattle.sfs_tree.specs.History.{IsLegal}
 use Rattle.sfs_tree.specs.Laws.{IsSoundTree}
-use Rattle.flush_core.specs.Cut.{Cut, cut_of, rows_at_cut, counted_rows_at_cut}
+use Rattle.flush_core.specs.Cut.{Cut, cut_of}
 use Rattle.flush_core.specs.Closure.{every_entry, Flush, HasLiveNode, IsRaised, AreInodesAfter, KeepsCut}
 use Rattle.flush_core.proofs.Commit.{fsyncs_keep}
 use Rattle.flush_core.proofs.Views.{below, IsHeld, RaisesHold}
 use Rattle.flush_core.proofs.RunFacts.{raised_low}
 use Rattle.flush_core.proofs.Alike.{inodes_alike}
-use Rattle.flush_core.proofs.Recount.{counted_rows-low, recounts}
+use Rattle.flush_core.proofs.Recount.{counted_named, recounts}
 use Rattle.flush_core.proofs.NamedKept.{named_after}
 
 module _ (first : TreeState) (history : List Entry) (n : ℕ) (flush : Flush) (cut raised : Cut) (inodes after : ℕ → Bool) (is : IsSoundTree first) (legal : IsLegal first history) (low : (node : ℕ) → cut_of cut node ≤ n) (stamp : flush.stamp ≤ n) (live : HasLiveNode first history flush) (held : IsHeld first history cut inodes) (raise : IsRaised first history (below n) cut inodes flush raised) (sets : AreInodesAfter first history (below n) cut inodes flush raised after) where
@@ -20,11 +20,8 @@ module _ (first : TreeState) (history : List Entry) (n : ℕ) (flush : Flush) (c
       let alike = recounts first history n (below n) every_entry flush cut inodes is legal (λ t lt. lt-ltb t n lt) (λ t lt. refl) low stamp live held in
       fsyncs_keep first history cut raised inodes after flush is legal held.kept ((alike.raises raised).0 raise) (inodes_alike first flush (record { history = history; counts = below n; cut = cut; inodes = inodes }) (record { history = history; counts = every_entry; cut = cut; inodes = inodes }) raised after alike raise sets)
 
-  same_rows : rows_at_cut first history raised ≡ counted_rows_at_cut first history (below n) raised
-  same_rows = sym (counted_rows-low first history n (below n) raised (λ t lt. lt-ltb t n lt) (raised_low first history (below n) cut inodes flush raised n raise low stamp))
-
   holds_after : IsHeld first history raised after
-  holds_after = record { kept = kept_after; named = named_after first history (below n) flush cut raised inodes is legal (λ t lt. lt-ltb t n (omega arith)) raise after sets same_rows held.named }
+  holds_after = record { kept = kept_after; named = named_after first history (below n) flush cut raised inodes is legal (λ t lt. lt-ltb t n (omega arith)) raise after sets (counted_named first history n (below n) raised (λ t lt. lt-ltb t n lt) (raised_low first history (below n) cut inodes flush raised n raise low stamp)) held.named }
 
 pub raises_hold : RaisesHold
 raises_hold first history n flush cut raised inodes after is legal low stamp live held raise sets = holds_after first history n flush cut raised inodes after is legal low stamp live held raise sets

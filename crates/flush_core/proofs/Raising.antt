@@ -12,7 +12,7 @@ use Rattle.flush_core.specs.Cut.{Cut, cut_of}
 use Rattle.flush_core.specs.Rules.{IsChange}
 use Rattle.flush_core.specs.Closure.{Flush, Closure, IsConcerned, member, named, IsRaised, AreInodesAfter}
 use Rattle.flush_core.specs.Runs.{CommitView, IsOneCommit, Enters, Leaves}
-use Rattle.flush_core.proofs.Runs.{below_or}
+use Rattle.flush_core.proofs.Basics.{below_or}
 use Rattle.flush_core.proofs.Views.{below, Agree}
 use Rattle.flush_core.proofs.Agree.{stamp_same, leave_same, agrees}
 

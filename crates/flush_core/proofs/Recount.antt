@@ -13,26 +13,22 @@ use Rattle.sfs_tree.proofs.RowFacts.{IsNamed}
 use Rattle.flush_core.specs.Cut.{Cut, cut_of, is_within, is_counted_within, with_own, rows_at_cut, counted_rows_at_cut}
 use Rattle.flush_core.specs.Rules.{IsChange}
 use Rattle.flush_core.specs.Closure.{Counts, Flush, HasLiveNode, HasNaming, IsNamedIn, IsReached, IsDead}
+use Rattle.flush_core.proofs.Basics.{and_false, below_or, both, filter_same, no_less, plus_zero}
 use Rattle.flush_core.proofs.Own.{stamp_of}
-use Rattle.flush_core.proofs.Runs.{Run, Seen, below_or}
+use Rattle.flush_core.proofs.Runs.{Run, Seen}
 use Rattle.flush_core.proofs.Seen.{behind}
-use Rattle.flush_core.proofs.Along.{tree_at, effect_at, run_of, change_in}
+use Rattle.flush_core.proofs.Along.{change_in, effect_at, made_at, run_of, tree_at}
 use Rattle.flush_core.proofs.Closed.{seen_of, seen_past}
 use Rattle.flush_core.proofs.Lives.{later}
 use Rattle.flush_core.proofs.Views.{IsHeld, Recounts}
 use Rattle.flush_core.proofs.RunFacts.{raised_low}
 use Rattle.flush_core.proofs.Children.{IsOpen, naming_since, flushed_or_open, links_named}
-use Rattle.flush_core.proofs.Prefix.{filter_same}
-use Rattle.flush_core.proofs.Prefixes.{made_at}
 use Rattle.flush_core.proofs.Members.{member_then, concerned_then}
 use Rattle.flush_core.proofs.Alike.{Carries, are_alike}
 
 -- rows at a cut stay from a stamp on that no cut is above
 rows_stay : (r : Run) (cut : ℕ → ℕ) (s : Seen r cut) (k more d : ℕ) (n : List ℕ) → cut d ≤ k → get (s.rows (k + more)) (d, n) ≡ get (s.rows k) (d, n)
-rows_stay r cut s k zero d n le = ap (λ t. get (s.rows t) (d, n)) (none_more k)
-  where
-    none_more : (k : ℕ) → k + 0 ≡ k
-    none_more k = omega arith
+rows_stay r cut s k zero d n le = ap (λ t. get (s.rows t) (d, n)) (plus_zero k)
 rows_stay r cut s k (suc more) d n le = ap (λ t. get (s.rows t) (d, n)) (one_more k more) ∙ behind r cut s (k + more) d n (omega arith) ∙ rows_stay r cut s k more d n le
   where
     one_more : (k m : ℕ) → k + suc m ≡ suc (k + m)
@@ -47,16 +43,16 @@ counted_within : (k : ℕ) (counts : Counts) (cut : Cut) (x : RowChange) → Cou
 counted_within k counts cut x all low =
     elim (nat_lt x.stamp (cut_of cut x.directory)) as (λ b. nat_lt x.stamp (cut_of cut x.directory) ≡ b → (counts x.stamp && b) ≡ b) [
       | true ↦ λ e. ap (λ b. b && true) (all x.stamp (let lt = ltb-true _ _ e in let le = low x.directory in omega arith))
-      | false ↦ λ e. none (counts x.stamp)
+      | false ↦ λ e. and_false (counts x.stamp)
     ] refl
-  where
-    none : (b : Bool) → (b && false) ≡ false
-    none true = refl
-    none false = refl
 
 -- so the rows at it are those at the cut
 pub counted_rows-low : (first : TreeState) (history : List Entry) (k : ℕ) (counts : Counts) (cut : Cut) → CountBelow k counts → ((node : ℕ) → cut_of cut node ≤ k) → counted_rows_at_cut first history counts cut ≡ rows_at_cut first history cut
 counted_rows-low first history k counts cut all low = ap (fold with_own first.rows) (filter_same (is_counted_within counts cut) (is_within cut) (changes_of first history) (λ x one. counted_within k counts cut x all low))
+
+-- and what a row at the cut names is named by the entries that count
+pub counted_named : (first : TreeState) (history : List Entry) (k : ℕ) (counts : Counts) (cut : Cut) → CountBelow k counts → ((node : ℕ) → cut_of cut node ≤ k) → (node : ℕ) → IsNamedIn (rows_at_cut first history cut) node → IsNamedIn (counted_rows_at_cut first history counts cut) node
+counted_named first history k counts cut all low node named = subst (λ (rows : FinMap key_cmp ℕ). IsNamedIn rows node) (sym (counted_rows-low first history k counts cut all low)) named
 
 module _ (first : TreeState) (history : List Entry) (is : IsSoundTree first) (legal : IsLegal first history) (k : ℕ) where
   abbrev run : Run
@@ -76,7 +72,7 @@ module _ (first : TreeState) (history : List Entry) (is : IsSoundTree first) (le
       same = stamp_of (tree_at first history o.stamp) o.stamp (effect_at first history o.stamp) o.change o.made
 
   -- a node that is named at the stamp is named at the cut, or open below the stamp
-  named_or_open : (cut : Cut) → ((node : ℕ) → cut_of cut node ≤ k) → (node : ℕ) → IsNamed (tree_at first history k).rows node → IsNamedIn (rows_at_cut first history cut) node ⊎ IsOpen run (cut_of cut) k node
+  pub named_or_open : (cut : Cut) → ((node : ℕ) → cut_of cut node ≤ k) → (node : ℕ) → IsNamed (tree_at first history k).rows node → IsNamedIn (rows_at_cut first history cut) node ⊎ IsOpen run (cut_of cut) k node
   named_or_open cut low node named = elim (flushed_or_open run (cut_of cut) (seen_of first history is legal cut) k named.directory named.name node named.row) [
     | inl there ↦ inl (record {
       directory = named.directory;
@@ -110,22 +106,20 @@ module _ (first : TreeState) (history : List Entry) (is : IsSoundTree first) (le
     at_k node some = later run flush.stamp k node stamp some
 
     module _ (counts other : Counts) (all : CountBelow k counts) (other_all : CountBelow k other) where
-      carries : Carries first history counts history other cut inodes flush
+      carries : Carries first flush (record { history = history; counts = counts; cut = cut; inodes = inodes }) (record { history = history; counts = other; cut = cut; inodes = inodes })
       carries = record {
-        span = λ x span. record { is_change = span.is_change; counted = other_all x.stamp (let lt = span.below in omega arith); from = span.from; below = span.below };
+        span = λ x own there span. record { is_change = span.is_change; counted = other_all x.stamp (let lt = span.below in omega arith); from = span.from; below = span.below };
         moves = λ x span move. move;
         stands = λ x above span way. way;
-        births = λ birth own one none naming. (
-          one,
-          elim (renamed counts other cut birth.node other_all low (at_k birth.node (member_then first history is legal counts cut inodes flush live own)) naming) [
-            | inl named ↦ absurd (both (held.named birth.node named) none)
+        births = λ birth own there l. record {
+          one = l.one;
+          lacks = l.lacks;
+          naming = elim (renamed counts other cut birth.node other_all low (at_k birth.node (member_then first history is legal counts cut inodes flush live own)) l.naming) [
+            | inl named ↦ absurd (both (held.named birth.node named) l.lacks)
             | inr found ↦ found
-          ],
-        );
+          ];
+        };
       }
-        where
-          both : {b : Bool} → b ≡ true → b ≡ false → ⊥
-          both t f = cc
 
       module _ (raised : Cut) (raised_at_most : (node : ℕ) → cut_of raised node ≤ k) where
         same_rows : counted_rows_at_cut first history counts raised ≡ counted_rows_at_cut first history other raised
@@ -134,14 +128,11 @@ module _ (first : TreeState) (history : List Entry) (is : IsSoundTree first) (le
         named_other : (node : ℕ) → IsNamedIn (counted_rows_at_cut first history counts raised) node → IsNamedIn (counted_rows_at_cut first history other raised) node
         named_other node named = subst (λ (rows : FinMap key_cmp ℕ). IsNamedIn rows node) same_rows named
 
-        named_counted : (node : ℕ) → IsNamedIn (rows_at_cut first history raised) node → IsNamedIn (counted_rows_at_cut first history counts raised) node
-        named_counted node named = subst (λ (rows : FinMap key_cmp ℕ). IsNamedIn rows node) (sym (counted_rows-low first history k counts raised all raised_at_most)) named
-
         reached_other : (node : ℕ) → IsSome (get (tree_at first history k).nodes node) → IsReached first history counts flush raised node → IsReached first history other flush raised node
         reached_other node some reached = elim reached [
           | inl named ↦ inl (named_other node named)
           | inr file ↦ elim (renamed counts other raised node other_all raised_at_most some file.2) [
-            | inl named ↦ inl (named_other node (named_counted node named))
+            | inl named ↦ inl (named_other node (counted_named first history k counts raised all raised_at_most node named))
             | inr naming ↦ inr (file.0, file.1, naming)
           ]
         ]
@@ -153,18 +144,15 @@ module _ (first : TreeState) (history : List Entry) (is : IsSoundTree first) (le
           flushed = λ x one counted child. elim (below_or x.stamp k) [
             | inl lt ↦ dead.flushed x one (other_all x.stamp lt) child
             | inr le ↦ absurd (elim (late_naming raised raised_at_most x one le (subst (λ (y : ℕ). IsSome (get (tree_at first history k).nodes y)) (sym child) some)) [
-              | inl named ↦ dead.unnamed (named_other node (named_counted node (subst (λ (y : ℕ). IsNamedIn (rows_at_cut first history raised) y) child named)))
+              | inl named ↦ dead.unnamed (named_other node (counted_named first history k counts raised all raised_at_most node (subst (λ (y : ℕ). IsNamedIn (rows_at_cut first history raised) y) child named)))
               | inr o ↦
                   let naming = open_naming other raised x.child other_all o in
                   let within = dead.flushed naming.change naming.is_change naming.counted (naming.child ∙ child) in
                   let unflushed = naming.unflushed in
-                  no_less (naming.change.stamp) (cut_of raised naming.change.directory) within unflushed
+                  no_less within unflushed
             ])
           ];
         }
-          where
-            no_less : (a b : ℕ) → a < b → b ≤ a → ⊥
-            no_less a b lt le = omega arith
 
 pub recounts : Recounts
 recounts first history k counts other flush cut inodes is legal all other_all low stamp live held =

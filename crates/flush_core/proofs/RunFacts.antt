@@ -1,5 +1,5 @@
 -- What holds of each state of a run of the machine.
-use Rattle.std.proofs.Common.{◌≡◌, ◌≢◌, ℕ, zero, suc, ◌<◌, ◌≤◌, Bool, true, false, cond, not, List, [], ◌∷◌, ◌++◌, length, take, map, Option, Some, None, inl, inr, refl, sym, ap, subst, ◌∙◌, nat_eq, arith, length-append}
+use Rattle.std.proofs.Common.{◌≡◌, ◌≢◌, ℕ, zero, suc, ◌<◌, ◌≤◌, Bool, true, false, cond, not, List, [], ◌∷◌, ◌++◌, length, take, map, Option, Some, inl, inr, refl, sym, ap, subst, ◌∙◌, nat_eq, arith, length-append}
 use borrow.Author.Tests.{eqb-true}
 use Rattle.std.specs.Prelude.{filter, slice_get, max}
 use Rattle.std.specs.List.{find}
@@ -20,9 +20,8 @@ use Rattle.flush_core.specs.Rules.{IsOneOf}
 use Rattle.flush_core.specs.Closure.{Counts, Flush, IsRaised, AreRaised, none, one_more}
 use Rattle.flush_core.specs.Machine.{Flight, MachineState, start_of, tree_now, flight_of, opened_for, kept_of, IsRaisedBy, BeginsFlight, Accepts}
 use Rattle.flush_core.specs.Runs.{IsRun, AreApart}
+use Rattle.flush_core.proofs.Basics.{below_or, in_either, in_left, in_right, is_next, none_below, none_some}
 use Rattle.flush_core.proofs.Listed.{from_map}
-use Rattle.flush_core.proofs.Runs.{below_or}
-use Rattle.flush_core.proofs.Along.{in_left, in_right, in_either}
 use Rattle.flush_core.proofs.Prefix.{take_take}
 
 -- The history is legal from the run's first tree; no cut and no flight's stamp lies above its length; and the flights have
@@ -43,9 +42,6 @@ pub record IsPrefix (short long : List Entry) : Type 0 where
 -- the one that is found is one of the list, and passes the test
 pub found_in : {X : Type 0} (w : X → Bool) (xs : List X) (x : X) → find w xs ≡ Some x → IsOneOf xs x × (w x ≡ true)
 found_in w [] x found = absurd (none_some found)
-  where
-    none_some : None ≡ Some x → ⊥
-    none_some e = cc
 found_in {X} w (y ∷ xs) x found =
     elim (w y) as (λ b. w y ≡ b → cond b (Some y) (find w xs) ≡ Some x → IsOneOf (y ∷ xs) x × (w x ≡ true)) [
       | true ↦ λ t f. let same = some_is f in (inl same, subst (λ (z : X). w z ≡ true) same t)
@@ -251,16 +247,10 @@ prefix_step old (event.Crash kept) new takes =
 
 -- each state's history is the first part of a later one's
 pub prefix_later : (first : TreeState) (events : List Event) (states : ℕ → MachineState) → IsRun first events states → (place later : ℕ) → place ≤ later → later ≤ length events → IsPrefix (states place).history (states later).history
-prefix_later first events states run place zero le within = subst (λ (p : ℕ). IsPrefix (states p).history (states 0).history) (none_below place le) (prefix_itself (states 0).history)
-  where
-    none_below : (p : ℕ) → p ≤ 0 → 0 ≡ p
-    none_below p le = omega arith
+prefix_later first events states run place zero le within = subst (λ (p : ℕ). IsPrefix (states p).history (states 0).history) (sym (none_below place le)) (prefix_itself (states 0).history)
 prefix_later first events states run place (suc later) le within = elim (below_or later place) [
-  | inl lt ↦ subst (λ (p : ℕ). IsPrefix (states p).history (states (suc later)).history) (same place later lt le) (prefix_itself (states (suc later)).history)
+  | inl lt ↦ subst (λ (p : ℕ). IsPrefix (states p).history (states (suc later)).history) (sym (is_next place later le lt)) (prefix_itself (states (suc later)).history)
   | inr less ↦
       let there = event_there events later (omega arith) in
       prefix_onward (states place).history (states later).history (states (suc later)).history (prefix_later first events states run place later less (omega arith)) (prefix_step (states later) there.0 (states (suc later)) (run.steps later there.0 there.1))
 ]
-  where
-    same : (p l : ℕ) → l < p → p ≤ suc l → suc l ≡ p
-    same p l lt le = omega arith

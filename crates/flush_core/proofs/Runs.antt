@@ -1,6 +1,5 @@
 -- A run of effects, what its trees keep, and the rules of a cut as they speak of it.
-use Rattle.std.proofs.Common.{◌≡◌, ◌≢◌, ℕ, zero, suc, ◌<◌, ◌≤◌, Bool, true, false, List, ◌∷◌, Option, Some, None, ◌⊎◌, inl, inr, refl, nat_lt, arith}
-use borrow.Author.Tests.{ltb-true, lt-ltb}
+use Rattle.std.proofs.Common.{◌≡◌, ◌≢◌, ℕ, suc, ◌<◌, ◌≤◌, Bool, true, false, List, ◌∷◌, Option, Some, None, nat_lt}
 use Rattle.std.specs.Prelude.{filter, fold}
 use Rattle.std.specs.FinMap.{FinMap}
 use Rattle.sfs_base.specs.declared.numbers.Kind.{Kind}
@@ -54,25 +53,3 @@ pub record Seen (r : Run) (cut : ℕ → ℕ) : Type 0 where
   pub rows : ℕ → FinMap key_cmp ℕ
   pub begin : rows 0 ≡ (r.tree 0).rows
   pub more : (t : ℕ) → rows (suc t) ≡ fold with_own (rows t) (filter (below_cut cut) (changes_at r t))
-
--- below, or not
-pub below_or : (a b : ℕ) → (a < b) ⊎ (b ≤ a)
-below_or a b =
-    elim (nat_lt a b) as (λ t. nat_lt a b ≡ t → (a < b) ⊎ (b ≤ a)) [
-      | true ↦ λ e. inl (ltb-true _ _ e)
-      | false ↦ λ e. inr (not_below e)
-    ] refl
-  where
-    not_below : nat_lt a b ≡ false → b ≤ a
-    not_below e = elim (cases a b) [ inl lt ↦ absurd (differ (lt-ltb _ _ lt) e) | inr le ↦ le ]
-      where
-        differ : nat_lt a b ≡ true → nat_lt a b ≡ false → ⊥
-        differ p q = cc
-
-        cases : (a b : ℕ) → (a < b) ⊎ (b ≤ a)
-        cases a zero = inr (omega arith)
-        cases zero (suc b) = inl (omega arith)
-        cases (suc a) (suc b) = elim (cases a b) [ inl lt ↦ inl (omega arith) | inr le ↦ inr (omega arith) ]
-
-pub not_below : (a b : ℕ) → b ≤ a → nat_lt a b ≡ false
-not_below a b le = elim (nat_lt a b) as (λ t. nat_lt a b ≡ t → t ≡ false) [ true ↦ λ e. absurd (let lt = ltb-true _ _ e in omega arith) | false ↦ λ _. refl ] refl

@@ -1,5 +1,5 @@
 -- In each state of a run the cut is closed, and directories with an inode are born.
-use Rattle.std.proofs.Common.{◌≡◌, ℕ, zero, suc, ◌≤◌, true, List, [], ◌∷◌, ◌++◌, length, take, sym, ap, subst, arith}
+use Rattle.std.proofs.Common.{ℕ, zero, suc, ◌≤◌, List, [], ◌∷◌, ◌++◌, length, take, sym, ap, subst, arith}
 use Rattle.std.specs.FinMap.{FinMap}
 use Rattle.sfs_tree.specs.Order.{key_cmp}
 use Rattle.std.proofs.Math.Seq.{take-append_seam}
@@ -64,4 +64,4 @@ pub runs_keep : RunsKeep
 runs_keep first events states place flushes cut inodes is run le raised =
     let legal = (steady_at first events states run place le).legal in
     let all = flushes_keep first (states place).history is legal raised (kept_at first is events states run place le) in
-    record { kept = all.kept; sound = closed_cuts_are_sound first (states place).history cut is legal all.kept.closed; named = all.named }
+    record { kept = all.kept; sound = closed_cuts_are_sound first (states place).history cut is legal all.kept.closed; named = all.named; nodes = all.nodes }

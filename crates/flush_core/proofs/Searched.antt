@@ -2,6 +2,7 @@
 use Rattle.std.proofs.Common.{◌≡◌, ℕ, ◌+◌, ◌<◌, ◌≤◌, ◌↔◌, true, false, List, length, take, get_or, inl, inr, sym, subst}
 use Rattle.std.proofs.lemmas.List.{take_all}
 use Rattle.flush_core.specs.Broken.{SomeIs}
+use Rattle.flush_core.proofs.Basics.{no_true}
 use Rattle.flush_core.proofs.Listed.{one_at, one_more}
 
 -- one that is such was found at a place
@@ -20,7 +21,4 @@ pub none_of_all : {X : Type 0} (Is : X → Type 0) (xs : List X) (i : ℕ) → l
 none_of_all Is xs i le none some = none (subst (λ l. SomeIs l Is) (sym (take_all i xs le)) some)
 
 pub none_at_all : {X : Type 0} (Is : X → Type 0) (xs : List X) (i : ℕ) → length xs ≤ i → (SomeIs (take i xs) Is → ⊥) → (false ≡ true) ↔ SomeIs xs Is
-none_at_all Is xs i le none = (λ e. absurd (differ e), λ some. absurd (none_of_all Is xs i le none some))
-  where
-    differ : false ≡ true → ⊥
-    differ e = cc
+none_at_all Is xs i le none = (λ e. no_true e, λ some. absurd (none_of_all Is xs i le none some))

@@ -10,9 +10,10 @@ use Rattle.sfs_tree.specs.Changes.{RowChange, added, removed, other_side, change
 use Rattle.sfs_tree.proofs.RowFacts.{IsNamed, added_there}
 use Rattle.sfs_tree.proofs.Holders.{directory_stays}
 use Rattle.flush_core.specs.Rules.{IsOneOf}
+use Rattle.flush_core.proofs.Basics.{below_or, no_less, not_below}
 use Rattle.flush_core.proofs.Own.{skip, keep, folds, stamp_of, goes_in, comes_in}
 use Rattle.flush_core.proofs.Placed.{placed, came, named_before, row_stays}
-use Rattle.flush_core.proofs.Runs.{Run, changes_at, Made, IsLast, Keeps, Seen, below_cut, below_or, not_below}
+use Rattle.flush_core.proofs.Runs.{Run, changes_at, Made, IsLast, Keeps, Seen, below_cut}
 
 -- the rows of a directory without a change stay
 pub quiet : (r : Run) (t d : ℕ) (n : List ℕ) → ((x : RowChange) → Made r t x → x.directory ≢ d) → row_of (r.tree (suc t)) d n ≡ row_of (r.tree t) d n
@@ -105,11 +106,8 @@ module _ (r : Run) (cut : ℕ → ℕ) (s : Seen r cut) where
   all_seen y all zero n = ahead zero y n (omega arith)
   all_seen y all (suc t) n = elim (below_or t (cut y)) [
     | inl lt ↦ ahead (suc t) y n (omega arith)
-    | inr le ↦ behind t y n le ∙ all_seen y all t n ∙ sym (quiet r t y n (λ x one same. let lt = all t x one same in no_less t (cut y) lt le))
+    | inr le ↦ behind t y n le ∙ all_seen y all t n ∙ sym (quiet r t y n (λ x one same. let lt = all t x one same in no_less lt le))
   ]
-    where
-      no_less : (a b : ℕ) → a < b → b ≤ a → ⊥
-      no_less a b lt le = omega arith
 
   module _ (keeps : Keeps r cut) where
     -- a move below the cut of its old directory lies below that of the new one

@@ -11,7 +11,7 @@ use Rattle.flush_core.specs.Rules.{IsOneOf}
 use Rattle.flush_core.specs.Closure.{every_entry, Flush, HasLiveNode, IsConcerned, IsRaised, AreInodesAfter, AreRaised, none, one_more}
 use Rattle.flush_core.specs.Machine.{Flight, MachineState}
 use Rattle.flush_core.specs.Runs.{IsRun, IsBegun, AreAlive, AreApart, view_of, IsOneCommit}
-use Rattle.flush_core.proofs.Along.{in_left, in_right}
+use Rattle.flush_core.proofs.Basics.{in_left, in_right}
 use Rattle.flush_core.proofs.Views.{below, AreAlike, IsHeld, Agree}
 use Rattle.flush_core.proofs.Listed.{from_map}
 use Rattle.flush_core.proofs.RunFacts.{IsPrefix, IsSteady, prefix_later, steady_at, cuts_stay_low}

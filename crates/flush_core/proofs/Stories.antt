@@ -26,11 +26,10 @@ use Rattle.flush_core.specs.Named.{kept_rows}
 use Rattle.flush_core.specs.Past.{IsPast}
 use Rattle.flush_core.specs.Story.{StoryState, end_of, answered_entry, IsStanding, IsReadyPast}
 use Rattle.flush_core.specs.declared.past.OwnChange.{OwnChange}
-use Rattle.flush_core.proofs.Along.{in_either}
+use Rattle.flush_core.proofs.Basics.{both, in_either}
 use Rattle.flush_core.proofs.CutRows.{directories_are_cut}
 use Rattle.flush_core.proofs.Grown.{grown_past}
 use Rattle.flush_core.proofs.Legal.{comes_at}
-use Rattle.flush_core.proofs.Own.{both}
 
 -- the tree of a past that is ready is sound, and has the first tree's cores
 module _ (first : TreeState) (entries : List Entry) (past : Past) (ready : IsReadyPast first entries past) where

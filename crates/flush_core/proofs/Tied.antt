@@ -17,8 +17,7 @@ use Rattle.flush_core.specs.Closure.{Counts, every_entry, Flush, HasLiveNode, Is
 use Rattle.flush_core.specs.Machine.{Flight, MachineState}
 use Rattle.flush_core.specs.Runs.{IsRun, IsBegun, AreAlive, view_of, IsOneCommit, AreTied, CountEnough}
 use Rattle.flush_core.specs.Laws.{CommitsAreTied}
-use Rattle.flush_core.proofs.Runs.{below_or}
-use Rattle.flush_core.proofs.Along.{in_left, in_right}
+use Rattle.flush_core.proofs.Basics.{below_or, in_left, in_right}
 use Rattle.flush_core.proofs.Views.{below, AreAlike, IsHeld, Agree}
 use Rattle.flush_core.proofs.RunFacts.{IsSteady, prefix_later, steady_at, event_there, cuts_stay_low}
 use Rattle.flush_core.proofs.Lists.{nothing_within}
@@ -38,7 +37,7 @@ use Rattle.flush_core.proofs.Durables.{not_chosen, so_far, each_chosen, more_so_
 use Rattle.flush_core.proofs.Awaited.{IsAwaited, own_awaited, still_awaited, raiser_awaited, untied_apart}
 
 module _ (first : TreeState) (events : List Event) (states : ℕ → MachineState) (is : IsSoundTree first) (run : IsRun first events states) (alive : AreAlive first events states) (within : length events ≤ length events)
-    (place commit : ℕ) (flush : Flush) (tied : ℕ → Bool) (begun : IsBegun events place commit flush) (tied_are : AreTied first events states commit tied) (counts : Counts) (enough : CountEnough events flush tied counts) where
+    (place commit : ℕ) (flush : Flush) (tied : ℕ → Bool) (begun : IsBegun events place commit flush) (tied_are : AreTied first events states commit tied) (counts : Counts) (enough : CountEnough events commit flush tied counts) where
   abbrev whole : List Entry
   whole = (states (length events)).history
 
@@ -79,7 +78,7 @@ module _ (first : TreeState) (events : List Event) (states : ℕ → MachineStat
     | inr less ↦
         let one = below_greatest (tied_till place) t less in
         let chosen = each_chosen first events states run place tied place one.0 one.1 in
-        enough.theirs chosen.commit one.0 t chosen.is_chosen chosen.own one.2
+        enough.theirs chosen.commit one.0 t chosen.is_chosen (record { place = chosen.durable; durable = chosen.stands; later = place; flush = flush; begun = begun; before = chosen.earlier }) chosen.own one.2
   ]
 
   -- An fsync of a live node, at a stamp that is not above the greatest.

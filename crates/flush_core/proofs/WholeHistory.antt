@@ -1,5 +1,5 @@
 -- What fsyncs raise over the first entries of a history they raise over the whole of it.
-use Rattle.std.proofs.Common.{◌≡◌, ℕ, ◌≤◌, Bool, true, false, List, [], ◌∷◌, ◌++◌, length, take, Option, Some, None, IsSome, option_map, inl, inr, refl, sym, ap, subst, ◌∙◌, arith}
+use Rattle.std.proofs.Common.{◌≡◌, ℕ, ◌≤◌, Bool, false, List, [], ◌∷◌, ◌++◌, length, take, Option, Some, None, IsSome, option_map, inl, inr, refl, sym, ap, subst, ◌∙◌}
 use borrow.Author.Tests.{lt-ltb}
 use Rattle.std.specs.Option.{option_map_or}
 use Rattle.std.specs.FinMap.{get, empty}
@@ -14,11 +14,11 @@ use Rattle.flush_core.specs.Cut.{Cut, cut_of, tree_at_cut}
 use Rattle.flush_core.specs.Rules.{IsOneOf}
 use Rattle.flush_core.specs.Closure.{every_entry, Flush, AreRaised, none, one_more}
 use Rattle.flush_core.specs.LawsGrowth.{AreAmongFirst, FlushesGrow, HasMoreNodes, CutTreesGrow}
-use Rattle.flush_core.proofs.Runs.{below_or}
-use Rattle.flush_core.proofs.Along.{tree_at-after, nodes_at, in_left, in_right}
-use Rattle.flush_core.proofs.Views.{below, AreAlike, IsHeld}
+use Rattle.flush_core.proofs.Basics.{below_or, in_left, in_right}
+use Rattle.flush_core.proofs.Along.{tree_at-after, nodes_at}
+use Rattle.flush_core.proofs.Views.{below, IsHeld}
 use Rattle.flush_core.proofs.RunFacts.{cuts_stay_low}
-use Rattle.flush_core.proofs.Prefix.{legal_take, take_take, kind_whole}
+use Rattle.flush_core.proofs.Prefix.{legal_take, take_take}
 use Rattle.flush_core.proofs.Prefixes.{prefixes_count}
 use Rattle.flush_core.proofs.Alike.{inodes_alike}
 use Rattle.flush_core.proofs.OneCommit.{alike_on}

@@ -1,6 +1,9 @@
 -- When a cut covers an fsync that was answered Ok.
-use Rattle.std.specs.Prelude.{◌≡◌, ℕ, ◌≤◌, Bool, true, List}
+use Rattle.std.specs.Prelude.{◌≡◌, ℕ, ◌≤◌, Bool, true, List, Some}
+use Rattle.sfs_base.specs.declared.numbers.NodeId.{NodeId}
+use Rattle.sfs_tree.specs.declared.call.Call.TheVariants as call
 use Rattle.sfs_tree.specs.declared.history.Entry.{Entry}
+use Rattle.sfs_tree.specs.declared.reply.Reply.TheVariants as reply
 use Rattle.sfs_tree.specs.Tree.{TreeState}
 use Rattle.sfs_tree.specs.Changes.{RowChange}
 use Rattle.flush_core.specs.Cut.{Cut, cut_of, IsWithin}
@@ -30,3 +33,17 @@ pub record CoversMore (first : TreeState) (history : List Entry) (cut raised : C
   pub own : IsCovered first history raised flush
   pub earlier : (other : Flush) → IsCovered first history cut other → IsCovered first history raised other
   pub placed : ArePlaced first history raised after
+
+-- An fsync of a history was answered Ok, and was acknowledged at a moment.
+pub record IsAcknowledged (history : List Entry) (flush : Flush) (ack : ℕ) : Type 0 where
+  pub entry : Entry
+  pub among : IsOneOf history entry
+  pub node : NodeId
+  pub asked : entry.call ≡ call.Fsync node
+  pub own : flush ≡ record { node = node.0; stamp = entry.stamp.0 }
+  pub answered : entry.reply ≡ reply.Ok
+  pub moment : entry.ack ≡ Some ack
+
+-- A cut covers a history at a moment: it covers each fsync that was acknowledged by then.
+abbrev pub Covers : TreeState → List Entry → Cut → ℕ → Type 0
+Covers first history cut moment = (flush : Flush) (ack : ℕ) → IsAcknowledged history flush ack → ack ≤ moment → IsCovered first history cut flush

@@ -8,7 +8,7 @@ use Rattle.flush_core.specs.declared.past.OwnChange.{OwnChange}
 use Rattle.flush_core.specs.declared.past.Past.{Past}
 use Rattle.flush_core.specs.Rules.{births_by}
 use Rattle.flush_core.specs.Past.{row_change_of, birth_of}
-use Rattle.flush_core.specs.Plan.{AreNoted}
+use Rattle.flush_core.specs.Plan.{KeepAllAbove}
 
 -- A past with a call more: the tree after it, and its changes and births behind the others; the directories above are noted of the new
 -- changes.
@@ -17,7 +17,7 @@ pub record Grows (old : Past) (entry : Entry) (new : Past) : Type 0 where
   pub more : List OwnChange
   pub changes : new.changes.items ≡ old.changes.items ++ more
   pub own : map row_change_of more ≡ changes_by old.tree entry.stamp.0 (verdict old.tree entry.core.0 entry.call).effect
-  pub noted : AreNoted old.tree more
+  pub noted : KeepAllAbove old.tree more
   pub births : map birth_of new.births.items ≡ map birth_of old.births.items ++ births_by entry.stamp.0 (verdict old.tree entry.core.0 entry.call).effect (verdict old.tree entry.core.0 entry.call).makes
 
 -- A past with the making of a node more.

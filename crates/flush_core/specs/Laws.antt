@@ -9,7 +9,7 @@ use Rattle.sfs_tree.specs.Changes.{rows_at, bytes_at}
 use Rattle.sfs_tree.specs.Laws.{IsSoundTree}
 use Rattle.flush_core.specs.Cut.{Cut, cut_of, rows_at_cut, tree_at_cut}
 use Rattle.flush_core.specs.Rules.{IsClosed, IsOneOf}
-use Rattle.flush_core.specs.Covers.{ArePlaced, IsCovered, CoversMore}
+use Rattle.flush_core.specs.Covers.{ArePlaced, IsCovered, CoversMore, IsAcknowledged, Covers}
 use Rattle.flush_core.specs.declared.event.Event.{Event}
 use Rattle.flush_core.specs.Closure.{Counts, every_entry, Flush, HasNode, IsNamedIn, IsRaised, AreInodesAfter, KeepsCut, AreRaised, AreFlushed}
 use Rattle.flush_core.specs.Machine.{Flight, MachineState}
@@ -17,15 +17,18 @@ use Rattle.flush_core.specs.Runs.{IsRun, IsBegun, AreAlive, AreApart, Flies, vie
 
 -- In the tree at a cut a directory has its rows at its own stamp.
 abbrev pub DirectoriesAreCut : Type 0
-DirectoriesAreCut = (first : TreeState) (history : List Entry) (cut : Cut) (directory : ℕ) → names_of directory (tree_at_cut first history cut).rows ≡ rows_at first history directory (cut_of cut directory)
+DirectoriesAreCut = (first : TreeState) (history : List Entry) (cut : Cut) (directory : ℕ)
+    → names_of directory (tree_at_cut first history cut).rows ≡ rows_at first history directory (cut_of cut directory)
 
 -- A closed cut of a legal history from a sound tree gives a sound tree.
 abbrev pub ClosedCutsAreSound : Type 0
-ClosedCutsAreSound = (first : TreeState) (history : List Entry) (cut : Cut) → IsSoundTree first → IsLegal first history → IsClosed first history cut → IsSound (tree_at_cut first history cut)
+ClosedCutsAreSound = (first : TreeState) (history : List Entry) (cut : Cut) → IsSoundTree first → IsLegal first history → IsClosed first history cut
+    → IsSound (tree_at_cut first history cut)
 
 -- In the tree at a cut each node has its bytes at its own stamp.
 abbrev pub FilesAreCut : Type 0
-FilesAreCut = (first : TreeState) (history : List Entry) (cut : Cut) (node : ℕ) → IsSome (get (tree_after first history).nodes node) → bytes_of (tree_at_cut first history cut) node ≡ bytes_at first history node (cut_of cut node)
+FilesAreCut = (first : TreeState) (history : List Entry) (cut : Cut) (node : ℕ) → IsSome (get (tree_after first history).nodes node)
+    → bytes_of (tree_at_cut first history cut) node ≡ bytes_at first history node (cut_of cut node)
 
 -- A tree has the nodes of another one with their kinds, and counts new nodes as that one does.
 pub record HasKindsOf (tree other : TreeState) : Type 0 where
@@ -42,30 +45,44 @@ CutsKeepKinds = (first : TreeState) (history : List Entry) (cut : Cut) → HasKi
 -- An fsync keeps the cut closed, and each directory with an inode has its making below its birth place's cut.
 abbrev pub FsyncsKeep : Type 0
 FsyncsKeep = (first : TreeState) (history : List Entry) (cut raised : Cut) (inodes after : ℕ → Bool) (flush : Flush) → IsSoundTree first → IsLegal first history
-    → KeepsCut first history cut inodes → IsRaised first history every_entry cut inodes flush raised → AreInodesAfter first history every_entry cut inodes flush raised after → KeepsCut first history raised after
+    → KeepsCut first history cut inodes → IsRaised first history every_entry cut inodes flush raised
+    → AreInodesAfter first history every_entry cut inodes flush raised after → KeepsCut first history raised after
 
--- The cut is closed, each directory with an inode has its making below its birth place's cut, the tree at the cut is sound, and
--- what a row at the cut names has an inode.
+-- The cut is closed, each directory with an inode has its making below its birth place's cut, the tree at the cut is sound, what
+-- a row at the cut names has an inode, and what has an inode is a node of the tree after the history.
 pub record KeepsAll (first : TreeState) (history : List Entry) (cut : Cut) (inodes : ℕ → Bool) : Type 0 where
   pub kept : KeepsCut first history cut inodes
   pub sound : IsSound (tree_at_cut first history cut)
   pub named : (node : ℕ) → IsNamedIn (rows_at_cut first history cut) node → inodes node ≡ true
+  pub nodes : (node : ℕ) → inodes node ≡ true → IsSome (get (tree_after first history).nodes node)
 
 -- So it is after any list of fsyncs.
 abbrev pub ListsKeep : Type 0
-ListsKeep = (first : TreeState) (history : List Entry) (flushes : List Flush) (cut : Cut) (inodes : ℕ → Bool) → IsSoundTree first → IsLegal first history → AreFlushed first history every_entry flushes cut inodes → KeepsAll first history cut inodes
+ListsKeep = (first : TreeState) (history : List Entry) (flushes : List Flush) (cut : Cut) (inodes : ℕ → Bool) → IsSoundTree first → IsLegal first history
+    → AreFlushed first history every_entry flushes cut inodes → KeepsAll first history cut inodes
 
 -- An fsync of a node that is there covers itself and leaves covered what was, where each node with an inode is placed; and each is again.
 abbrev pub FsyncsCover : Type 0
-FsyncsCover = (first : TreeState) (history : List Entry) (cut raised : Cut) (inodes after : ℕ → Bool) (flush : Flush) → IsSoundTree first → IsLegal first history
-    → ArePlaced first history cut inodes → HasNode first history flush → IsRaised first history every_entry cut inodes flush raised → AreInodesAfter first history every_entry cut inodes flush raised after → CoversMore first history cut raised after flush
+FsyncsCover = (first : TreeState) (history : List Entry) (cut raised : Cut) (inodes after : ℕ → Bool) (flush : Flush) → IsSoundTree first
+    → IsLegal first history
+    → ArePlaced first history cut inodes → HasNode first history flush → IsRaised first history every_entry cut inodes flush raised
+    → AreInodesAfter first history every_entry cut inodes flush raised after → CoversMore first history cut raised after flush
 
 -- After a list of fsyncs of nodes that are there, each of them is covered.
 abbrev pub ListsCover : Type 0
-ListsCover = (first : TreeState) (history : List Entry) (flushes : List Flush) (cut : Cut) (inodes : ℕ → Bool) → IsSoundTree first → IsLegal first history → AreFlushed first history every_entry flushes cut inodes
+ListsCover = (first : TreeState) (history : List Entry) (flushes : List Flush) (cut : Cut) (inodes : ℕ → Bool) → IsSoundTree first → IsLegal first history
+    → AreFlushed first history every_entry flushes cut inodes
     → ((flush : Flush) → IsOneOf flushes flush → HasNode first history flush) → (flush : Flush) → IsOneOf flushes flush → IsCovered first history cut flush
 
--- So it is in each state of a run, and when any fsyncs have raised its cut, as those of any flights.
+-- Where a list of fsyncs of nodes that are there has each one that was acknowledged by a moment, the cut covers the history at it.
+abbrev pub HistoriesAreCovered : Type 0
+HistoriesAreCovered = (first : TreeState) (history : List Entry) (flushes : List Flush) (cut : Cut) (inodes : ℕ → Bool) (moment : ℕ) → IsSoundTree first
+    → IsLegal first history → AreFlushed first history every_entry flushes cut inodes
+    → ((flush : Flush) → IsOneOf flushes flush → HasNode first history flush)
+    → ((flush : Flush) (ack : ℕ) → IsAcknowledged history flush ack → ack ≤ moment → IsOneOf flushes flush)
+    → Covers first history cut moment
+
+-- What lists of fsyncs keep is kept in each state of a run, and when any fsyncs have raised its cut, as those of any flights.
 abbrev pub RunsKeep : Type 0
 RunsKeep = (first : TreeState) (events : List Event) (states : ℕ → MachineState) (place : ℕ) (flushes : List Flush) (cut : Cut) (inodes : ℕ → Bool)
     → IsSoundTree first → IsRun first events states → place ≤ length events
@@ -89,6 +106,6 @@ CommitsAreTied = (first : TreeState) (events : List Event) (states : ℕ → Mac
     → IsSoundTree first → IsRun first events states → AreAlive first events states
     → IsBegun events place commit flush
     → AreTied first events states commit tied
-    → CountEnough events flush tied counts
+    → CountEnough events commit flush tied counts
     → AreFlushed first (states (length events)).history counts (durable_of (take place events) tied) cut inodes
     → IsOneCommit first flush (view_of (states place)) (record { history = (states (length events)).history; counts = counts; cut = cut; inodes = inodes })

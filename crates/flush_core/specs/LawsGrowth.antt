@@ -21,7 +21,8 @@ pub record AreAmongFirst (first : TreeState) (history : List Entry) (count : ℕ
 
 -- What fsyncs among the first entries of a legal history raise over these they raise over the whole of it.
 abbrev pub FlushesGrow : Type 0
-FlushesGrow = (first : TreeState) (history : List Entry) (count : ℕ) (flushes : List Flush) (cut : Cut) (inodes : ℕ → Bool) → IsSoundTree first → IsLegal first history → count ≤ length history
+FlushesGrow = (first : TreeState) (history : List Entry) (count : ℕ) (flushes : List Flush) (cut : Cut) (inodes : ℕ → Bool) → IsSoundTree first
+    → IsLegal first history → count ≤ length history
     → AreAmongFirst first history count flushes
     → AreFlushed first (take count history) every_entry flushes cut inodes
     → AreFlushed first history every_entry flushes cut inodes
@@ -43,4 +44,5 @@ EntriesMayCome = (first : TreeState) (history : List Entry) (entry : Entry) → 
 
 -- Two entries of a legal history with one stamp are one entry.
 abbrev pub StampsAreOnce : Type 0
-StampsAreOnce = (first : TreeState) (history : List Entry) (entry other : Entry) → IsLegal first history → IsOneOf history entry → IsOneOf history other → entry.stamp.0 ≡ other.stamp.0 → entry ≡ other
+StampsAreOnce = (first : TreeState) (history : List Entry) (entry other : Entry) → IsLegal first history → IsOneOf history entry → IsOneOf history other
+    → entry.stamp.0 ≡ other.stamp.0 → entry ≡ other

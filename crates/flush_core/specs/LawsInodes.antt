@@ -12,13 +12,15 @@ use Rattle.flush_core.specs.Closure.{Counts, every_entry, Flush, HasLiveNode, Cl
 
 -- Each member of an fsync's closure is the fsync's own node or a directory.
 abbrev pub MembersAreDirectories : Type 0
-MembersAreDirectories = (first : TreeState) (history : List Entry) (counts : Counts) (cut : Cut) (inodes : ℕ → Bool) (flush : Flush) (node : ℕ) → IsSoundTree first → IsLegal first history
+MembersAreDirectories = (first : TreeState) (history : List Entry) (counts : Counts) (cut : Cut) (inodes : ℕ → Bool) (flush : Flush) (node : ℕ)
+    → IsSoundTree first → IsLegal first history
     → Closure first history counts cut inodes flush node
     → (node ≡ flush.node) ⊎ (is_directory (tree_after first history) node ≡ true)
 
 -- An fsync of a file that has an inode concerns that file alone.
 abbrev pub FilesFlushThemselves : Type 0
-FilesFlushThemselves = (first : TreeState) (history : List Entry) (counts : Counts) (cut : Cut) (inodes : ℕ → Bool) (flush : Flush) (node : ℕ) → IsSoundTree first → IsLegal first history
+FilesFlushThemselves = (first : TreeState) (history : List Entry) (counts : Counts) (cut : Cut) (inodes : ℕ → Bool) (flush : Flush) (node : ℕ)
+    → IsSoundTree first → IsLegal first history
     → is_directory (tree_after first history) flush.node ≡ false → inodes flush.node ≡ true
     → IsConcerned first history counts cut inodes flush node → node ≡ flush.node
 
@@ -32,7 +34,8 @@ pub record StaysAsItWas (first : TreeState) (history : List Entry) (cut raised :
 
 -- So is each node that the fsync does not concern.
 abbrev pub OthersStay : Type 0
-OthersStay = (first : TreeState) (history : List Entry) (cut raised : Cut) (inodes after : ℕ → Bool) (flush : Flush) (node : ℕ) → IsSoundTree first → IsLegal first history
+OthersStay = (first : TreeState) (history : List Entry) (cut raised : Cut) (inodes after : ℕ → Bool) (flush : Flush) (node : ℕ) → IsSoundTree first
+    → IsLegal first history
     → IsRaised first history every_entry cut inodes flush raised → AreInodesAfter first history every_entry cut inodes flush raised after
     → (IsConcerned first history every_entry cut inodes flush node → ⊥) → StaysAsItWas first history cut raised inodes after node
 
@@ -43,30 +46,43 @@ pub record IsNeverNamed (first : TreeState) (history : List Entry) (node : ℕ) 
 
 -- After a list of fsyncs no node with an inode is dead, but one that nothing ever names.
 abbrev pub NoneIsDead : Type 0
-NoneIsDead = (first : TreeState) (history : List Entry) (flushes : List Flush) (cut : Cut) (inodes : ℕ → Bool) (node : ℕ) → IsSoundTree first → IsLegal first history
+NoneIsDead = (first : TreeState) (history : List Entry) (flushes : List Flush) (cut : Cut) (inodes : ℕ → Bool) (node : ℕ) → IsSoundTree first
+    → IsLegal first history
     → AreFlushed first history every_entry flushes cut inodes → inodes node ≡ true
     → IsDead first history every_entry cut node → IsNeverNamed first history node
 
 -- After a list of fsyncs each directory with an inode is the root, or a row at the cut names it, or nothing ever names it.
 abbrev pub DirectoriesAreNamed : Type 0
-DirectoriesAreNamed = (first : TreeState) (history : List Entry) (flushes : List Flush) (cut : Cut) (inodes : ℕ → Bool) (node : ℕ) → IsSoundTree first → IsLegal first history
+DirectoriesAreNamed = (first : TreeState) (history : List Entry) (flushes : List Flush) (cut : Cut) (inodes : ℕ → Bool) (node : ℕ) → IsSoundTree first
+    → IsLegal first history
     → AreFlushed first history every_entry flushes cut inodes → inodes node ≡ true
     → is_directory (tree_after first history) node ≡ true
     → (node ≡ 0) ⊎ IsNamedIn (rows_at_cut first history cut) node ⊎ IsNeverNamed first history node
 
 -- An fsync leaves a directory named that a row at the cut names and that keeps its inode.
 abbrev pub DirectoriesStayNamed : Type 0
-DirectoriesStayNamed = (first : TreeState) (history : List Entry) (cut raised : Cut) (inodes after : ℕ → Bool) (flush : Flush) (node : ℕ) → IsSoundTree first → IsLegal first history → KeepsCut first history cut inodes
+DirectoriesStayNamed = (first : TreeState) (history : List Entry) (cut raised : Cut) (inodes after : ℕ → Bool) (flush : Flush) (node : ℕ) → IsSoundTree first
+    → IsLegal first history → KeepsCut first history cut inodes
     → IsRaised first history every_entry cut inodes flush raised → AreInodesAfter first history every_entry cut inodes flush raised after
     → is_directory (tree_after first history) node ≡ true → IsNamedIn (rows_at_cut first history cut) node
     → inodes node ≡ true → after node ≡ true → IsNamedIn (rows_at_cut first history raised) node
 
 -- An fsync of a file leaves it with an inode, or dead.
 abbrev pub FilesSettle : Type 0
-FilesSettle = (first : TreeState) (history : List Entry) (cut raised : Cut) (inodes after : ℕ → Bool) (flush : Flush) → IsSoundTree first → IsLegal first history
+FilesSettle = (first : TreeState) (history : List Entry) (cut raised : Cut) (inodes after : ℕ → Bool) (flush : Flush) → IsSoundTree first
+    → IsLegal first history
     → IsRaised first history every_entry cut inodes flush raised → AreInodesAfter first history every_entry cut inodes flush raised after
     → is_directory (tree_after first history) flush.node ≡ false
     → (after flush.node ≡ true) ⊎ IsDead first history every_entry raised flush.node
+
+-- Behind a list of fsyncs one of a live file that has an inode leaves every node with its inode, or without.
+abbrev pub FilesKeepInodes : Type 0
+FilesKeepInodes = (first : TreeState) (history : List Entry) (flushes : List Flush) (cut raised : Cut) (inodes after : ℕ → Bool) (flush : Flush) (node : ℕ)
+    → IsSoundTree first → IsLegal first history
+    → AreFlushed first history every_entry flushes cut inodes
+    → IsRaised first history every_entry cut inodes flush raised → AreInodesAfter first history every_entry cut inodes flush raised after
+    → HasLiveNode first history flush → is_directory (tree_after first history) flush.node ≡ false → inodes flush.node ≡ true
+    → after node ≡ inodes node
 
 -- A node has the stamp 0 and no bytes at a cut.
 pub record IsBlank (first : TreeState) (history : List Entry) (cut : Cut) (node : ℕ) : Type 0 where
@@ -75,7 +91,8 @@ pub record IsBlank (first : TreeState) (history : List Entry) (cut : Cut) (node 
 
 -- A file that an fsync behind others gives an inode was blank before it.
 abbrev pub FilesEnterBlank : Type 0
-FilesEnterBlank = (first : TreeState) (history : List Entry) (flushes : List Flush) (cut raised : Cut) (inodes after : ℕ → Bool) (flush : Flush) (node : ℕ) → IsSoundTree first → IsLegal first history
+FilesEnterBlank = (first : TreeState) (history : List Entry) (flushes : List Flush) (cut raised : Cut) (inodes after : ℕ → Bool) (flush : Flush) (node : ℕ)
+    → IsSoundTree first → IsLegal first history
     → AreFlushed first history every_entry flushes cut inodes
     → IsRaised first history every_entry cut inodes flush raised → AreInodesAfter first history every_entry cut inodes flush raised after
     → is_directory (tree_after first history) node ≡ false → inodes node ≡ false → after node ≡ true

@@ -9,6 +9,7 @@ pub mod Inodes
 pub mod Laws
 pub mod LawsGrowth
 pub mod LawsInodes
+pub mod LawsRuns
 pub mod Machine
 pub mod Members
 pub mod Named

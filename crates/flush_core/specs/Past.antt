@@ -8,7 +8,7 @@ use Rattle.sfs_tree.specs.History.{tree_after}
 use Rattle.flush_core.specs.declared.past.OwnChange.{OwnChange}
 use Rattle.flush_core.specs.declared.past.BornNode.{BornNode}
 use Rattle.flush_core.specs.declared.past.Past.{Past}
-use Rattle.flush_core.specs.Rules.{IsOneOf, Birth, births_of, IsMove}
+use Rattle.flush_core.specs.Rules.{IsOneOf, Birth, births_of, MovesDirectory}
 
 -- the change that is kept
 abbrev pub row_change_of : OwnChange → RowChange
@@ -26,16 +26,16 @@ row_change_of change = record {
 abbrev pub birth_of : BornNode → Birth
 birth_of born = record { stamp = born.stamp; directory = born.directory; node = born.node }
 
--- The directories above are kept of a change exactly where it places a directory by a rename between two; they are those that stood
--- above the changed one at its stamp, and no others did.
-pub record KeepsAbove (first : TreeState) (history : List Entry) (change : OwnChange) : Type 0 where
-  pub is_move : (above : List ℕ) → ((v : _) × (change.above ≡ Some v) × (v.items ≡ above)) → IsMove first history (row_change_of change)
-  pub stand : (above : List ℕ) → ((v : _) × (change.above ≡ Some v) × (v.items ≡ above)) → Above (tree_after first (take change.stamp history)) change.directory above
-  pub all : IsMove first history (row_change_of change) → (above : List ℕ) → Above (tree_after first (take change.stamp history)) change.directory above → (v : _) × (change.above ≡ Some v) × (v.items ≡ above)
+-- The directories above are kept of a change exactly where it places a directory of a tree by a rename between two; they are those
+-- that stand above the changed one there.
+pub record KeepsAbove (tree : TreeState) (change : OwnChange) : Type 0 where
+  pub moves : (v : _) → change.above ≡ Some v → MovesDirectory tree (row_change_of change)
+  pub stand : (v : _) → change.above ≡ Some v → Above tree change.directory v.items
+  pub all : MovesDirectory tree (row_change_of change) → (above : List ℕ) → Above tree change.directory above → (v : _) × (change.above ≡ Some v) × (v.items ≡ above)
 
--- The past of a history: its tree, its changes and its births.
+-- The past of a history: its tree, its changes and its births; of each change the directories above are kept as they stood at its stamp.
 pub record IsPast (first : TreeState) (history : List Entry) (past : Past) : Type 0 where
   pub tree : past.tree ≡ tree_after first history
   pub changes : map row_change_of past.changes.items ≡ changes_of first history
   pub births : map birth_of past.births.items ≡ births_of first history
-  pub above : (change : OwnChange) → IsOneOf past.changes.items change → KeepsAbove first history change
+  pub above : (change : OwnChange) → IsOneOf past.changes.items change → KeepsAbove (tree_after first (take change.stamp history)) change

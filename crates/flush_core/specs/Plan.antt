@@ -5,13 +5,11 @@ use Rattle.std.specs.FinMap.{len}
 use Rattle.sfs_tree.specs.declared.call.Call.{Call}
 use Rattle.sfs_tree.specs.declared.call.Call.TheVariants as call
 use Rattle.sfs_tree.specs.Tree.{TreeState, row_of, is_directory, is_alive, walk_up}
-use Rattle.sfs_tree.specs.Sound.{Above}
 use Rattle.sfs_tree.specs.Effect.{Effect, Stays, Adds, Removes, Moves}
-use Rattle.sfs_tree.specs.Changes.{RowChange}
 use Rattle.sfs_tree.specs.Verdict.{names_child}
 use Rattle.flush_core.specs.declared.past.OwnChange.{OwnChange}
 use Rattle.flush_core.specs.Rules.{IsOneOf}
-use Rattle.flush_core.specs.Past.{row_change_of}
+use Rattle.flush_core.specs.Past.{KeepsAbove}
 
 -- a row goes, where it is there
 abbrev pub removal : ℕ → List ℕ → Option ℕ → Effect
@@ -32,21 +30,9 @@ plan_of tree (call.Rmdir directory name) = removal directory.0 name (row_of tree
 plan_of tree (call.Rename directory name to_directory to_name) = moving tree directory.0 name to_directory.0 to_name (row_of tree directory.0 name)
 plan_of tree _ = Stays
 
--- A change places a directory by a rename between two.
-pub record MovesDirectory (tree : TreeState) (change : RowChange) : Type 0 where
-  pub places : change.places ≡ true
-  pub other : change.other ≢ None
-  pub kind : is_directory tree change.child ≡ true
-
--- The directories above are noted of a change exactly where it places a directory by a rename between two.
-pub record IsNoted (tree : TreeState) (change : OwnChange) : Type 0 where
-  pub moves : (v : _) → change.above ≡ Some v → MovesDirectory tree (row_change_of change)
-  pub stand : (v : _) → change.above ≡ Some v → Above tree change.directory v.items
-  pub all : MovesDirectory tree (row_change_of change) → (above : List ℕ) → Above tree change.directory above → (v : _) × (change.above ≡ Some v) × (v.items ≡ above)
-
--- So they are of each change whose directory is a live one.
-abbrev pub AreNoted : TreeState → List OwnChange → Type 0
-AreNoted tree changes = (change : OwnChange) → IsOneOf changes change → is_directory tree change.directory ≡ true → is_alive tree change.directory ≡ true → IsNoted tree change
+-- Of each of some changes whose directory is a live one the directories above are kept.
+abbrev pub KeepAllAbove : TreeState → List OwnChange → Type 0
+KeepAllAbove tree changes = (change : OwnChange) → IsOneOf changes change → is_directory tree change.directory ≡ true → is_alive tree change.directory ≡ true → KeepsAbove tree change
 
 -- The directories above the new directory of a child are there exactly where the child is a directory that moves between two.
 pub record IsAboveNew (tree : TreeState) (directory to_directory child : ℕ) (above : Option (Vec ℕ Global)) : Type 0 where

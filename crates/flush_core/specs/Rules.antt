@@ -59,12 +59,16 @@ pub record IsLastPlacing (first : TreeState) (history : List Entry) (node stamp 
   pub below : last.stamp < stamp
   pub latest : (other : RowChange) → IsChange first history other → other.places ≡ true → other.child ≡ node → other.stamp < stamp → other.stamp ≤ last.stamp
 
--- A change that places a directory by a rename between two directories.
-pub record IsMove (first : TreeState) (history : List Entry) (change : RowChange) : Type 0 where
-  pub is_change : IsChange first history change
+-- A change places a directory of a tree by a rename between two directories.
+pub record MovesDirectory (tree : TreeState) (change : RowChange) : Type 0 where
   pub places : change.places ≡ true
   pub other : change.other ≢ None
-  pub kind : is_directory (tree_after first history) change.child ≡ true
+  pub kind : is_directory tree change.child ≡ true
+
+-- A change of a history that does so in the tree at its stamp.
+pub record IsMove (first : TreeState) (history : List Entry) (change : RowChange) : Type 0 where
+  pub is_change : IsChange first history change
+  pub moves : MovesDirectory (tree_after first (take change.stamp history)) change
 
 -- Where a change that places a directory into another one by a rename between two directories lies below the cut of that other
 -- one, then for it and each of its ancestors at that stamp except the root: the last change below the stamp that places it lies

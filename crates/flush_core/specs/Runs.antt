@@ -77,7 +77,8 @@ pub record IsOneCommit (first : TreeState) (flush : Flush) (view other : CommitV
   pub concerned : (node : ℕ) → Concerns first flush view node ↔ Concerns first flush other node
   pub stamps : (raised other_raised : Cut) → Raises first flush view raised → Raises first flush other other_raised → (node : ℕ) → Concerns first flush view node → cut_of raised node ≡ cut_of other_raised node
   pub rows : (raised other_raised : Cut) → Raises first flush view raised → Raises first flush other other_raised → (node directory : ℕ) (name : List ℕ) → Concerns first flush view node
-      → (get (counted_rows_at_cut first view.history view.counts raised) (directory, name) ≡ Some node) ↔ (get (counted_rows_at_cut first other.history other.counts other_raised) (directory, name) ≡ Some node)
+     
+    → (get (counted_rows_at_cut first view.history view.counts raised) (directory, name) ≡ Some node) ↔ (get (counted_rows_at_cut first other.history other.counts other_raised) (directory, name) ≡ Some node)
   pub enters : (raised other_raised : Cut) → Raises first flush view raised → Raises first flush other other_raised → (node : ℕ) → Enters first flush view raised node ↔ Enters first flush other other_raised node
   pub leaves : (raised other_raised : Cut) → Raises first flush view raised → Raises first flush other other_raised → (node : ℕ) → Leaves first flush view raised node ↔ Leaves first flush other other_raised node
 
@@ -127,7 +128,8 @@ durable_by events chosen _ = None
 abbrev pub durable_of : List Event → (ℕ → Bool) → List Flush
 durable_of events chosen = filter_map (durable_by events chosen) events
 
--- The entries that count have all below the stamp of a commit and below those of the commits to which it is tied.
-pub record CountEnough (events : List Event) (flush : Flush) (tied : ℕ → Bool) (counts : Counts) : Type 0 where
+-- The entries that count have all below the stamp of a commit, and below those of the commits to which it is tied and that come
+-- before it.
+pub record CountEnough (events : List Event) (commit : ℕ) (flush : Flush) (tied : ℕ → Bool) (counts : Counts) : Type 0 where
   pub own : (stamp : ℕ) → stamp < flush.stamp → counts stamp ≡ true
-  pub theirs : (commit : ℕ) (other : Flush) (stamp : ℕ) → tied commit ≡ true → flush_of events commit ≡ Some other → stamp < other.stamp → counts stamp ≡ true
+  pub theirs : (other : ℕ) (fsync : Flush) (stamp : ℕ) → tied other ≡ true → ComesBefore events other commit → flush_of events other ≡ Some fsync → stamp < fsync.stamp → counts stamp ≡ true

@@ -6,10 +6,13 @@ mod inodes;
 mod runs;
 
 pub use cuts::{closed_cuts_are_sound, cuts_keep_kinds, directories_are_cut, files_are_cut};
-pub use fsyncs::{fsyncs_cover, fsyncs_keep, lists_cover, lists_keep};
+pub use fsyncs::{fsyncs_cover, fsyncs_keep, histories_are_covered, lists_cover, lists_keep};
 pub use growth::{cut_trees_grow, entries_may_come, flushes_grow, stamps_are_once};
 pub use inodes::{
     births_are_new_nodes, directories_are_named, directories_stay_named, files_enter_blank,
-    files_flush_themselves, files_settle, members_are_directories, none_is_dead, others_stay,
+    files_flush_themselves, files_keep_inodes, files_settle, members_are_directories, none_is_dead, others_stay,
 };
-pub use runs::{commits_are_tied, flights_stay, runs_keep};
+pub use runs::{
+    all_are_tied, calls_are_a_run, commits_are_accepted, commits_are_tied, durables_are_covered,
+    empty_runs, failures_stop_cuts, flights_stay, runs_are_flushed, runs_keep, runs_lengthen,
+};

@@ -5,7 +5,7 @@ ghost use Rattle.sfs_tree.specs.Tree.{row_of, is_directory};
 ghost use Rattle.sfs_tree.specs.Sound.{IsSound};
 ghost use Rattle.sfs_tree.specs.Changes.{added, removed, replaced, changes_by, other_side};
 ghost use Rattle.flush_core.specs.Past.{row_change_of};
-ghost use Rattle.flush_core.specs.Plan.{plan_of, removal, moving, AreNoted, IsAboveNew};
+ghost use Rattle.flush_core.specs.Plan.{plan_of, removal, moving, KeepAllAbove, IsAboveNew};
 
 use crate::past::OwnChange;
 use sfs_base::{Kind, Name, NoMemory, NodeId};
@@ -22,7 +22,7 @@ pub fn planned_changes(
 ) -> Result<Vec<OwnChange>, NoMemory>
     requires { IsSound tree.now }
     ensures changes { IfOk result (λ changes. map row_change_of changes.items ≡ changes_by tree.now stamp (plan_of tree.now call.now)) }
-    ensures above { IfOk result (λ changes. AreNoted tree.now changes.items) }
+    ensures above { IfOk result (λ changes. KeepAllAbove tree.now changes.items) }
 {
     match call {
         Call::Link { file, dir, name } => {
@@ -111,7 +111,7 @@ fn planned_removal(
 ) -> Result<Vec<OwnChange>, NoMemory>
     ensures changes { IfOk result (λ changes. map row_change_of changes.items
         ≡ changes_by tree.now stamp (removal dir.0 name.now (row_of tree.now dir.0 name.now))) }
-    ensures above { IfOk result (λ changes. AreNoted tree.now changes.items) }
+    ensures above { IfOk result (λ changes. KeepAllAbove tree.now changes.items) }
 {
     let Some(child) = tree.child(dir, name) else {
         return Ok(Vec::new(alloc));
@@ -133,7 +133,7 @@ fn planned_move(
     requires { IsSound tree.now }
     ensures changes { IfOk result (λ changes. map row_change_of changes.items
         ≡ changes_by tree.now stamp (moving tree.now dir.0 name.now to_dir.0 to_name.now (row_of tree.now dir.0 name.now))) }
-    ensures above { IfOk result (λ changes. AreNoted tree.now changes.items) }
+    ensures above { IfOk result (λ changes. KeepAllAbove tree.now changes.items) }
 {
     let Some(child) = tree.child(dir, name) else {
         return Ok(Vec::new(alloc));
@@ -161,7 +161,7 @@ fn replaced_row(
 ) -> Result<Vec<OwnChange>, NoMemory>
     ensures changes { IfOk result (λ changes. map row_change_of changes.items
         ≡ replaced tree.now stamp dir.0 to_dir.0 to_name.now (number_of there)) }
-    ensures above { IfOk result (λ changes. AreNoted tree.now changes.items) }
+    ensures above { IfOk result (λ changes. KeepAllAbove tree.now changes.items) }
 {
     let Some(there) = there else {
         return Ok(Vec::new(alloc));

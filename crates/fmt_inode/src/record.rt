@@ -1,5 +1,5 @@
-ghost use Rattle.std.specs.Prelude.{◌≡◌, None, Some, IfOk, IfErr};
-ghost use Rattle.sfs_image.specs.Inode.{IsInode, inode_of, inode_fault, inode_bytes};
+ghost use Rattle.std.specs.Prelude.{◌≡◌, ◌≤◌, None, Some, IfOk, IfErr};
+ghost use Rattle.sfs_image.specs.Inode.{IsFree, IsInode, inode_of, inode_fault, inode_bytes};
 
 use byteorder::{ByteOrder, LittleEndian};
 use sfs_image::{Bad, first_nonzero};
@@ -67,10 +67,15 @@ fn fault_of(bytes: &[u8; 512]) -> Option<u32>
     }
 }
 
-/// Writes the record of an inode. It takes no memory.
+/// Writes the record of an inode, from which `decode` reads it again. It takes no memory.
 pub fn encode(inode: &Inode, bytes: &mut [u8; 512])
-    ensures { bytes.new ≡ inode_bytes inode.now }
+    requires kind { inode.now.kind ≤ 2 }
+    requires free { inode.now.kind ≡ 0 → IsFree inode.now }
+    ensures spelled { bytes.new ≡ inode_bytes inode.now }
+    ensures sound { inode_fault bytes.new ≡ None }
+    ensures again { inode_of bytes.new ≡ inode.now }
 {
+    let inode = *inode;
     bytes[..4].copy_from_slice(&[inode.kind, 0, 0, 0]);
     LittleEndian::write_u32(&mut bytes[4..8], inode.links);
     LittleEndian::write_u64(&mut bytes[8..16], inode.size);

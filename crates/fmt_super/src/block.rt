@@ -57,9 +57,13 @@ fn fault_of(block: &[u8; 4096], len: u32, layout: &Layout) -> Option<u32>
     first_nonzero(block, 28, 4096)
 }
 
-/// Writes the superblock of a layout. It takes no memory.
+/// Writes the superblock of a layout that a disk of its blocks can have, from which `decode` reads it
+/// again. It takes no memory.
 pub fn encode(layout: &Layout, block: &mut [u8; 4096])
-    ensures { block.new ≡ super_bytes layout.now }
+    requires { IsLayout layout.now.blocks layout.now }
+    ensures spelled { block.new ≡ super_bytes layout.now }
+    ensures sound { super_fault layout.now.blocks block.new ≡ None }
+    ensures again { super_of block.new ≡ layout.now }
 {
     block[..8].copy_from_slice(TEXT);
     LittleEndian::write_u32_into(

@@ -6,7 +6,9 @@ use Rattle.std.specs.Ordering.{eq_by_cmp}
 use Rattle.std.specs.Cmp.{IsTotalOrder}
 use Rattle.std.specs.FinMap.{FinMap, IsAntisymmetric, find, is_sorted}
 use Rattle.sfs_tree.proofs.Joined.{is_equal}
-use Rattle.sfs_tree.proofs.Search.{both_first, both_second, not_found, below_if_tied}
+use Rattle.sfs_tree.proofs.Search.{not_found, below_if_tied}
+use Rattle.sfs_base.proofs.BasicTruth.{both_second}
+use Rattle.sfs_base.proofs.BasicTruth.{both_first}
 
 pub none_some : {X : Type 0} {x : X} → ◌≡◌ {A = Option X} None (Some x) → ⊥
 none_some e = cc

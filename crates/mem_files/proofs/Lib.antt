@@ -1,4 +1,5 @@
 pub mod Filled
+pub mod Inside
 pub mod Passed
 pub mod Places
 pub mod Puts

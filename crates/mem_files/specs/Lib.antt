@@ -1,3 +1,4 @@
 pub mod File
 pub mod Kept
+pub mod Laws
 pub mod Pages

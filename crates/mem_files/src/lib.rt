@@ -1,6 +1,7 @@
 //! The bytes of a file in memory, in pages, with the stamp of the last change of each block.
 #![tactic(auto)]
 
+pub mod laws;
 mod file;
 mod marks;
 mod page;

@@ -9,6 +9,7 @@ use Rattle.scalefs_run.specs.Crash.{AcksRise, Rise, acks_of, HasStamp}
 use Rattle.scalefs_run.specs.Shown.{is_flush, last_flush}
 use Rattle.scalefs_run.specs.RunInvariant.{FlushedLast}
 use Rattle.scalefs_run.proofs.Pushed.{last_flush-push}
+use Rattle.sfs_base.proofs.BasicNumbers.{zero_plus}
 
 -- what holds of an entry holds of each of a list with that one
 pub all_one : (P : Entry → Type 0) (entry : Entry) → P entry → All P (entry ∷ [])
@@ -43,10 +44,7 @@ stamps_below first stamp end history legal is = All-from_recursion (λ e. e.stam
         (omega arith, each (tree_after_entry first e) (suc stamp) history legal.1 (omega arith))
 
 pub stamps_fit : (first : TreeState) (history : List Entry) → IsLegal first history → All (λ e. e.stamp.0 < length history) history
-stamps_fit first history legal = stamps_below first 0 (length history) history legal (none_more (length history))
-  where
-    none_more : (n : ℕ) → 0 + n ≡ n
-    none_more n = omega arith
+stamps_fit first history legal = stamps_below first 0 (length history) history legal (zero_plus (length history))
 
 -- an entry of a longer history
 pub HasStamp-push : (test : Entry → Bool) (history : List Entry) (entry : Entry) (stamp : ℕ) → HasStamp test history stamp → HasStamp test (history ++ entry ∷ []) stamp

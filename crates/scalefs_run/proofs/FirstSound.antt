@@ -16,8 +16,12 @@ use Rattle.area_pair.specs.declared.area.Row.{Row}
 use Rattle.area_pair.specs.Sound.{AreRoots, HaveInodes}
 use Rattle.scalefs_run.specs.First.{first_tree, row_entry, node_entry, root_entry}
 use Rattle.scalefs_run.proofs.Opened.{first_directory, row_found, file_before}
-use Rattle.scalefs_run.proofs.Rooted.{bytes_same, same_bytes, some_same, none_some}
+use Rattle.sfs_base.proofs.BasicLists.{bytes_same}
+use Rattle.sfs_base.proofs.BasicOptions.{none_some}
+use Rattle.sfs_base.proofs.BasicOptions.{some_same}
 use Rattle.scalefs_run.proofs.Shows.{kind_first, first_kinds}
+use Rattle.sfs_base.proofs.BasicNumbers.{from_both_le}
+use Rattle.sfs_base.proofs.BasicLists.{bytes_unlike}
 
 -- a row that is found stands in the root
 in_root : (rs : List Row) (directory : ℕ) (name : List ℕ) (child : ℕ) → find key_cmp (directory, name) (map row_entry rs) ≡ Some child → directory ≡ 0
@@ -47,17 +51,10 @@ single_first share opened name other child sound e f differ =
       ] refl
     ] refl
   where
-    one_place : (i j : ℕ) → j ≤ i → i ≤ j → i ≡ j
-    one_place i j le ge = omega arith
-
     names_same : (i j : ℕ) (x y : Row) → j ≤ i → i ≤ j → slice_get opened i ≡ Some x → slice_get opened j ≡ Some y → bytes_eq name x.name ≡ true → bytes_eq other y.name ≡ true → name ≡ other
     names_same i j x y le ge at_x at_y n m =
-        let rows_same : x ≡ y = some_same (sym at_x ∙ ap (slice_get opened) (one_place i j le ge) ∙ at_y) in
+        let rows_same : x ≡ y = some_same (sym at_x ∙ ap (slice_get opened) (from_both_le i j le ge) ∙ at_y) in
         bytes_same name x.name n ∙ ap (λ (r : Row). r.name) rows_same ∙ sym (bytes_same other y.name m)
-
--- one name is not two
-unlike : (name other : List ℕ) → name ≡ other → bytes_eq name other ≡ false → ⊥
-unlike name other same t = let never : true ≡ false = sym (same_bytes name) ∙ ap (bytes_eq name) same ∙ t in cc
 
 -- a file is no directory
 file_is_none : (tree : TreeState) (node : ℕ) → kind_of tree node ≡ File → is_directory tree node ≡ true → ⊥
@@ -119,7 +116,7 @@ module _ (share : ℕ) (opened : List Row) (roots : AreRoots opened) where
       one_name name other child e f is =
           elim (bytes_eq name other) as (λ t. bytes_eq name other ≡ t → name ≡ other) [
             | true ↦ λ t. bytes_same name other t
-            | false ↦ λ t. absurd (file_is_none tree child (single_first share opened name other child roots (looked 0 name child e) (looked 0 other child f) (λ same. unlike name other same t)) is)
+            | false ↦ λ t. absurd (file_is_none tree child (single_first share opened name other child roots (looked 0 name child e) (looked 0 other child f) (λ same. bytes_unlike name other same t)) is)
           ] refl
 
   numbered_first : IsNumbered tree

@@ -1,5 +1,5 @@
 -- The tree that is built from the rows on a disk.
-use Rattle.std.proofs.Common.{◌≡◌, ◌≢◌, ℕ, zero, suc, ◌<◌, ◌≤◌, Bool, true, false, cond, ◌&&◌, ◌||◌, List, [], ◌∷◌, ◌++◌, length, map, Option, Some, None, IsSome, IsTrue, is_some, refl, sym, ap, subst, ◌∙◌, arith, nat_eq, slice_get, bytes_eq}
+use Rattle.std.proofs.Common.{◌≡◌, ◌≢◌, ℕ, zero, suc, ◌<◌, ◌≤◌, true, false, cond, ◌&&◌, ◌||◌, List, [], ◌∷◌, ◌++◌, length, map, Option, Some, None, IsSome, IsTrue, is_some, refl, sym, ap, subst, ◌∙◌, arith, nat_eq, slice_get, bytes_eq}
 use Rattle.std.specs.Prelude.{filter_map}
 use Rattle.std.specs.List.{cons_option}
 use Rattle.std.specs.Option.{option_map_or}
@@ -22,17 +22,7 @@ use Rattle.area_pair.specs.Sound.{HaveInodes, AreRoots}
 use Rattle.area_pair.proofs.Sound.{Alone, apart_head, apart_tail}
 use Rattle.area_pair.specs.Rows as rows
 use Rattle.scalefs_run.specs.First.{first_tree, row_entry, node_entry, root_entry, with_child, with_root_row}
-
-or_first : (a b : Bool) → (a || b) ≡ false → a ≡ false
-or_first true b e = e
-or_first false b e = refl
-
-or_second : (a b : Bool) → (a || b) ≡ false → b ≡ false
-or_second true b e = absurd (clash e)
-  where
-    clash : true ≡ false → ⊥
-    clash e = cc
-or_second false b e = e
+use Rattle.sfs_base.proofs.BasicTruth.{or_first, or_second}
 
 -- rows of the root tie where their names do
 pub row_ties : (n m : List ℕ) → eq_by_cmp key_cmp (0, n) (0, m) ≡ bytes_eq n m

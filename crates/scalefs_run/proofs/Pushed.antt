@@ -13,14 +13,11 @@ use Rattle.sfs_tree.proofs.Histories.{rows_at-tree_after}
 use Rattle.scalefs_run.specs.Replies.{AreAnswered, IsAnsweredEntry, has_failed, is_failed_flush}
 use Rattle.scalefs_run.specs.Shown.{shown_at, last_flush, later_flush}
 use Rattle.scalefs_run.specs.RunInvariant.{root_shown}
+use Rattle.sfs_base.proofs.BasicTruth.{or_false}
 
 or_assoc : (a b c : Bool) → ((a || b) || c) ≡ (a || (b || c))
 or_assoc true b c = refl
 or_assoc false b c = refl
-
-pub or_false : (a : Bool) → (a || false) ≡ a
-or_false true = refl
-or_false false = refl
 
 -- the replies of one more fsync
 pub AreAnswered-push : (halted : Bool) (kept : ℕ) (tree : TreeState) (history : List Entry) (entry : Entry) → AreAnswered halted kept tree history → IsAnsweredEntry (halted || has_failed history) kept (tree_after tree history) entry → AreAnswered halted kept tree (history ++ entry ∷ [])

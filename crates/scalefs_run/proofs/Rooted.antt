@@ -2,7 +2,7 @@
 use Rattle.std.proofs.Common.{◌≡◌, ◌≢◌, ℕ, zero, suc, ◌<◌, Bool, true, false, cond, ◌&&◌, ◌||◌, List, [], ◌∷◌, length, map, Option, Some, None, T, refl, sym, ap, subst, ◌∙◌, arith, nat_eq, slice_get, bytes_eq}
 use Rattle.std.proofs.lemmas.List.{length-map}
 use Rattle.std.proofs.lemmas.Map.Text.{is_eq-slice_cmp}
-use borrow.Author.Tests.{eqb-true, eq-eqb}
+use borrow.Author.Tests.{eqb-true}
 use Rattle.std.specs.Ordering.{eq_by_cmp, is_eq, is_lt}
 use Rattle.std.specs.declared.cmp.Ordering.{Ordering}
 use Rattle.std.specs.declared.cmp.Ordering.TheVariants.{Less, Equal, Greater}
@@ -14,7 +14,6 @@ use Rattle.sfs_tree.specs.Order.{name_cmp}
 use Rattle.sfs_tree.specs.Tree.{TreeState, names_of, row_of}
 use Rattle.sfs_tree.specs.Tree.{kind_of}
 use Rattle.sfs_tree.proofs.Names.{get-names_where}
-use Rattle.sfs_tree.proofs.Joined.{name_cmp-IsAntisymmetric, is_equal}
 use Rattle.area_pair.specs.declared.area.Row.{Row}
 use Rattle.area_pair.specs.Rows.{clashes, KeepsApart}
 use Rattle.area_pair.specs.Rows as rows
@@ -25,21 +24,9 @@ use Rattle.std.specs.Option.{option_map_or}
 use Rattle.sfs_tree.specs.Tree.{Node}
 use Rattle.scalefs_run.specs.Flushed.{row_with_kind, rows_of_root}
 use Rattle.scalefs_run.specs.Replies.{root_rows}
-
--- the two sides of a conjunction
-and_first : (a b : Bool) → (a && b) ≡ true → a ≡ true
-and_first true b e = refl
-and_first false b e = e
-
-and_second : (a b : Bool) → (a && b) ≡ true → b ≡ true
-and_second true b e = e
-and_second false b e = cc
-
-pub some_same : {A : Type 0} {x y : A} → Some x ≡ Some y → x ≡ y
-some_same e = cc
-
-pub none_some : {A : Type 0} {x : A} → None ≡ Some x → ⊥
-none_some e = cc
+use Rattle.sfs_base.proofs.BasicTruth.{and_first, and_second}
+use Rattle.sfs_base.proofs.BasicOptions.{some_same, none_some}
+use Rattle.sfs_base.proofs.BasicLists.{same_bytes, bytes_same, bytes_unlike}
 
 abbrev pub Entries : Type 0
 Entries = List (List ℕ × ℕ)
@@ -63,15 +50,8 @@ less_not_equal Less e = refl
 less_not_equal Equal e = cc
 less_not_equal Greater e = cc
 
-pub same_bytes : (xs : List ℕ) → bytes_eq xs xs ≡ true
-same_bytes [] = refl
-same_bytes (x ∷ xs) = ap (λ b. b && bytes_eq xs xs) (eq-eqb x x refl) ∙ same_bytes xs
-
 self_ties : (name : List ℕ) → eq_by_cmp name_cmp name name ≡ true
 self_ties name = is_eq-slice_cmp name name ∙ same_bytes name
-
-pub bytes_same : (xs ys : List ℕ) → bytes_eq xs ys ≡ true → xs ≡ ys
-bytes_same xs ys e = name_cmp-IsAntisymmetric xs ys (is_equal _ (is_eq-slice_cmp xs ys ∙ e))
 
 -- a name that is less ties neither way
 less_names : (a b : List ℕ) → is_lt (name_cmp a b) ≡ true → bytes_eq a b ≡ false
@@ -140,7 +120,7 @@ sound_apart tree sound i j before row lt at_before at_row =
     let e = b.0 in
     let f = r.0 in
     let differs : bytes_eq e.0 f.0 ≡ false = less_names e.0 f.0 (rise es i j e f (to_true _ (entries_sorted names)) lt b.1 r.1) in
-    let others : e.0 ≢ f.0 = (λ same. other_names e.0 f.0 same differs) in
+    let others : e.0 ≢ f.0 = (λ same. bytes_unlike e.0 f.0 same differs) in
     ap (λ x. clashes x row) b.2 ∙ ap (clashes (row_with_kind tree e)) r.2
     ∙ ap (λ t. t || (nat_eq e.1 f.1 && (rows.is_directory_row (kind_of tree e.1) || rows.is_directory_row (kind_of tree f.1)))) differs
     ∙ elim (nat_eq e.1 f.1) as (λ t. nat_eq e.1 f.1 ≡ t → (t && (rows.is_directory_row (kind_of tree e.1) || rows.is_directory_row (kind_of tree f.1))) ≡ false) [
@@ -151,9 +131,6 @@ sound_apart tree sound i j before row lt at_before at_row =
       | false ↦ λ t. refl
     ] refl
   where
-    other_names : (a b : List ℕ) → a ≡ b → bytes_eq a b ≡ false → ⊥
-    other_names a b same differs = let clash : true ≡ false = sym (subst (λ n. bytes_eq a n ≡ true) same (same_bytes a)) ∙ differs in cc
-
     either_file : (k l : Kind) → k ≡ File → l ≡ File → (rows.is_directory_row k || rows.is_directory_row l) ≡ false
     either_file k l a b = ap (λ x. rows.is_directory_row x || rows.is_directory_row l) a ∙ ap rows.is_directory_row b
 

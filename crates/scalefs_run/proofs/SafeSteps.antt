@@ -24,9 +24,7 @@ use Rattle.scalefs_run.proofs.Crashes.{at_cut_grown, at_cut_new, at_cut_last}
 use Rattle.scalefs_run.proofs.Pushed.{last_flush-push, shown_at-push, shown_at-end}
 use Rattle.scalefs_run.proofs.Shows.{shown-numbered, shown_there}
 use Rattle.scalefs_run.proofs.Standing.{called_entry, flushed_entry, no_ack}
-
-never_both : {n : ℕ} → Some n ≡ None → ⊥
-never_both e = cc
+use Rattle.sfs_base.proofs.BasicOptions.{some_not_none}
 
 -- The history of a run that stands, one entry longer and legal still.
 module _ (start from : ℕ) (first : TreeState) (history : List Entry) (tree : TreeState) (store : Store) (disk : View) (so_far : RunInvariant start from first history tree store disk) (safe : CrashInvariant start from first history store disk)
@@ -122,7 +120,7 @@ module _ (start from : ℕ) (first : TreeState) (history : List Entry) (tree : T
         let never_acked : (k : ℕ) → IfSome entry.ack (λ a. k < a) = (λ k. subst (λ (o : Option ℕ). IfSome o (λ a. k < a)) (sym unacked) tt) in
         let rose : HasRisen start disk_after.faults = let risen = fails.risen in let first_later = so_far.later in omega arith in
         record {
-          settled = λ none. absurd (never_both (sym fails.kept ∙ none));
+          settled = λ none. absurd (some_not_none (sym fails.kept ∙ none));
           moments = λ k image ge le left.
               ⊎_elim
               (λ gt. ⊎_elim (old_rows found.0 k image (never_acked k) found.2) (new_rows k image stamped (inr (rose, failed)))

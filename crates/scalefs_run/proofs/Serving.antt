@@ -29,7 +29,9 @@ use Rattle.scalefs_run.specs.Served.{Served, ServedScript, has_run}
 use Rattle.scalefs_run.specs.Shown.{shown}
 use Rattle.scalefs_run.specs.RunInvariant.{KeepsInvariant}
 use Rattle.scalefs_run.specs.Safe.{Begins}
-use Rattle.scalefs_run.proofs.Rooted.{some_same, none_some}
+use Rattle.sfs_base.proofs.BasicOptions.{none_some, none_of}
+use Rattle.sfs_base.proofs.BasicOptions.{some_same}
+use Rattle.sfs_base.proofs.BasicTruth.{false_not_true}
 
 -- the rows of a disk that tells what a read gives
 abbrev pub opened_of : Option (List ℕ) → List Row
@@ -39,9 +41,6 @@ opened_of None = []
 opened_told : (told : Option (List ℕ)) → IfTold told (λ content. opened_of told ≡ rows_of content)
 opened_told (Some was) content e = ap rows_of (some_same e)
 opened_told None content e = absurd (none_some e)
-
-never : false ≡ true → ⊥
-never e = cc
 
 -- no call was made
 pub served_none : (due : Status) (share : ℕ) (phases : List (List Line)) (Source Sink : Type 0) (before after : Option (List ℕ)) (old new : View) (status : Status) → HasStatus due Source Sink (HasRisen old.faults new.faults) status → HasHistory phases [] status → HasText [] before after status → has_run status [] ≡ false → Served due share phases Source Sink before after old new status []
@@ -53,8 +52,8 @@ served_none due share phases Source Sink before after old new status status_is c
   calls = calls;
   text = text;
   answers = tt;
-  failed = λ e. absurd (never e);
-  read = λ ran none. absurd (never (sym not_run ∙ ran));
+  failed = λ e. absurd (false_not_true e);
+  read = λ ran none. absurd (false_not_true (sym not_run ∙ ran));
 }
 
 -- calls were made
@@ -71,17 +70,13 @@ served_run share phases Sink before after first engine old mid new status begins
       answers = stands.answered new.faults stands.kept;
       failed = λ e. rose_if engine.store.failed (sym stands.halted ∙ e) stands.risen;
       read = λ ran fine content told.
-          let found = stands.read (working engine.store.failed (sym stands.halted ∙ fine)) in
+          let found = stands.read (none_of engine.store.failed (sym stands.halted ∙ fine)) in
           ap shown (found.1 content told).rows_are ∙ found.2;
     }
   where
     rose_if : (failed : Option ℕ) → is_some failed ≡ true → IfSome failed (λ _. HasRisen old.faults new.faults) → HasRisen old.faults new.faults
-    rose_if None e h = absurd (never e)
+    rose_if None e h = absurd (false_not_true e)
     rose_if (Some f) e h = h
-
-    working : (failed : Option ℕ) → is_some failed ≡ false → failed ≡ None
-    working None e = refl
-    working (Some f) e = absurd (never (sym e))
 
 -- a source that did not come into play
 pub served_source : (due : Status) (share : ℕ) (phases : List (List Line)) (Source Sink : Type 0) (before after : Option (List ℕ)) (old new : View) (status : Status) (history : List Entry) → Served due share phases ⊥ Sink before after old new status history → Served due share phases Source Sink before after old new status history

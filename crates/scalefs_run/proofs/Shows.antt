@@ -24,7 +24,8 @@ use Rattle.scalefs_run.specs.Flushed.{row_with_kind, rows_of_root}
 use Rattle.scalefs_run.specs.Shown.{shown, name_and_kind}
 use Rattle.scalefs_run.specs.RunInvariant.{root_shown}
 use Rattle.scalefs_run.proofs.Opened.{row_ties, one_kind}
-use Rattle.scalefs_run.proofs.Rooted.{some_same, none_some}
+use Rattle.sfs_base.proofs.BasicOptions.{none_some}
+use Rattle.sfs_base.proofs.BasicOptions.{some_same}
 
 -- an entry of a directory with its node's kind
 abbrev pub with_kind : TreeState → List ℕ × ℕ → List ℕ × Kind

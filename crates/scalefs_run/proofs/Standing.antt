@@ -27,9 +27,11 @@ use Rattle.scalefs_run.specs.Shown.{shown, shown_at, is_flush, last_flush}
 use Rattle.scalefs_run.specs.RunInvariant.{RunInvariant, root_shown}
 use Rattle.scalefs_run.specs.declared.flush.Store.{Store}
 use Rattle.scalefs_run.proofs.Dated.{AreDated-push, FlushedLast-still, FlushedLast-here}
-use Rattle.scalefs_run.proofs.Pushed.{or_false, AreAnswered-push, has_failed-push, last_flush-push, shown_at-push, shown_at-end}
+use Rattle.scalefs_run.proofs.Pushed.{AreAnswered-push, has_failed-push, last_flush-push, shown_at-push, shown_at-end}
+use Rattle.sfs_base.proofs.BasicTruth.{or_false, or_true}
 use Rattle.scalefs_run.proofs.Rooted.{length-rows_of_root}
 use Rattle.scalefs_run.proofs.Shows.{shown-numbered, shown-root, shown_there}
+use Rattle.sfs_base.proofs.BasicOptions.{some_not_none}
 
 -- the entry of a call that is no fsync
 abbrev pub called_entry : ℕ → TreeState → ℕ → Call → Entry
@@ -251,18 +253,11 @@ module _ (start from : ℕ) (first : TreeState) (history : List Entry) (tree : T
         few = subst (λ (v : Vec Row Global). length v.items ≤ 15) (sym fails.on_disk) so_far.few;
         before = subst (λ n. n ≤ length all) (sym last) (omega arith);
         on_disk = ap (λ (v : Vec Row Global). shown v.items) fails.on_disk ∙ so_far.on_disk ∙ sym shows;
-        read = λ nothing. absurd (never_both (sym fails.kept ∙ nothing));
+        read = λ nothing. absurd (some_not_none (sym fails.kept ∙ nothing));
         later = let first_later = so_far.later in let then_later = goes.never_falls in omega arith;
         acks = AreDated-push from disk.now disk_after.now history entry so_far.acks (subst (λ (o : Option ℕ). IfSome o (λ a. (disk.now ≤ a) × (a ≤ disk_after.now))) (sym none_there) tt) goes.later;
         last = FlushedLast-still history entry so_far.last refl none_there;
       }
-    where
-      or_true : (a : Bool) → (a || true) ≡ true
-      or_true true = refl
-      or_true false = refl
-
-      never_both : {n : ℕ} → Some n ≡ None → ⊥
-      never_both e = cc
 
   pub stands_flushed : (Same : Type 0) (core : ℕ) (reply : Reply) (ack : Option ℕ) (after : Store) (disk_after : View) → core < CORES → IsAnswered (is_some store.failed) (unwrap_or store.failed 0) (root_rows tree) reply → (IsSome ack ↔ IsTrue (is_ok_reply reply)) → HasFlushed Same tree ack store after disk disk_after reply → Advances disk disk_after → (Same → disk_after.faults ≡ disk.faults) → (Same → (current : Option Current) (rows : List Row) → ReadsAs disk current rows → ReadsAs disk_after current rows) → RunInvariant start from first (flushed_history core reply ack) tree after disk_after
   stands_flushed Same core reply.Ok ack after disk_after within answered acknowledged flushed goes faults reads =

@@ -20,6 +20,7 @@ use Rattle.script.specs.Lines.{lines, words}
 use Rattle.script.specs.Phases.{phases_of, phases_from, with_line, with_meaning, first_phase_longer}
 use Rattle.script.specs.Walks.{WalkState, First, Second, Last, Done, first_walk, second_walk, on_first, on_second, begun, after, Position, go_on, started, taken, commands_of}
 use Rattle.script.specs.Ready.{MayRun, EndsWell, IsReady, PositionReady, LinesMayRun}
+use Rattle.sfs_base.proofs.BasicTruth.{and_second}
 
 on_second_ready : (command : Command) (first node : ℕ) (names : List (List ℕ)) → EndsWell command → IsReady (on_second command first node names)
 on_second_ready command first node [] well = well first node
@@ -85,10 +86,6 @@ number_within most word n e =
   where
     none_some : None ≡ Some n → ⊥
     none_some e = cc
-
-    and_second : (a b : Bool) → (a && b) ≡ true → b ≡ true
-    and_second true b e = e
-    and_second false b e = cc
 
 -- a command that is there may run
 abbrev SomeMay : Option Command → Type 0

@@ -4,7 +4,8 @@ use Rattle.std.proofs.Common.{◌||◌, ◌&&◌, ◌/◌, ◌%◌, nat_eq, nat_
 use Rattle.std.specs.Fmt.{digit_glyph}
 use borrow.Author.Tests.{eqb-true, eqb-false, ltb-true, ltb-false, le-ltb, lt-leb}
 use Rattle.std.specs.List.{list_all, range_with_len}
-use Rattle.script.proofs.BoolLemmas.{and_first, and_second}
+use Rattle.sfs_base.proofs.BasicTruth.{and_second, and_false}
+use Rattle.sfs_base.proofs.BasicTruth.{and_first}
 use Rattle.percent_encoding.specs.Percent.{percent_encode, encode_byte, percent_encode_byte}
 use Rattle.percent_encoding.specs.AsciiSet.{should_percent_encode, contains}
 use Rattle.script.specs.declared.writing.arguments.TheConstants.{ESCAPED}
@@ -41,10 +42,6 @@ tested p from (suc n) b all low high =
       | true ↦ λ t. ap p (eqb-true _ _ t) ∙ and_first _ _ all
       | false ↦ λ t. let other = eqb-false b from t in tested p (from + 1) n b (and_second _ _ all) (omega arith) (omega arith)
     ] refl
-
-and_false : (a : Bool) → (a && false) ≡ false
-and_false true = refl
-and_false false = refl
 
 above : (b : ℕ) → 128 ≤ b → should_percent_encode ESCAPED b ≡ not (is_shown b)
 unfolding should_percent_encode

@@ -1,9 +1,9 @@
 -- Laws of tables of a function, of tests of the first numbers, and of lists that two functions make alike.
-use Rattle.std.proofs.Common.{◌≡◌, ℕ, zero, suc, ◌+◌, ◌<◌, ◌≤◌, Bool, true, false, ◌||◌, List, [], ◌∷◌, ◌++◌, map, length, get_or, Option, None, Some, refl, sym, ap, ◌∙◌, arith, inl, inr, ◌⊎◌}
+use Rattle.std.proofs.Common.{◌≡◌, ℕ, zero, suc, ◌+◌, ◌<◌, ◌≤◌, Bool, true, false, List, [], ◌∷◌, ◌++◌, map, length, get_or, refl, sym, ap, ◌∙◌, arith, inl, inr, ◌⊎◌}
 use Rattle.std.proofs.lemmas.Bool.{or_parts, or_from, or_cases, or_left, or_right, cases_lt, false≢true}
-use Rattle.std.proofs.lemmas.List.{get_or_default, same_lists, length-map, get_or-map}
+use Rattle.std.proofs.lemmas.List.{same_lists}
 use Rattle.std.proofs.lemmas.List.FromFn.{length-map-range_with_len, get_or-map-range_with_len}
-use Rattle.std.specs.List.{range_with_len, flat_map, list_any}
+use Rattle.std.specs.List.{range_with_len, flat_map}
 use Rattle.sfs_image.specs.Part.{tabulate}
 use Rattle.sfs_image.specs.Rules.{any_below}
 
@@ -32,7 +32,8 @@ map_same f g d (x ∷ xs) same =
     λ i. here i ∷ rest i
 
 -- functions that agree on the n numbers from a on make one list of pieces of them
-pub pieces_same : {A : Type 0} (f g : ℕ → List A) (a n : ℕ) → ((k : ℕ) → a ≤ k → k < a + n → f k ≡ g k) → flat_map f (range_with_len a n) ≡ flat_map g (range_with_len a n)
+pub pieces_same : {A : Type 0} (f g : ℕ → List A) (a n : ℕ) → ((k : ℕ) → a ≤ k → k < a + n → f k ≡ g k) →
+    flat_map f (range_with_len a n) ≡ flat_map g (range_with_len a n)
 pieces_same f g a zero same = refl
 pieces_same f g a (suc n) same =
     let here = same a (omega arith) (omega arith) in

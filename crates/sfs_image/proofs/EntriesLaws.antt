@@ -1,14 +1,13 @@
 -- The entries of a journal slot are read again where they stand.
-use Rattle.std.proofs.Common.{◌≡◌, ℕ, zero, suc, ◌+◌, ◌-◌, ◌*◌, ◌^◌, ◌<◌, ◌≤◌, min, Bool, true, false, not, ◌&&◌, ◌||◌, eqb, ltb, List, [], map, take, drop, length, get_or, slice_index, Option, None, Some, All, refl, sym, ap, ◌∙◌, subst, arith, inl, inr}
-use Rattle.std.specs.Prelude.{slice_get}
+use Rattle.std.proofs.Common.{◌≡◌, ℕ, zero, suc, ◌+◌, ◌-◌, ◌*◌, ◌^◌, ◌<◌, ◌≤◌, min, Bool, true, not, eqb, ltb, List, [], map, take, drop, length, get_or, slice_index, None, sym, ap, ◌∙◌, subst, arith, inl, inr}
 use Rattle.std.specs.List.{range_with_len}
 use Rattle.std.specs.List.Sorted.{IsStrictlyIncreasing}
-use Rattle.std.proofs.lemmas.Bool.{cases_Bool, cases_lt, eqb-false, lt-ltb, or_left, or_right, and_from, not_from_true}
+use Rattle.std.proofs.lemmas.Bool.{cases_Bool, eqb-false, lt-ltb, or_left, or_right, and_from, not_from_true}
 use Rattle.std.proofs.lemmas.List.{same_lists, get_or-take, get_or-map, length-map}
 use Rattle.std.proofs.lemmas.List.Elements.{All-get_or}
 use Rattle.std.proofs.lemmas.List.FromFn.{fill_by_all}
 use Rattle.std.proofs.lemmas.Option.{slice_get-get_or}
-use Rattle.sfs_image.specs.Bytes.{part, number_from, u32s_at, u32_bytes, fault_at}
+use Rattle.sfs_image.specs.Bytes.{part, number_from, u32s_at, fault_at}
 use Rattle.sfs_image.specs.Journal.{Entry, head_of, numbers_of, entries_of, is_next, numbers_fault, number_byte, record_byte, AreEntries, HasEntries}
 use Rattle.sfs_image.specs.Laws.{AreReadAgain}
 use Rattle.sfs_image.proofs.BytesLaws.{number_from-u32_bytes}
@@ -112,7 +111,8 @@ module _ (inodes : ℕ) (entries : List Entry) (slot : List ℕ) (small : inodes
       ∙ first_of-from (length inodes_of_entries) (λ k. fault_at (not (is_next inodes inodes_of_entries k)) (number_byte k))
       (λ k h. ap (λ (wrong : Bool). fault_at wrong (number_byte k)) (not_from_true (is_next inodes inodes_of_entries k) (next_is k (omega (arith, as_many)))))
 
-pub read_again : (inodes : ℕ) (entries : List Entry) (slot : List ℕ) → inodes ≤ 2 ^ 32 → AreEntries inodes entries → HasEntries inodes entries slot → AreReadAgain inodes entries slot
+pub read_again : (inodes : ℕ) (entries : List Entry) (slot : List ℕ) → inodes ≤ 2 ^ 32 → AreEntries inodes entries → HasEntries inodes entries slot →
+    AreReadAgain inodes entries slot
 read_again inodes entries slot small are has = record {
   again = entries_again inodes entries slot small are has;
   count = count_is_few inodes entries slot small are has;

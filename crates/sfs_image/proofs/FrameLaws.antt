@@ -1,11 +1,12 @@
 -- What bytes keep where others change, and what a journal slot keeps.
-use Rattle.std.proofs.Common.{◌≡◌, ℕ, ◌+◌, ◌-◌, ◌*◌, ◌<◌, ◌≤◌, min, false, eqb, List, take, drop, map, length, get_or, slice_index, Option, None, refl, sym, ap, ◌∙◌, subst, arith, inl, inr, ◌⊎◌}
+use Rattle.std.proofs.Common.{◌≡◌, ℕ, ◌+◌, ◌-◌, ◌*◌, ◌≤◌, min, eqb, List, take, drop, map, length, slice_index, sym, ap, ◌∙◌, subst, arith, inl, inr}
 use Rattle.std.proofs.lemmas.List.{take-take, drop-take, drop-drop, length-take, length-drop, get_or-take}
 use Rattle.std.specs.List.{range_with_len}
-use Rattle.sfs_image.specs.Bytes.{part, u32_at, u64_at, u32s_at, number_from}
-use Rattle.sfs_image.specs.ImageOf.{AgreesOutside, LiesApart, Transaction, transaction_body, IsShut, HasBody}
-use Rattle.sfs_image.specs.Journal.{Entry, head_of, numbers_of, entries_of, record_byte, records_start, numbers_fault}
-use Rattle.sfs_image.specs.Settled.{Body, body_in}
+use Rattle.sfs_image.specs.Bytes.{part, u32s_at, number_from}
+use Rattle.sfs_image.specs.ImageOf.{Transaction, HasBody}
+use Rattle.sfs_image.specs.ImageWrites.{AgreesOutside, LiesApart}
+use Rattle.sfs_image.specs.Journal.{head_of, numbers_of, entries_of, record_byte, numbers_fault}
+use Rattle.sfs_image.specs.Settled.{body_in}
 
 -- a part of a part
 pub part-part : (a m from n : ℕ) (bytes : List ℕ) → a + m ≤ n → part a m (part from n bytes) ≡ part (from + a) m bytes

@@ -1,15 +1,14 @@
 -- What the open slots give an inode once a transaction has come to them, or has gone.
-use Rattle.std.proofs.Common.{◌≡◌, ◌≢◌, ℕ, zero, suc, ◌+◌, ◌<◌, ◌≤◌, Bool, true, false, cond, eqb, ltb, List, [], ◌∷◌, map, All, Option, None, Some, option_map, refl, sym, ap, ◌∙◌, subst, arith, inl, inr, ◌⊎◌}
-use Rattle.std.specs.Prelude.{unwrap_or}
+use Rattle.std.proofs.Common.{◌≡◌, ◌≢◌, ℕ, ◌<◌, Bool, eqb, List, [], ◌∷◌, map, All, Option, None, Some, option_map, refl, sym, ap, ◌∙◌, subst, arith, inl, inr}
 use Rattle.std.specs.List.{range_with_len, find}
 use Rattle.std.proofs.lemmas.List.Elements.{All-head, All-tail}
-use Rattle.std.proofs.lemmas.Bool.{cases_Bool, cases_eq, cond-true, cond-false, eq-eqb, ne_eqb, ltb-false}
-use Rattle.sfs_image.specs.ImageOf.{InodePart, Transaction, part_given, given, with_opened, with_slot, MayOpen, MayShut, HaveOwnStamps}
+use Rattle.std.proofs.lemmas.Bool.{cases_Bool, cases_eq, cond-true, cond-false, eq-eqb, ne_eqb}
+use Rattle.sfs_image.specs.ImageOf.{InodePart, Transaction, part_given, given, with_slot, HaveOwnStamps}
 use Rattle.sfs_image.specs.Part.{Part}
-use Rattle.sfs_image.specs.Settled.{Stamped, newer, newest, slot_count}
+use Rattle.sfs_image.specs.Settled.{Stamped, newest, slot_count}
 use Rattle.sfs_image.specs.Super.{Layout}
-use Rattle.sfs_image.proofs.BytesLaws.{option_map-Some, None-option_map}
-use Rattle.sfs_image.proofs.NewestLaws.{newest_same, newest_from, newest_none, newest_greatest, newest_max, IsGreatest}
+use Rattle.sfs_image.proofs.BytesLaws.{option_map-Some}
+use Rattle.sfs_image.proofs.NewestLaws.{newest_same, newest_from, newest_greatest, newest_max, IsGreatest}
 
 -- the slot that was changed, and each other
 pub with_slot-same : (opened : ℕ → Option Transaction) (k : ℕ) (one : Option Transaction) → with_slot opened k one k ≡ one
@@ -23,7 +22,8 @@ pub stamp_given : (i : ℕ) (one : Transaction) (ours : Stamped Part) → part_g
 stamp_given i one ours is = let found = option_map-Some _ (find (λ own. eqb own.inode i) one.parts) ours is in ap (λ (s : Stamped Part). s.stamp) found.2
 
 -- what is given is given by a transaction, under its commit stamp
-pub given_by : (i : ℕ) (one : Option Transaction) (ours : Stamped Part) → part_given i one ≡ Some ours → (giver : Transaction) × (one ≡ Some giver) × (ours.stamp ≡ giver.stamp)
+pub given_by : (i : ℕ) (one : Option Transaction) (ours : Stamped Part) → part_given i one ≡ Some ours →
+    (giver : Transaction) × (one ≡ Some giver) × (ours.stamp ≡ giver.stamp)
 given_by i None ours is = absurd cc
 given_by i (Some one) ours is = (one, refl, stamp_given i one ours is)
 
@@ -37,7 +37,8 @@ found_has P test (y ∷ xs) x all is =
     ]
 
 -- what each part of a transaction has is had by the one that it gives
-pub given_has : (P : Part → Type 0) (i : ℕ) (one : Transaction) (ours : Stamped Part) → All (λ (inner : InodePart). P inner.part) one.parts → part_given i (Some one) ≡ Some ours → P ours.value
+pub given_has : (P : Part → Type 0) (i : ℕ) (one : Transaction) (ours : Stamped Part) → All (λ (inner : InodePart). P inner.part) one.parts →
+    part_given i (Some one) ≡ Some ours → P ours.value
 given_has P i one ours all is =
     let found = option_map-Some _ (find (λ own. eqb own.inode i) one.parts) ours is in
     let same : found.0.part ≡ ours.value = sym (ap (λ (s : Stamped Part). s.value) found.2) in
@@ -45,12 +46,14 @@ given_has P i one ours all is =
 
 module _ (layout : Layout) (opened : ℕ → Option Transaction) (k : ℕ) (within : k < slot_count layout) where
   -- what slots give that agree on an inode
-  pub given_same : (other : ℕ → Option Transaction) (i : ℕ) → ((j : ℕ) → j < slot_count layout → part_given i (other j) ≡ part_given i (opened j)) → given layout other i ≡ given layout opened i
+  pub given_same : (other : ℕ → Option Transaction) (i : ℕ) → ((j : ℕ) → j < slot_count layout → part_given i (other j) ≡ part_given i (opened j)) →
+      given layout other i ≡ given layout opened i
   given_same other i same =
       ap (option_map (λ newest. newest.value)) (newest_same (λ j. part_given i (other j)) (λ j. part_given i (opened j)) 0 (slot_count layout) (λ j low high. same j (omega arith)))
 
   -- an inode to which neither the new nor the old transaction of a slot gives a part
-  pub given_aside : (one : Option Transaction) (i : ℕ) → part_given i one ≡ part_given i (opened k) → given layout (with_slot opened k one) i ≡ given layout opened i
+  pub given_aside : (one : Option Transaction) (i : ℕ) → part_given i one ≡ part_given i (opened k) →
+      given layout (with_slot opened k one) i ≡ given layout opened i
   given_aside one i same =
       given_same (with_slot opened k one) i
       (λ j h. elim (cases_eq j k) [
@@ -60,7 +63,8 @@ module _ (layout : Layout) (opened : ℕ → Option Transaction) (k : ℕ) (with
 
   -- what is newer than all that the others give is given
   pub given_newer : (one : Transaction) (i : ℕ) (ours : Stamped Part) → part_given i (Some one) ≡ Some ours →
-      ((j : ℕ) (other : Stamped Part) → j < slot_count layout → j ≢ k → part_given i (opened j) ≡ Some other → other.stamp < ours.stamp) → given layout (with_slot opened k (Some one)) i ≡ Some ours.value
+      ((j : ℕ) (other : Stamped Part) → j < slot_count layout → j ≢ k → part_given i (opened j) ≡ Some other → other.stamp < ours.stamp) →
+      given layout (with_slot opened k (Some one)) i ≡ Some ours.value
   given_newer one i ours is lesser =
       ap (option_map (λ newest. newest.value))
       (newest_greatest (λ j. part_given i (with_slot opened k (Some one) j)) 0 (slot_count layout) k ours (record {
@@ -81,7 +85,8 @@ module _ (layout : Layout) (opened : ℕ → Option Transaction) (k : ℕ) (with
   -- what is newest of the others is newer than each, with what goes too
   still_greatest : (i j : ℕ) (top : Stamped Part) → HaveOwnStamps layout opened → j < slot_count layout → j ≢ k → part_given i (opened j) ≡ Some top →
       newest (map (λ m. part_given i (with_slot opened k None m)) (range_with_len 0 (slot_count layout))) ≡ Some top →
-      ((ours : Stamped Part) → part_given i (opened k) ≡ Some ours → ours.stamp < top.stamp) → IsGreatest (λ m. part_given i (opened m)) 0 (slot_count layout) j top
+      ((ours : Stamped Part) → part_given i (opened k) ≡ Some ours → ours.stamp < top.stamp) →
+      IsGreatest (λ m. part_given i (opened m)) 0 (slot_count layout) j top
   still_greatest i j top stamps below other here most older = record {
     low = omega arith;
     high = omega arith;

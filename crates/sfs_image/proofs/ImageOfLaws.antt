@@ -1,15 +1,16 @@
 -- An image that stands for parts: its settled parts are those with what the open slots give, and nothing is wrong in its
 -- superblock and journals.
-use Rattle.std.proofs.Common.{◌≡◌, ◌≢◌, ℕ, zero, suc, ◌+◌, ◌^◌, ◌<◌, ◌≤◌, Bool, true, false, cond, eqb, ltb, List, [], ◌∷◌, ◌++◌, map, Option, None, Some, option_map, refl, sym, ap, ◌∙◌, subst, arith, inl, inr, ◌⊎◌}
-use Rattle.std.specs.Prelude.{unwrap_or, true, false}
+use Rattle.std.proofs.Common.{◌≡◌, ◌≢◌, ℕ, zero, suc, ◌+◌, ◌^◌, ◌<◌, ◌≤◌, Bool, false, eqb, ltb, List, [], ◌∷◌, map, Option, None, Some, option_map, refl, sym, ap, ◌∙◌, subst, arith, inl, inr}
+use Rattle.std.specs.Prelude.{unwrap_or, false}
 use Rattle.std.specs.Option.{option_or}
 use Rattle.std.specs.List.{range_with_len, flat_map, find, list_any}
 use Rattle.std.proofs.lemmas.Bool.{cases_Bool, cond-true, cond-false, le-ltb, ne_eqb, or_from}
 use Rattle.std.proofs.lemmas.List.{map-append}
 use Rattle.std.proofs.lemmas.List.Folds.{list_any-append}
-use Rattle.sfs_image.specs.Bytes.{part, first_of, fault_at}
-use Rattle.sfs_image.specs.ImageOf.{InodePart, Transaction, transaction_body, part_given, given, with_opened, IsShut, HasBody, IsOpenWith, IsSlotOf, HaveOwnStamps, IsImageOf, PointsToData}
-use Rattle.sfs_image.specs.Journal.{Entry, head_of, head_fault, numbers_fault, numbers_of, journal_fault, AreEntries, HasEntries}
+use Rattle.sfs_image.specs.Bytes.{part, fault_at}
+use Rattle.sfs_image.specs.ImageOf.{InodePart, Transaction, transaction_body, part_given, given, with_opened, HasBody, IsSlotOf, IsImageOf, PointsToData, FreshBlock, StandIn, TurnsInto}
+use Rattle.sfs_image.specs.Journal.{Entry, head_of, numbers_fault, numbers_of, journal_fault, AreEntries, HasEntries}
+use Rattle.sfs_image.specs.Laws.{IsReadAs}
 use Rattle.sfs_image.specs.Part.{Part, part_of, IsGathered}
 use Rattle.sfs_image.specs.Settled.{Body, Stamped, newest, body_in, open_body, open_below, open_bodies, record_in, held, table_record, settled, parts_of, journal_slot, slot_count, image_block, slot_fault_of, journal_fault_of}
 use Rattle.sfs_image.specs.Super.{Layout}
@@ -44,7 +45,8 @@ record_given i one =
     ∙ sym (option_map-option_map (over (λ part. part.raw)) _ (find (λ own. eqb own.inode i) one.parts))
 
 -- what a slot shows of an inode is the record of the part that its transaction gives
-slot_shows : (inodes i : ℕ) (one : Option Transaction) (slot : List ℕ) → IsSlotOf inodes one slot → IsOnce (record_in i) (open_body inodes slot) (option_map (over (λ part. part.raw)) (part_given i one))
+slot_shows : (inodes i : ℕ) (one : Option Transaction) (slot : List ℕ) → IsSlotOf inodes one slot →
+    IsOnce (record_in i) (open_body inodes slot) (option_map (over (λ part. part.raw)) (part_given i one))
 slot_shows inodes i None slot shut = subst (λ (those : List Body). IsOnce (record_in i) those None) (sym (cond-false (head_of (part 0 4096 slot)).gate _ _ shut)) nothing
 slot_shows inodes i (Some one) slot is =
     let body = body_in inodes slot in
@@ -60,13 +62,14 @@ module _ (layout : Layout) (opened : ℕ → Option Transaction) (image : List �
   held_given i =
       ap (option_map (λ newest. newest.value))
       (newest_of_pieces (record_in i) (λ k. open_body layout.inodes (journal_slot layout image k)) (λ k. option_map (over (λ part. part.raw)) (part_given i (opened k))) 0 (slot_count layout)
-        (λ k low high. slot_shows layout.inodes i (opened k) (journal_slot layout image k) (slots k (omega arith)))
+      (λ k low high. slot_shows layout.inodes i (opened k) (journal_slot layout image k) (slots k (omega arith)))
       ∙ newest_over (λ part. part.raw) (λ k. part_given i (opened k)) (range_with_len 0 (slot_count layout)))
       ∙ option_map-option_map (λ newest. newest.value) (over (λ part. part.raw)) (newest (map (λ k. part_given i (opened k)) (range_with_len 0 (slot_count layout))))
       ∙ sym (option_map-option_map (λ part. part.raw) (λ newest. newest.value) (newest (map (λ k. part_given i (opened k)) (range_with_len 0 (slot_count layout)))))
 
 -- among the bodies of slots there is none with a commit stamp that none of them has
-none_stamped : (stamp : ℕ) (at : ℕ → List Body) (a n : ℕ) → ((j : ℕ) → a ≤ j → j < a + n → list_any (λ other. eqb other stamp) (map (λ body. body.stamp) (at j)) ≡ false) →
+none_stamped : (stamp : ℕ) (at : ℕ → List Body) (a n : ℕ) →
+    ((j : ℕ) → a ≤ j → j < a + n → list_any (λ other. eqb other stamp) (map (λ body. body.stamp) (at j)) ≡ false) →
     list_any (λ other. eqb other stamp) (map (λ body. body.stamp) (flat_map at (range_with_len a n))) ≡ false
 none_stamped stamp at a zero none = refl
 none_stamped stamp at a (suc n) none =
@@ -75,7 +78,8 @@ none_stamped stamp at a (suc n) none =
     ∙ or_from _ _ (none a (omega arith) (omega arith)) (none_stamped stamp at (a + 1) n (λ j low high. none j (omega arith) (omega arith)))
 
 -- a slot whose transaction has another commit stamp shows no body with this one
-other_stamp : (inodes stamp : ℕ) (one : Option Transaction) (slot : List ℕ) → IsSlotOf inodes one slot → ((other : Transaction) → one ≡ Some other → other.stamp ≢ stamp) →
+other_stamp : (inodes stamp : ℕ) (one : Option Transaction) (slot : List ℕ) → IsSlotOf inodes one slot →
+    ((other : Transaction) → one ≡ Some other → other.stamp ≢ stamp) →
     list_any (λ other. eqb other stamp) (map (λ body. body.stamp) (open_body inodes slot)) ≡ false
 other_stamp inodes stamp None slot shut differs =
     ap (λ (those : List Body). list_any (λ other. eqb other stamp) (map (λ body. body.stamp) those)) (cond-false (head_of (part 0 4096 slot)).gate _ _ shut)
@@ -99,7 +103,8 @@ sound_slot inodes stamps (Some one) slot is fresh =
     ∙ is.whole.numbers
 
 -- a default in the place of nothing, behind a function
-unwrap_made : {A B : Type 0} (f : A → B) (o : Option A) (default : B) (one : A) → (o ≡ None → default ≡ f one) → unwrap_or (option_map f o) default ≡ f (unwrap_or o one)
+unwrap_made : {A B : Type 0} (f : A → B) (o : Option A) (default : B) (one : A) → (o ≡ None → default ≡ f one) →
+    unwrap_or (option_map f o) default ≡ f (unwrap_or o one)
 unwrap_made f None default one is = is refl
 unwrap_made f (Some x) default one is = refl
 
@@ -129,8 +134,18 @@ module _ (layout : Layout) (opened : ℕ → Option Transaction) (parts : ℕ �
   pub journals_are_sound : journal_fault_of layout image ≡ None
   journals_are_sound = first_of-from (slot_count layout) (slot_fault_of layout image) slot_is_sound
 
+-- An image that stands for parts is read as these.
+pub read_as : (layout : Layout) (opened : ℕ → Option Transaction) (parts : ℕ → Part) (image : List ℕ) → IsImageOf layout opened parts image →
+    IsReadAs layout opened parts image
+read_as layout opened parts image is = record {
+  super = is.sound;
+  journals = journals_are_sound layout opened parts image is;
+  settles = parts_are layout opened parts image is;
+}
+
 -- Where the entries of a transaction stand in a slot, under its commit stamp, its whole body is there.
-pub whole_body : (inodes : ℕ) (one : Transaction) (slot : List ℕ) → inodes ≤ 2 ^ 32 → (head_of (part 0 4096 slot)).stamp ≡ one.stamp → AreEntries inodes (transaction_body one).entries → HasEntries inodes (transaction_body one).entries slot →
+pub whole_body : (inodes : ℕ) (one : Transaction) (slot : List ℕ) → inodes ≤ 2 ^ 32 → (head_of (part 0 4096 slot)).stamp ≡ one.stamp →
+    AreEntries inodes (transaction_body one).entries → HasEntries inodes (transaction_body one).entries slot →
     HasBody inodes one slot
 whole_body inodes one slot small stamp are has =
     let again = read_again inodes (transaction_body one).entries slot small are has in
@@ -138,7 +153,8 @@ whole_body inodes one slot small stamp are has =
     record { count = again.count; numbers = again.sound; body = λ i. record { stamp = stamp i; entries = entries i } }
 
 -- The parts of inodes that an open slot has may be any, where the slots are not looked at.
-pub parts_instead : (layout : Layout) (opened : ℕ → Option Transaction) (parts others : ℕ → Part) (image : List ℕ) → ((i : ℕ) → i < layout.inodes → given layout opened i ≡ None → others i ≡ parts i) →
+pub parts_instead : (layout : Layout) (opened : ℕ → Option Transaction) (parts others : ℕ → Part) (image : List ℕ) →
+    ((i : ℕ) → i < layout.inodes → given layout opened i ≡ None → others i ≡ parts i) →
     IsImageOf layout opened parts image → IsImageOf layout opened others image
 parts_instead layout opened parts others image same is = record {
   sound = is.sound;
@@ -156,3 +172,9 @@ parts_instead layout opened parts others image same is = record {
 
     with_same : (i : ℕ) → i < layout.inodes → with_opened layout opened others i ≡ with_opened layout opened parts i
     with_same i h = unwrap_same (given layout opened i) (others i) (parts i) (same i h)
+
+-- Fresh blocks that turn a part of an image into a new one make the new one.
+pub fresh_make : (layout : Layout) (opened : ℕ → Option Transaction) (parts : ℕ → Part) (image : List ℕ) (i : ℕ) (fresh : List FreshBlock) (new : Part) →
+    IsImageOf layout opened parts image → i < layout.inodes → TurnsInto fresh (with_opened layout opened parts i) new → StandIn (image_block image) fresh →
+    IsGathered (image_block image) new
+fresh_make layout opened parts image i fresh new is below turns stand = turns (image_block image) stand (is.gathered i below)

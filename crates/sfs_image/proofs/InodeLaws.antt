@@ -6,7 +6,7 @@ use Rattle.std.proofs.lemmas.Bool.{cases_Bool, cases_lt, le-ltb, ltb-false, eqb-
 use Rattle.std.proofs.Math.Seq.{take-add}
 use Rattle.sfs_image.specs.Bytes.{AreBytes, part, zeros, number_from, u32_at, u64_at, u32s_at, u32_bytes, u64_bytes, u32s_bytes, nonzero_in, fault_at}
 use Rattle.sfs_image.specs.Inode.{Inode, IsFree, IsInode, AreU32s, inode_of, inode_fault, inode_bytes, ArePointers, pointers_of, pointers_bytes}
-use Rattle.sfs_image.proofs.BytesLaws.{option_or-None, false_from_fault, number_from-u32_bytes, number_from-u64_bytes, nonzero_in-zeros, part_from_none, part_in_zeros, u32_at-lt, u64_at-lt, number_from-lt, number_from-zeros, number_from-8_zeros, zeros-append, zeros-is, front_u32, front_u64, AreBytes-drop, AreBytes-part, drop_zeros}
+use Rattle.sfs_image.proofs.BytesLaws.{option_or-None, false_from_fault, number_from-u32_bytes, number_from-u64_bytes, nonzero_in-zeros, part_from_none, part_in_zeros, u32_at-lt, u64_at-lt, number_from-lt, number_from-zeros, number_from-8_zeros, zeros-append, zeros-is, front_u32, front_u64, AreBytes-drop, AreBytes-part, drop_zeros, length-zeros}
 use Rattle.sfs_image.proofs.PiecesLaws.{u32s_at-u32s_bytes, u32s_bytes-u32s_at, length-u32s_at, get_or-u32s_at, length-pieces}
 
 -- the bytes of n numbers
@@ -69,7 +69,8 @@ inode_fault-inode_bytes inode is =
     ])
 
 -- numbers behind the front
-front_u32s : (at n : ℕ) (bytes front : List ℕ) → at + 4 * n ≤ length bytes → AreBytes bytes → front ≡ take at bytes → front ++ u32s_bytes (u32s_at at n bytes) ≡ take (at + 4 * n) bytes
+front_u32s : (at n : ℕ) (bytes front : List ℕ) → at + 4 * n ≤ length bytes → AreBytes bytes → front ≡ take at bytes →
+    front ++ u32s_bytes (u32s_at at n bytes) ≡ take (at + 4 * n) bytes
 front_u32s at n bytes front within small is =
     ap (λ (xs : List ℕ). xs ++ u32s_bytes (u32s_at at n bytes)) is
     ∙ ap (λ (xs : List ℕ). take at bytes ++ xs) (u32s_bytes-u32s_at at n bytes within small)
@@ -118,6 +119,10 @@ AreU32s-u32s_at at n bytes small k =
       | inr past ↦ rw (get_or_past (u32s_at at n bytes) k 0 (omega (arith, length-u32s_at at n bytes))) (omega arith)
     ]
 
+-- each of n holes is one, and what lies past them too
+pub get_or-holes : (n k : ℕ) → slice_index (replicate n 0) k ≡ 0
+get_or-holes n k = elim (cases_lt k n) [ inl h ↦ get_or-replicate n k 0 0 h | inr past ↦ get_or_past (replicate n 0) k 0 (omega (arith, length-replicate {A = ℕ} n 0)) ]
+
 -- numbers read from zeros are holes
 holes_at : (at n : ℕ) (bytes : List ℕ) → part at (4 * n) bytes ≡ zeros (4 * n) → u32s_at at n bytes ≡ replicate n 0
 holes_at at n bytes are =
@@ -130,28 +135,35 @@ holes_at at n bytes are =
     ∙ number_from-zeros (4 * n - 4 * k)
     ∙ sym (get_or-replicate n k 0 d within))
 
+-- a free record without a fault has nothing
+pub IsFree-inode_of : (raw : List ℕ) → length raw ≡ 512 → inode_fault raw ≡ None → slice_index raw 0 ≡ 0 → IsFree (inode_of raw)
+IsFree-inode_of raw len none kind =
+    let all : part 4 508 raw ≡ zeros 508 = part_from_none 4 508 raw (omega arith) ((inode_facts raw none).free kind) in
+    let within : (a m : ℕ) → 4 ≤ a → a + m ≤ 512 → part a m raw ≡ zeros m = λ a m low high. part_in_zeros 4 508 a m raw (omega arith) all low high in
+    record {
+      links = ap (number_from 0 4) (within 4 4 (omega arith) (omega arith)) ∙ number_from-zeros 4;
+      size = ap (number_from 0 8) (within 8 8 (omega arith) (omega arith)) ∙ number_from-8_zeros;
+      direct = holes_at 16 108 raw (within 16 432 (omega arith) (omega arith));
+      indirect = holes_at 448 16 raw (within 448 64 (omega arith) (omega arith));
+    }
+
 -- the inode in a record without a fault can stand in one
 pub IsInode-inode_of : (raw : List ℕ) → length raw ≡ 512 → AreBytes raw → inode_fault raw ≡ None → IsInode (inode_of raw)
-IsInode-inode_of raw len small none =
-    let facts = inode_facts raw none in
-    record {
-      kind = facts.kind;
-      links = u32_at-lt 4 raw small;
-      size = u64_at-lt 8 raw small;
-      direct_count = length-u32s_at 16 108 raw;
-      direct = AreU32s-u32s_at 16 108 raw small;
-      indirect_count = length-u32s_at 448 16 raw;
-      indirect = AreU32s-u32s_at 448 16 raw small;
-      free = λ zero.
-          let all : part 4 508 raw ≡ zeros 508 = part_from_none 4 508 raw (omega arith) (facts.free zero) in
-          let within : (a m : ℕ) → 4 ≤ a → a + m ≤ 512 → part a m raw ≡ zeros m = λ a m low high. part_in_zeros 4 508 a m raw (omega arith) all low high in
-          record {
-            links = ap (number_from 0 4) (within 4 4 (omega arith) (omega arith)) ∙ number_from-zeros 4;
-            size = ap (number_from 0 8) (within 8 8 (omega arith) (omega arith)) ∙ number_from-8_zeros;
-            direct = holes_at 16 108 raw (within 16 432 (omega arith) (omega arith));
-            indirect = holes_at 448 16 raw (within 448 64 (omega arith) (omega arith));
-          };
-    }
+IsInode-inode_of raw len small none = record {
+  kind = (inode_facts raw none).kind;
+  links = u32_at-lt 4 raw small;
+  size = u64_at-lt 8 raw small;
+  direct_count = length-u32s_at 16 108 raw;
+  direct = AreU32s-u32s_at 16 108 raw small;
+  indirect_count = length-u32s_at 448 16 raw;
+  indirect = AreU32s-u32s_at 448 16 raw small;
+  free = IsFree-inode_of raw len none;
+}
+
+-- an indirect block of zeros has holes
+pub pointers_of-zeros : (k : ℕ) → slice_index (pointers_of (zeros 4096)) k ≡ 0
+pointers_of-zeros k =
+    ap (λ (xs : List ℕ). slice_index xs k) (holes_at 0 1024 (zeros 4096) (take_all 4096 (zeros 4096) (omega (arith, length-zeros 4096)))) ∙ get_or-holes 1024 k
 
 -- the pointers of an indirect block, likewise
 pub length-pointers_bytes : (pointers : List ℕ) → ArePointers pointers → length (pointers_bytes pointers) ≡ 4096

@@ -1,14 +1,13 @@
 -- Writes that keep what an image stands for.
-use Rattle.std.proofs.Common.{◌≡◌, ◌≢◌, ℕ, ◌+◌, ◌*◌, ◌/◌, ◌<◌, ◌≤◌, List, length, Option, None, Some, refl, sym, ap, ◌∙◌, subst, arith, inl, inr, ◌⊎◌}
-use Rattle.std.proofs.lemmas.Bool.{cases_eq, cases_order}
+use Rattle.std.proofs.Common.{◌≡◌, ◌≢◌, ℕ, ◌+◌, ◌*◌, ◌/◌, ◌<◌, ◌≤◌, List, Option, None, ap, ◌∙◌, arith, inl, inr}
+use Rattle.std.proofs.lemmas.Bool.{cases_order}
 use Rattle.sfs_image.specs.Bytes.{part}
-use Rattle.sfs_image.specs.ImageOf.{Transaction, given, with_opened, IsSlotOf, IsImageOf, AgreesOutside, LiesApart, PointsToData}
-use Rattle.sfs_image.specs.Journal.{head_of}
-use Rattle.sfs_image.specs.Laws.{table_byte, IsDivided}
+use Rattle.sfs_image.specs.ImageOf.{Transaction, given, with_opened, IsSlotOf, IsImageOf}
+use Rattle.sfs_image.specs.ImageWrites.{AgreesOutside, LiesApart}
 use Rattle.sfs_image.specs.Part.{Part, IsGathered, pointer_at}
-use Rattle.sfs_image.specs.Settled.{image_block, layout_of, super_fault_of, slot_byte, slot_count, journal_slot, table_record}
+use Rattle.sfs_image.specs.Settled.{table_byte, image_block, layout_of, super_fault_of, slot_byte, slot_count, journal_slot}
 use Rattle.sfs_image.specs.Super.{Layout, slot_blocks, data_start, super_of, super_fault}
-use Rattle.sfs_image.proofs.FrameLaws.{part_apart, part_changes, gate_kept}
+use Rattle.sfs_image.proofs.FrameLaws.{part_apart}
 use Rattle.sfs_image.proofs.LayoutLaws.{divided}
 use Rattle.sfs_image.proofs.PartLaws.{gathered_same}
 
@@ -17,9 +16,11 @@ use Rattle.sfs_image.proofs.PartLaws.{gathered_same}
 pub record IsAside (layout : Layout) (opened : ℕ → Option Transaction) (parts : ℕ → Part) (at n : ℕ) (old new : List ℕ) : Type 0 where
   pub same : AgreesOutside at n old new
   pub behind : 4096 ≤ at
-  pub slots : (k : ℕ) → k < slot_count layout → IsSlotOf layout.inodes (opened k) (journal_slot layout old k) → IsSlotOf layout.inodes (opened k) (journal_slot layout new k)
+  pub slots : (k : ℕ) → k < slot_count layout → IsSlotOf layout.inodes (opened k) (journal_slot layout old k) →
+      IsSlotOf layout.inodes (opened k) (journal_slot layout new k)
   pub table : (i : ℕ) → i < layout.inodes → given layout opened i ≡ None → LiesApart (table_byte layout i) 512 at n
-  pub blocks : (i place : ℕ) → i < layout.inodes → pointer_at (with_opened layout opened parts i) place ≢ 0 → LiesApart (4096 * pointer_at (with_opened layout opened parts i) place) 4096 at n
+  pub blocks : (i place : ℕ) → i < layout.inodes → pointer_at (with_opened layout opened parts i) place ≢ 0 →
+      LiesApart (4096 * pointer_at (with_opened layout opened parts i) place) 4096 at n
 
 module _ (at n : ℕ) (old new : List ℕ) (same : AgreesOutside at n old new) (behind : 4096 ≤ at) where
   -- the superblock stays
@@ -33,10 +34,12 @@ module _ (at n : ℕ) (old new : List ℕ) (same : AgreesOutside at n old new) (
   divided_kept = ap super_of super_kept
 
   -- a part stays that points to blocks apart
-  pub gathered_kept : (part : Part) → IsGathered (image_block old) part → ((place : ℕ) → pointer_at part place ≢ 0 → LiesApart (4096 * pointer_at part place) 4096 at n) → IsGathered (image_block new) part
+  pub gathered_kept : (part : Part) → IsGathered (image_block old) part →
+      ((place : ℕ) → pointer_at part place ≢ 0 → LiesApart (4096 * pointer_at part place) 4096 at n) → IsGathered (image_block new) part
   gathered_kept part is apart = gathered_same (image_block old) (image_block new) part is (λ place there. part_apart at n old new same (4096 * pointer_at part place) 4096 (apart place there))
 
-pub aside_kept : (layout : Layout) (opened : ℕ → Option Transaction) (parts : ℕ → Part) (at n : ℕ) (old new : List ℕ) → IsAside layout opened parts at n old new →
+pub aside_kept : (layout : Layout) (opened : ℕ → Option Transaction) (parts : ℕ → Part) (at n : ℕ) (old new : List ℕ) →
+    IsAside layout opened parts at n old new →
     IsImageOf layout opened parts old → IsImageOf layout opened parts new
 aside_kept layout opened parts at n old new aside is = record {
   sound = sound_kept at n old new aside.same aside.behind ∙ is.sound;
@@ -51,7 +54,8 @@ aside_kept layout opened parts at n old new aside is = record {
 -- in which part of the disk a write lies, and what it is apart from
 module _ (layout : Layout) where
   -- a slot and another one
-  pub slots_apart : (j k a n : ℕ) → j ≢ k → a + n ≤ 4096 * slot_blocks layout.inodes → LiesApart (slot_byte layout j) (4096 * slot_blocks layout.inodes) (slot_byte layout k + a) n
+  pub slots_apart : (j k a n : ℕ) → j ≢ k → a + n ≤ 4096 * slot_blocks layout.inodes →
+      LiesApart (slot_byte layout j) (4096 * slot_blocks layout.inodes) (slot_byte layout k + a) n
   slots_apart j k a n apart fits =
       elim (cases_order j k) [
         | inl e ↦ absurd (apart e)
@@ -60,11 +64,13 @@ module _ (layout : Layout) where
       ]
 
   -- a slot and the table
-  pub slot_before_table : (k i a n : ℕ) → k < slot_count layout → a + n ≤ 4096 * slot_blocks layout.inodes → LiesApart (table_byte layout i) 512 (slot_byte layout k + a) n
+  pub slot_before_table : (k i a n : ℕ) → k < slot_count layout → a + n ≤ 4096 * slot_blocks layout.inodes →
+      LiesApart (table_byte layout i) 512 (slot_byte layout k + a) n
   slot_before_table k i a n h fits = inr (let last = (divided layout).last_slot k h in omega arith)
 
   -- a slot and the data
-  pub slot_before_data : (k block a n : ℕ) → k < slot_count layout → a + n ≤ 4096 * slot_blocks layout.inodes → data_start layout ≤ block → LiesApart (4096 * block) 4096 (slot_byte layout k + a) n
+  pub slot_before_data : (k block a n : ℕ) → k < slot_count layout → a + n ≤ 4096 * slot_blocks layout.inodes → data_start layout ≤ block →
+      LiesApart (4096 * block) 4096 (slot_byte layout k + a) n
   slot_before_data k block a n h fits high = inr (let last = (divided layout).last_slot k h in omega arith)
 
   -- a record of the table and a slot
@@ -81,11 +87,13 @@ module _ (layout : Layout) where
       ]
 
   -- a record of the table and the data
-  pub table_before_data : (i block a n : ℕ) → i < layout.inodes → a + n ≤ 512 → data_start layout ≤ block → LiesApart (4096 * block) 4096 (table_byte layout i + a) n
+  pub table_before_data : (i block a n : ℕ) → i < layout.inodes → a + n ≤ 512 → data_start layout ≤ block →
+      LiesApart (4096 * block) 4096 (table_byte layout i + a) n
   table_before_data i block a n h fits high = inr (let last = (divided layout).table i h in omega arith)
 
   -- the data and the slots, and the table
-  pub data_behind_slots : (k at n : ℕ) → k < slot_count layout → 4096 * data_start layout ≤ at → LiesApart (slot_byte layout k) (4096 * slot_blocks layout.inodes) at n
+  pub data_behind_slots : (k at n : ℕ) → k < slot_count layout → 4096 * data_start layout ≤ at →
+      LiesApart (slot_byte layout k) (4096 * slot_blocks layout.inodes) at n
   data_behind_slots k at n h high = inl (let last = (divided layout).last_slot k h in omega arith)
 
   pub data_behind_table : (i at n : ℕ) → i < layout.inodes → 4096 * data_start layout ≤ at → LiesApart (table_byte layout i) 512 at n

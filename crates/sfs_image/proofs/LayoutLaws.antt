@@ -1,11 +1,10 @@
 -- The parts of a disk lie one behind another.
-use Rattle.std.proofs.Common.{◌≡◌, ℕ, ◌+◌, ◌*◌, ◌/◌, ◌%◌, ◌<◌, ◌≤◌, refl, sym, ap, ◌∙◌, arith}
+use Rattle.std.proofs.Common.{◌≡◌, ℕ, ◌+◌, ◌*◌, ◌<◌, ◌≤◌, ap, arith}
 use Rattle.std.proofs.Math.Nat.{mul-le-mul_right}
 use Rattle.std.proofs.lemmas.Nat.{div-mul-add, mod-mul-add}
-use Rattle.sfs_image.specs.Journal.{number_byte, record_byte, records_start}
-use Rattle.sfs_image.specs.Laws.{table_byte, IsDivided, IsNumberOf}
-use Rattle.sfs_image.specs.Settled.{slot_byte, slot_count}
-use Rattle.sfs_image.specs.Super.{Layout, slot_blocks, slot_start, table_start, data_start, number_blocks, record_blocks}
+use Rattle.sfs_image.specs.Laws.{IsDivided, IsNumberOf}
+use Rattle.sfs_image.specs.Settled.{slot_count}
+use Rattle.sfs_image.specs.Super.{Layout, slot_blocks, number_blocks, record_blocks}
 
 -- so many blocks hold 4 bytes for each inode, and so many 512
 numbers_fit : (inodes : ℕ) → 4 * inodes ≤ 4096 * number_blocks inodes

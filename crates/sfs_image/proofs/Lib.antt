@@ -13,6 +13,7 @@ pub mod NewestLaws
 pub mod PartLaws
 pub mod PiecesLaws
 pub mod RuleLaws
+pub mod SettledLaws
 pub mod SlotBlockLaws
 pub mod SlotLaws
 pub mod SuperLaws

@@ -1,14 +1,15 @@
 -- Laws of the part of one inode: stores that agree on what a part reaches gather it alike.
-use Rattle.std.proofs.Common.{◌≡◌, ◌≢◌, ℕ, ◌+◌, ◌-◌, ◌*◌, ◌/◌, ◌%◌, ◌<◌, ◌≤◌, Bool, true, false, cond, eqb, ltb, List, [], map, length, get_or, slice_index, refl, sym, ap, ◌∙◌, subst, arith, inl, inr}
+use Rattle.std.proofs.Common.{◌≡◌, ◌≢◌, ℕ, ◌+◌, ◌-◌, ◌*◌, ◌/◌, ◌%◌, ◌<◌, ◌≤◌, eqb, ltb, List, [], map, length, get_or, slice_index, None, sym, ap, ◌∙◌, subst, arith, inl, inr}
 use Rattle.std.specs.Prelude.{slice_index_or}
 use Rattle.std.proofs.lemmas.List.{get_or-map, get_or_past}
-use Rattle.std.proofs.lemmas.Bool.{cases_Bool, cases_eq, cond-true, cond-false, eqb-true, ne_eqb, eq-eqb, le-ltb, lt-ltb, eqb-false}
+use Rattle.std.proofs.lemmas.Bool.{cases_Bool, cases_lt, cond-true, cond-false, ne_eqb, eq-eqb, le-ltb, lt-ltb, eqb-false}
 use Rattle.sfs_image.specs.Bytes.{zeros}
-use Rattle.sfs_image.specs.Inode.{inode_of}
+use Rattle.sfs_image.specs.Inode.{inode_of, inode_fault, pointers_of, table_of, entry_of}
 use Rattle.sfs_image.specs.Part.{Part, inode_in, read_block, block_pointer, part_of, pointer_at, file_byte, tabulate, IsGathered}
 use Rattle.sfs_image.specs.Seen.{FILE_BLOCKS, PLACES}
 use Rattle.sfs_image.proofs.Basics.{map_same, tabulate_same, get_or-tabulate}
 use Rattle.sfs_image.proofs.BytesLaws.{zeros-byte}
+use Rattle.sfs_image.proofs.InodeLaws.{IsFree-inode_of, get_or-holes, pointers_of-zeros}
 use Rattle.sfs_image.proofs.PiecesLaws.{length-u32s_at}
 
 -- the pointer of a file's block stands at the block's place
@@ -49,18 +50,21 @@ gather_same store other raw same =
     λ i. record { raw = raw; tables = tables i; blocks = blocks i }
 
 -- a part that was gathered from a store is gathered from each that agrees with it on what the part reaches
-pub gathered_same : (store other : ℕ → List ℕ) (part : Part) → IsGathered store part → ((place : ℕ) → pointer_at part place ≢ 0 → other (pointer_at part place) ≡ store (pointer_at part place)) → IsGathered other part
+pub gathered_same : (store other : ℕ → List ℕ) (part : Part) → IsGathered store part →
+    ((place : ℕ) → pointer_at part place ≢ 0 → other (pointer_at part place) ≡ store (pointer_at part place)) → IsGathered other part
 gathered_same store other part is same =
     gather_same store other part.raw (subst (λ (p : Part). (place : ℕ) → pointer_at p place ≢ 0 → other (pointer_at p place) ≡ store (pointer_at p place)) (sym is) same) ∙ is
 
 -- each block of a part is what its pointer reads, and so is each indirect block
-pub block_is_read : (store : ℕ → List ℕ) (raw : List ℕ) (n : ℕ) → n < FILE_BLOCKS → slice_index_or (part_of store raw).blocks n [] ≡ read_block store (pointer_at (part_of store raw) n)
+pub block_is_read : (store : ℕ → List ℕ) (raw : List ℕ) (n : ℕ) → n < FILE_BLOCKS →
+    slice_index_or (part_of store raw).blocks n [] ≡ read_block store (pointer_at (part_of store raw) n)
 unfolding part_of
 block_is_read store raw n below =
     get_or-tabulate FILE_BLOCKS (λ k. read_block store (block_pointer (inode_of raw) (map (read_block store) (inode_of raw).indirect) k)) n [] below
     ∙ ap (read_block store) (sym (pointer_of_block (part_of store raw) n below))
 
-pub table_is_read : (store : ℕ → List ℕ) (raw : List ℕ) (k : ℕ) → k < 16 → slice_index_or (part_of store raw).tables k [] ≡ read_block store (pointer_at (part_of store raw) (FILE_BLOCKS + k))
+pub table_is_read : (store : ℕ → List ℕ) (raw : List ℕ) (k : ℕ) → k < 16 →
+    slice_index_or (part_of store raw).tables k [] ≡ read_block store (pointer_at (part_of store raw) (FILE_BLOCKS + k))
 unfolding part_of
 table_is_read store raw k below =
     let long : k < length (inode_of raw).indirect = omega (arith, length-u32s_at 448 16 raw) in
@@ -80,7 +84,8 @@ none_past_places store raw place past =
     cond-false (ltb place FILE_BLOCKS) _ _ (le-ltb place FILE_BLOCKS (omega arith)) ∙ get_or_past (inode_of raw).indirect (place - FILE_BLOCKS) 0 (omega (arith, length-u32s_at 448 16 raw))
 
 -- the byte of a file in a hole is 0
-pub hole_byte : (store : ℕ → List ℕ) (raw : List ℕ) (place : ℕ) → place < 4096 * FILE_BLOCKS → pointer_at (part_of store raw) (place / 4096) ≡ 0 → file_byte (part_of store raw) place ≡ 0
+pub hole_byte : (store : ℕ → List ℕ) (raw : List ℕ) (place : ℕ) → place < 4096 * FILE_BLOCKS → pointer_at (part_of store raw) (place / 4096) ≡ 0 →
+    file_byte (part_of store raw) place ≡ 0
 hole_byte store raw place below hole =
     ap (λ (block : List ℕ). slice_index block (place % 4096)) (block_is_read store raw (place / 4096) (omega arith) ∙ hole_is_read store (pointer_at (part_of store raw) (place / 4096)) hole)
     ∙ zeros-byte 4096 (place % 4096)
@@ -90,3 +95,22 @@ pub byte_of_block : (store : ℕ → List ℕ) (raw : List ℕ) (place : ℕ) �
     file_byte (part_of store raw) place ≡ slice_index (store (pointer_at (part_of store raw) (place / 4096))) (place % 4096)
 byte_of_block store raw place below there =
     ap (λ (block : List ℕ). slice_index block (place % 4096)) (block_is_read store raw (place / 4096) (omega arith) ∙ block_behind store (pointer_at (part_of store raw) (place / 4096)) there)
+
+-- a free inode without a fault has no pointers
+pub free_has_none : (store : ℕ → List ℕ) (raw : List ℕ) → length raw ≡ 512 → inode_fault raw ≡ None → slice_index raw 0 ≡ 0 → (place : ℕ) →
+    pointer_at (part_of store raw) place ≡ 0
+unfolding part_of
+free_has_none store raw len none kind place =
+    let free = IsFree-inode_of raw len none kind in
+    let part = part_of store raw in
+    let tables : (k : ℕ) → pointer_at part (FILE_BLOCKS + k) ≡ 0 = λ k. pointer_of_table part k ∙ ap (λ (xs : List ℕ). slice_index xs k) free.indirect ∙ get_or-holes 16 k in
+    elim (cases_lt place FILE_BLOCKS) [
+      | inl below ↦ pointer_of_block part place below ∙ elim (cases_lt place 108) [
+        | inl near ↦ cond-true (ltb place 108) _ _ (lt-ltb place 108 near) ∙ ap (λ (xs : List ℕ). slice_index xs place) free.direct ∙ get_or-holes 108 place
+        | inr far ↦ cond-false (ltb place 108) _ _ (le-ltb place 108 far)
+            ∙ ap (λ (block : List ℕ). slice_index (pointers_of block) (entry_of place))
+            (table_is_read store raw (table_of place) (omega arith) ∙ hole_is_read store (pointer_at part (FILE_BLOCKS + table_of place)) (tables (table_of place)))
+            ∙ pointers_of-zeros (entry_of place)
+      ]
+      | inr behind ↦ cond-false (ltb place FILE_BLOCKS) _ _ (le-ltb place FILE_BLOCKS behind) ∙ ap (λ (xs : List ℕ). slice_index xs (place - FILE_BLOCKS)) free.indirect ∙ get_or-holes 16 (place - FILE_BLOCKS)
+    ]

@@ -1,12 +1,14 @@
 -- What the rules on bytes and pointers say.
-use Rattle.std.proofs.Common.{◌≡◌, ◌≢◌, ℕ, zero, suc, ◌+◌, ◌-◌, ◌*◌, ◌/◌, ◌%◌, ◌<◌, ◌≤◌, Bool, true, false, not, cond, eqb, leb, ltb, ◌&&◌, ◌||◌, List, [], length, get_or, slice_index, Option, None, Some, is_some, refl, sym, ap, ◌∙◌, subst, arith, inl, inr, ◌⊎◌}
-use Rattle.std.proofs.lemmas.Bool.{cases_Bool, cases_order, cond_both, cond-false, cond-true, ne_eqb, eqb-true, eqb-false, eq-eqb, and_left, and_right, and_cases, and_parts, or_from, or_parts, or_cases, not_from_true, not_from_false, not-false, both_ways, leb-true, ltb-true, le-leb, lt-ltb, or_left, or_right, and_from}
+use Rattle.std.proofs.Common.{◌≡◌, ◌≢◌, ℕ, ◌<◌, ◌≤◌, Bool, true, false, not, eqb, leb, ◌&&◌, ◌||◌, List, length, slice_index, Option, None, Some, is_some, refl, sym, ap, ◌∙◌, arith, inl, inr}
+use Rattle.std.proofs.lemmas.Bool.{cases_Bool, cases_lt, cases_order, cond_both, cond-false, ne_eqb, eqb-true, eqb-false, and_left, and_right, and_parts, or_from, or_parts, or_cases, not_from_true, not_from_false, both_ways, leb-true, ltb-true, le-leb, lt-ltb, or_left, or_right, and_from}
 use Rattle.sfs_image.specs.Inode.{inode_fault}
-use Rattle.sfs_image.specs.Part.{Part, inode_in, pointer_at, is_free_part, is_file_part, is_directory_part}
-use Rattle.sfs_image.specs.Rules.{any_below, breaks_record, breaks_root, breaks_size, is_data_block, is_good_pointer, first_covered, breaks_pointers, stands_below, is_held_before, breaks_apart, breaks_tail, breaks_slots, breaks_bytes_rule}
+use Rattle.sfs_image.specs.ImageOf.{PointsToData}
+use Rattle.sfs_image.specs.Part.{Part, part_of, inode_in, pointer_at, is_free_part, is_file_part, is_directory_part}
+use Rattle.sfs_image.specs.Rules.{any_below, breaks_record, is_data_block, is_good_pointer, first_covered, breaks_pointers, stands_below, is_held_before, HasBlockAt, breaks_apart, breaks_bytes_rule}
 use Rattle.sfs_image.specs.Seen.{PLACES}
 use Rattle.sfs_image.specs.Super.{Layout, data_start}
 use Rattle.sfs_image.proofs.Basics.{any_below-none, any_below-from}
+use Rattle.sfs_image.proofs.PartLaws.{free_has_none, none_past_places}
 
 -- where both of two tests are not passed and the first is passed the second is not
 second_fails : (x y : Bool) → (x && y) ≡ false → x ≡ true → y ≡ false
@@ -20,7 +22,8 @@ free_is_none part free =
     (ne_eqb _ _ (λ one. let e : 0 ≡ 1 = sym kind ∙ one in omega arith), ne_eqb _ _ (λ two. let e : 0 ≡ 2 = sym kind ∙ two in omega arith))
 
 -- A free inode breaks no rule but the first, and inode 0 the second.
-pub free_breaks_none : (rule : ℕ) (layout : Layout) (parts : ℕ → Part) (i : ℕ) → rule ≢ 1 → i ≢ 0 → is_free_part (parts i) ≡ true → breaks_bytes_rule rule layout parts i ≡ false
+pub free_breaks_none : (rule : ℕ) (layout : Layout) (parts : ℕ → Part) (i : ℕ) → rule ≢ 1 → i ≢ 0 → is_free_part (parts i) ≡ true →
+    breaks_bytes_rule rule layout parts i ≡ false
 free_breaks_none rule layout parts i later inner free =
     let kinds = free_is_none (parts i) free in
     let used : not (is_free_part (parts i)) ≡ false = not_from_true (is_free_part (parts i)) free in
@@ -34,13 +37,13 @@ free_breaks_none rule layout parts i later inner free =
     (λ _. and_right (eqb rule 7) _ (and_left (is_directory_part (parts i)) _ kinds.1))))))
 
 -- the blocks of an inode that holds none twice, nor any that an inode below it holds too, stand nowhere before
-module _ (parts : ℕ → Part) (i p : ℕ) (used : is_free_part (parts i) ≡ false) (keeps : breaks_apart parts i ≡ false) (within : p < PLACES) (there : pointer_at (parts i) p ≢ 0) where
+module _ (parts : ℕ → Part) (i p : ℕ) (has : HasBlockAt parts i p) where
   neither : (any_below i (λ j. stands_below PLACES (parts j) (pointer_at (parts i) p)) ≡ false) × (stands_below p (parts i) (pointer_at (parts i) p) ≡ false)
   neither =
-      let each = second_fails (not (is_free_part (parts i))) (any_below PLACES (is_held_before parts i)) keeps (not_from_false (is_free_part (parts i)) used) in
-      let here = any_below-none PLACES (is_held_before parts i) each p within in
+      let each = second_fails (not (is_free_part (parts i))) (any_below PLACES (is_held_before parts i)) has.keeps (not_from_false (is_free_part (parts i)) has.used) in
+      let here = any_below-none PLACES (is_held_before parts i) each p has.within in
       or_parts (any_below i (λ j. stands_below PLACES (parts j) (pointer_at (parts i) p))) (stands_below p (parts i) (pointer_at (parts i) p))
-      (second_fails (not (eqb (pointer_at (parts i) p) 0)) _ here (not_from_false (eqb (pointer_at (parts i) p) 0) (ne_eqb (pointer_at (parts i) p) 0 there)))
+      (second_fails (not (eqb (pointer_at (parts i) p) 0)) _ here (not_from_false (eqb (pointer_at (parts i) p) 0) (ne_eqb (pointer_at (parts i) p) 0 has.there)))
 
   none_below : (j q : ℕ) → j < i → q < PLACES → pointer_at (parts j) q ≢ pointer_at (parts i) p
   none_below j q below place =
@@ -49,25 +52,27 @@ module _ (parts : ℕ → Part) (i p : ℕ) (used : is_free_part (parts i) ≡ f
   none_before : (q : ℕ) → q < p → pointer_at (parts i) q ≢ pointer_at (parts i) p
   none_before q before = eqb-false _ _ (any_below-none p (λ k. eqb (pointer_at (parts i) k) (pointer_at (parts i) p)) neither.1 q before)
 
--- Where no inode breaks the fifth rule each block has one place of one inode.
-pub apart_from_rule : (parts : ℕ → Part) (i j p q : ℕ) → breaks_apart parts i ≡ false → breaks_apart parts j ≡ false → is_free_part (parts i) ≡ false → is_free_part (parts j) ≡ false → p < PLACES → q < PLACES →
-    pointer_at (parts i) p ≢ 0 → pointer_at (parts i) p ≡ pointer_at (parts j) q → (i ≡ j) × (p ≡ q)
-apart_from_rule parts i j p q first second used taken within inside there same =
+-- Where inodes keep the fifth rule each block has one place of one inode in use.
+pub apart_from_rule : (parts : ℕ → Part) (i j p q : ℕ) → HasBlockAt parts i p → HasBlockAt parts j q → pointer_at (parts i) p ≡ pointer_at (parts j) q →
+    (i ≡ j) × (p ≡ q)
+apart_from_rule parts i j p q one other same =
     elim (cases_order i j) [
-      | inl e ↦ (e, (elim (cases_order p q) [
-        | inl place ↦ place
-        | inr (inl before) ↦ absurd (none_before parts j q taken second inside held_too p before (ap (λ (m : ℕ). pointer_at (parts m) p) (sym e) ∙ same))
-        | inr (inr after) ↦ absurd (none_before parts i p used first within there q after (ap (λ (m : ℕ). pointer_at (parts m) q) e ∙ sym same))
-      ]))
-      | inr (inl below) ↦ absurd (none_below parts j q taken second inside held_too i p below within same)
-      | inr (inr above) ↦ absurd (none_below parts i p used first within there j q above inside (sym same))
+      | inl e ↦ (
+        e,
+        (elim (cases_order p q) [
+          | inl place ↦ place
+          | inr (inl before) ↦ absurd (none_before parts j q other p before (ap (λ (m : ℕ). pointer_at (parts m) p) (sym e) ∙ same))
+          | inr (inr after) ↦ absurd (none_before parts i p one q after (ap (λ (m : ℕ). pointer_at (parts m) q) e ∙ sym same))
+        ]),
+      )
+      | inr (inl below) ↦ absurd (none_below parts j q other i p below one.within same)
+      | inr (inr above) ↦ absurd (none_below parts i p one j q above other.within (sym same))
     ]
-  where
-    held_too : pointer_at (parts j) q ≢ 0
-    held_too none = there (same ∙ none)
 
 -- An inode keeps the fifth rule where each of its blocks stands at no other place of it or of an inode below it.
-pub rule_from_apart : (parts : ℕ → Part) (i : ℕ) → ((j p q : ℕ) → j ≤ i → p < PLACES → q < PLACES → pointer_at (parts i) p ≢ 0 → pointer_at (parts i) p ≡ pointer_at (parts j) q → (i ≡ j) × (p ≡ q)) → breaks_apart parts i ≡ false
+pub rule_from_apart : (parts : ℕ → Part) (i : ℕ) →
+    ((j p q : ℕ) → j ≤ i → p < PLACES → q < PLACES → pointer_at (parts i) p ≢ 0 → pointer_at (parts i) p ≡ pointer_at (parts j) q → (i ≡ j) × (p ≡ q)) →
+    breaks_apart parts i ≡ false
 rule_from_apart parts i apart =
     and_right (not (is_free_part (parts i))) _
     (any_below-from PLACES (is_held_before parts i)
@@ -79,7 +84,8 @@ rule_from_apart parts i apart =
     ]))
 
 -- Where an inode in use keeps the fourth rule each pointer names a block of the data area and covers a byte below the size.
-pub good_from_rule : (layout : Layout) (part : Part) (p : ℕ) → breaks_pointers layout part ≡ false → is_free_part part ≡ false → p < PLACES → pointer_at part p ≢ 0 →
+pub good_from_rule : (layout : Layout) (part : Part) (p : ℕ) → breaks_pointers layout part ≡ false → is_free_part part ≡ false → p < PLACES →
+    pointer_at part p ≢ 0 →
     (data_start layout ≤ pointer_at part p) × (pointer_at part p < layout.blocks) × (first_covered p < (inode_in part).size)
 good_from_rule layout part p keeps used within there =
     let each = second_fails (not (is_free_part part)) (any_below PLACES (λ place. not (is_good_pointer layout part place))) keeps (not_from_false (is_free_part part) used) in
@@ -108,3 +114,20 @@ rule_from_good layout part good =
           or_right (eqb (pointer_at part p) 0) _
           (and_from _ _ (and_from _ _ (le-leb (data_start layout) (pointer_at part p) facts.0) (lt-ltb (pointer_at part p) layout.blocks facts.1)) (lt-ltb (first_covered p) (inode_in part).size facts.2)))
     ])))
+
+-- A part that keeps the first and the fourth rule points to data.
+pub points_to_data : (layout : Layout) (store : ℕ → List ℕ) (raw : List ℕ) → length raw ≡ 512 → breaks_record (part_of store raw) ≡ false →
+    breaks_pointers layout (part_of store raw) ≡ false → PointsToData layout (part_of store raw)
+unfolding part_of
+points_to_data layout store raw len first fourth place there =
+    elim (cases_Bool (is_free_part (part_of store raw))) [
+      | inl free ↦ absurd (there (free_has_none store raw len (none_from_fault (inode_fault raw) first) (eqb-true (slice_index raw 0) 0 free) place))
+      | inr used ↦ elim (cases_lt place PLACES) [
+        | inl within ↦ (let facts = good_from_rule layout (part_of store raw) place fourth used within there in (facts.0, facts.1))
+        | inr past ↦ absurd (there (none_past_places store raw place past))
+      ]
+    ]
+  where
+    none_from_fault : (o : Option ℕ) → is_some o ≡ false → o ≡ None
+    none_from_fault None h = refl
+    none_from_fault (Some x) h = absurd cc

@@ -1,11 +1,11 @@
 -- Which parts an image stands for, whatever journal slots are open in it.
-use Rattle.std.specs.Prelude.{◌≡◌, ◌≢◌, ◌⊎◌, ℕ, ◌+◌, ◌*◌, ◌<◌, ◌≤◌, ◌==◌, true, false, All, List, [], ◌∷◌, length, map, take, drop, Option, None, Some, option_map, unwrap_or, if◌then◌else◌}
-use Rattle.std.specs.List.{range_with_len, flat_map, find}
+use Rattle.std.specs.Prelude.{◌≡◌, ◌≢◌, ℕ, ◌<◌, ◌≤◌, ◌==◌, true, false, All, List, map, Option, None, Some, option_map, unwrap_or, if◌then◌else◌}
+use Rattle.std.specs.List.{range_with_len, find}
 use Rattle.sfs_image.specs.Bytes.{part}
-use Rattle.sfs_image.specs.Journal.{Entry, head_of, numbers_of, numbers_fault}
+use Rattle.sfs_image.specs.Journal.{head_of, numbers_of, numbers_fault}
 use Rattle.sfs_image.specs.Part.{Part, IsGathered, pointer_at}
-use Rattle.sfs_image.specs.Settled.{Body, Stamped, newest, body_in, image_block, journal_slot, layout_of, slot_byte, slot_count, super_fault_of, table_record}
-use Rattle.sfs_image.specs.Super.{Layout, IsLayout, data_start}
+use Rattle.sfs_image.specs.Settled.{Body, Stamped, newest, body_in, image_block, journal_slot, layout_of, slot_count, super_fault_of, table_record}
+use Rattle.sfs_image.specs.Super.{Layout, data_start}
 
 -- an inode and its part
 pub record InodePart : Type 0 where
@@ -58,7 +58,8 @@ IsSlotOf inodes (Some one) slot = IsOpenWith inodes one slot
 -- no two open slots have one commit stamp
 abbrev pub HaveOwnStamps : Layout → (ℕ → Option Transaction) → Type 0
 HaveOwnStamps layout opened =
-    (j k : ℕ) (one other : Transaction) → j < slot_count layout → k < slot_count layout → opened j ≡ Some one → opened k ≡ Some other → one.stamp ≡ other.stamp → j ≡ k
+    (j k : ℕ) (one other : Transaction) → j < slot_count layout → k < slot_count layout → opened j ≡ Some one → opened k ≡ Some other →
+    one.stamp ≡ other.stamp → j ≡ k
 
 -- each pointer of a part names a block of the data area
 abbrev pub PointsToData : Layout → Part → Type 0
@@ -76,49 +77,9 @@ pub record IsImageOf (layout : Layout) (opened : ℕ → Option Transaction) (pa
   pub gathered : (i : ℕ) → i < layout.inodes → IsGathered (image_block image) (with_opened layout opened parts i)
   pub pointers : (i : ℕ) → i < layout.inodes → PointsToData layout (with_opened layout opened parts i)
 
--- two lists of bytes are the same but for the n bytes from byte `at` on
-pub record AgreesOutside (at n : ℕ) (old new : List ℕ) : Type 0 where
-  pub before : take at new ≡ take at old
-  pub behind : drop (at + n) new ≡ drop (at + n) old
-  pub size : length new ≡ length old
-
--- m bytes from byte `from` on and n bytes from byte `at` on have none in common
-abbrev pub LiesApart : ℕ → ℕ → ℕ → ℕ → Type 0
-LiesApart from m at n = (from + m ≤ at) ⊎ (at + n ≤ from)
-
 -- the slots of a disk with another transaction, or none, in one of them
 abbrev pub with_slot : (ℕ → Option Transaction) → ℕ → Option Transaction → ℕ → Option Transaction
 with_slot opened k one j = if j == k then one else opened j
-
--- A transaction may come to the open ones: its commit stamp is none of theirs, and greater than that of each which gives an inode
--- that it gives too; and its parts are gathered from these blocks and point to data.
-pub record MayOpen (layout : Layout) (opened : ℕ → Option Transaction) (one : Transaction) (store : ℕ → List ℕ) : Type 0 where
-  pub own : (j : ℕ) (other : Transaction) → j < slot_count layout → opened j ≡ Some other → other.stamp ≢ one.stamp
-  pub newer : (i j : ℕ) (other ours : Stamped Part) → j < slot_count layout → part_given i (opened j) ≡ Some other → part_given i (Some one) ≡ Some ours → other.stamp < ours.stamp
-  pub gathered : All (λ (inner : InodePart). IsGathered store inner.part) one.parts
-  pub pointers : All (λ (inner : InodePart). PointsToData layout inner.part) one.parts
-
--- A slot may be closed whose transaction has a lesser commit stamp than each other which gives an inode that it gives too, and
--- which gives no inode alone whose record is not in the table.
-pub record MayShut (layout : Layout) (opened : ℕ → Option Transaction) (k : ℕ) (image : List ℕ) : Type 0 where
-  pub older : (i j : ℕ) (other ours : Stamped Part) → j < slot_count layout → j ≢ k → part_given i (opened j) ≡ Some other → part_given i (opened k) ≡ Some ours → ours.stamp < other.stamp
-  pub table : (i : ℕ) (ours : Stamped Part) → i < layout.inodes → part_given i (opened k) ≡ Some ours → given layout (with_slot opened k None) i ≡ None → table_record layout image i ≡ ours.value.raw
-
--- A write of one byte at the gate of slot k, which is closed and has the whole body of a transaction, opens it.
-pub record OpensGate (layout : Layout) (opened : ℕ → Option Transaction) (k : ℕ) (one : Transaction) (old new : List ℕ) : Type 0 where
-  pub within : k < slot_count layout
-  pub written : AgreesOutside (slot_byte layout k) 1 old new
-  pub shut : opened k ≡ None
-  pub whole : HasBody layout.inodes one (journal_slot layout old k)
-  pub may : MayOpen layout opened one (image_block old)
-  pub gate : (head_of (part 0 4096 (journal_slot layout new k))).gate ≡ true
-
--- A write of one byte at the gate of slot k shuts it.
-pub record ShutsGate (layout : Layout) (opened : ℕ → Option Transaction) (k : ℕ) (old new : List ℕ) : Type 0 where
-  pub within : k < slot_count layout
-  pub written : AgreesOutside (slot_byte layout k) 1 old new
-  pub may : MayShut layout opened k old
-  pub gate : (head_of (part 0 4096 (journal_slot layout new k))).gate ≡ false
 
 -- a block and the bytes that are written to it
 pub record FreshBlock : Type 0 where

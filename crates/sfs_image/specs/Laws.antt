@@ -1,13 +1,14 @@
 -- The laws of images, each of which a function of the module laws proves.
-use Rattle.std.specs.Prelude.{◌≡◌, ℕ, ◌+◌, ◌*◌, ◌/◌, ◌%◌, ◌<◌, ◌≤◌, ◌^◌, List, None}
+use Rattle.std.specs.Prelude.{◌≡◌, ◌≢◌, ℕ, ◌+◌, ◌*◌, ◌/◌, ◌%◌, ◌<◌, ◌≤◌, ◌^◌, false, true, List, Option, None, Some, slice_index, if◌then◌else◌}
 use Rattle.sfs_image.specs.Bytes.{part}
+use Rattle.sfs_image.specs.ImageOf.{Transaction, with_opened, with_slot, IsImageOf, FreshBlock, StandIn, TurnsInto}
+use Rattle.sfs_image.specs.ImageWrites.{WritesData, WritesRecord, WritesBody, OpensGate, ShutsGate}
 use Rattle.sfs_image.specs.Journal.{Entry, head_of, entries_of, numbers_of, numbers_fault, number_byte, record_byte, records_start, AreEntries, HasEntries}
-use Rattle.sfs_image.specs.Settled.{slot_byte, slot_count}
+use Rattle.sfs_image.specs.Part.{Part, IsGathered, part_of, pointer_at, file_byte, is_free_part}
+use Rattle.sfs_image.specs.Rules.{HasBlockAt, breaks_bytes_rule}
+use Rattle.sfs_image.specs.Seen.{FILE_BLOCKS}
+use Rattle.sfs_image.specs.Settled.{image_block, Stamped, body_in, record_in, journal_slot, slot_byte, slot_count, table_byte, table_record, settled, parts_of, super_fault_of, journal_fault_of}
 use Rattle.sfs_image.specs.Super.{Layout, slot_blocks, slot_start, table_start, data_start}
-
--- the byte at which the record of inode i stands in the table
-abbrev pub table_byte : Layout → ℕ → ℕ
-table_byte layout i = 4096 * table_start layout + 512 * i
 
 -- The parts of a disk lie one behind another: within a slot the numbers of all inodes behind the head's block, and their records
 -- behind those; the slots behind the superblock; the table behind the slots; the data behind the table.
@@ -29,6 +30,7 @@ pub record IsNumberOf (layout : Layout) (core slot k : ℕ) : Type 0 where
   pub core_again : k / layout.slots ≡ core
   pub slot_again : k % layout.slots ≡ slot
 
+-- Each slot of a core has its number.
 abbrev pub SlotsAreNumbered : Type 0
 SlotsAreNumbered = (layout : Layout) (core slot : ℕ) → slot < layout.slots → IsNumberOf layout core slot (core * layout.slots + slot)
 
@@ -40,4 +42,97 @@ pub record AreReadAgain (inodes : ℕ) (entries : List Entry) (slot : List ℕ) 
 
 -- Entries that stand in a slot are read again from it, and nothing is wrong in them.
 abbrev pub EntriesAreReadAgain : Type 0
-EntriesAreReadAgain = (inodes : ℕ) (entries : List Entry) (slot : List ℕ) → inodes ≤ 2 ^ 32 → AreEntries inodes entries → HasEntries inodes entries slot → AreReadAgain inodes entries slot
+EntriesAreReadAgain = (inodes : ℕ) (entries : List Entry) (slot : List ℕ) → inodes ≤ 2 ^ 32 → AreEntries inodes entries → HasEntries inodes entries slot
+    → AreReadAgain inodes entries slot
+
+-- the record of inode i in the slot of a number, if the slot is open and has one, under the slot's commit stamp
+abbrev pub record_at : Layout → List ℕ → ℕ → ℕ → Option (Stamped (List ℕ))
+record_at layout image i k =
+    let slot = journal_slot layout image k in
+    if (head_of (part 0 4096 slot)).gate then record_in i (body_in layout.inodes slot) else None
+
+-- The settled record of an inode is that of the open slot whose commit stamp is greater than that of each other with one.
+abbrev pub SettledIsNewest : Type 0
+SettledIsNewest = (layout : Layout) (image : List ℕ) (i k : ℕ) (ours : Stamped (List ℕ)) → k < slot_count layout → record_at layout image i k ≡ Some ours
+    → ((j : ℕ) (other : Stamped (List ℕ)) → j < slot_count layout → j ≢ k → record_at layout image i j ≡ Some other → other.stamp < ours.stamp)
+    → settled layout image i ≡ ours.value
+
+-- The settled record of an inode that no open slot has is the table's.
+abbrev pub SettledIsTables : Type 0
+SettledIsTables = (layout : Layout) (image : List ℕ) (i : ℕ) → ((k : ℕ) → k < slot_count layout → record_at layout image i k ≡ None)
+    → settled layout image i ≡ table_record layout image i
+
+-- A byte of a file is 0 where its block has no pointer.
+abbrev pub HolesAreZeros : Type 0
+HolesAreZeros = (store : ℕ → List ℕ) (raw : List ℕ) (place : ℕ) → place < 4096 * FILE_BLOCKS → pointer_at (part_of store raw) (place / 4096) ≡ 0
+    → file_byte (part_of store raw) place ≡ 0
+
+-- A byte of a file is that of the block that its block's pointer names.
+abbrev pub BytesAreTheBlocks : Type 0
+BytesAreTheBlocks = (store : ℕ → List ℕ) (raw : List ℕ) (place : ℕ) → place < 4096 * FILE_BLOCKS → pointer_at (part_of store raw) (place / 4096) ≢ 0
+    → file_byte (part_of store raw) place ≡ slice_index (store (pointer_at (part_of store raw) (place / 4096))) (place % 4096)
+
+-- A part is the same in each store that has the same blocks where the part has pointers.
+abbrev pub PartsAreWhatTheyReach : Type 0
+PartsAreWhatTheyReach = (store other : ℕ → List ℕ) (raw : List ℕ)
+    → ((place : ℕ) → pointer_at (part_of store raw) place ≢ 0 → other (pointer_at (part_of store raw) place) ≡ store (pointer_at (part_of store raw) place))
+    → part_of other raw ≡ part_of store raw
+
+-- A free inode, other than inode 0, breaks no rule but the first.
+abbrev pub FreeInodesBreakNone : Type 0
+FreeInodesBreakNone = (rule : ℕ) (layout : Layout) (parts : ℕ → Part) (i : ℕ) → rule ≢ 1 → i ≢ 0 → is_free_part (parts i) ≡ true
+    → breaks_bytes_rule rule layout parts i ≡ false
+
+-- Where inodes keep the fifth rule each block stands at one place of one of those in use.
+abbrev pub BlocksHaveOnePlace : Type 0
+BlocksHaveOnePlace = (parts : ℕ → Part) (i j p q : ℕ) → HasBlockAt parts i p → HasBlockAt parts j q → pointer_at (parts i) p ≡ pointer_at (parts j) q
+    → (i ≡ j) × (p ≡ q)
+
+-- what is read of an image that stands for parts: nothing wrong in its superblock and its journals, and those settled parts
+pub record IsReadAs (layout : Layout) (opened : ℕ → Option Transaction) (parts : ℕ → Part) (image : List ℕ) : Type 0 where
+  pub super : super_fault_of image ≡ None
+  pub journals : journal_fault_of layout image ≡ None
+  pub settles : (i : ℕ) → i < layout.inodes → parts_of layout image i ≡ with_opened layout opened parts i
+
+-- An image that stands for parts is read as these, with what its open slots give, whichever slots are open.
+abbrev pub ImagesStandForParts : Type 0
+ImagesStandForParts = (layout : Layout) (opened : ℕ → Option Transaction) (parts : ℕ → Part) (image : List ℕ) → IsImageOf layout opened parts image
+    → IsReadAs layout opened parts image
+
+-- A write to the data area, whole or torn, apart from the blocks of all parts keeps what an image stands for.
+abbrev pub DataWritesKeep : Type 0
+DataWritesKeep = (layout : Layout) (opened : ℕ → Option Transaction) (parts : ℕ → Part) (old new : List ℕ) → IsImageOf layout opened parts old
+    → WritesData layout opened parts old new → IsImageOf layout opened parts new
+
+-- A write within the table's record of an inode that an open slot has, whole or torn, keeps what an image stands for.
+abbrev pub TableWritesKeep : Type 0
+TableWritesKeep = (layout : Layout) (opened : ℕ → Option Transaction) (parts : ℕ → Part) (i : ℕ) (old new : List ℕ) → IsImageOf layout opened parts old
+    → WritesRecord layout opened i old new → IsImageOf layout opened parts new
+
+-- A write behind the gate of a closed slot, whole or torn, keeps what an image stands for.
+abbrev pub BodyWritesKeep : Type 0
+BodyWritesKeep = (layout : Layout) (opened : ℕ → Option Transaction) (parts : ℕ → Part) (k : ℕ) (old new : List ℕ) → IsImageOf layout opened parts old
+    → WritesBody layout opened k old new → IsImageOf layout opened parts new
+
+-- Where fresh blocks stand in an image that turn the part of an inode into a new one, the image has all that the new part reaches.
+abbrev pub FreshBlocksMakeParts : Type 0
+FreshBlocksMakeParts = (layout : Layout) (opened : ℕ → Option Transaction) (parts : ℕ → Part) (image : List ℕ) (i : ℕ) (fresh : List FreshBlock) (new : Part)
+    → IsImageOf layout opened parts image → i < layout.inodes → TurnsInto fresh (with_opened layout opened parts i) new → StandIn (image_block image) fresh
+    → IsGathered (image_block image) new
+
+-- A gate that opens over a whole body adds the body's transaction.
+abbrev pub OpenedGatesAdd : Type 0
+OpenedGatesAdd = (layout : Layout) (opened : ℕ → Option Transaction) (parts : ℕ → Part) (k : ℕ) (one : Transaction) (old new : List ℕ)
+    → IsImageOf layout opened parts old
+    → OpensGate layout opened k one old new → IsImageOf layout (with_slot opened k (Some one)) parts new
+
+-- what stands once a gate has shut: the others are open, and each inode has the part that it had
+pub record IsShutAfter (layout : Layout) (opened : ℕ → Option Transaction) (parts : ℕ → Part) (k : ℕ) (new : List ℕ) : Type 0 where
+  pub stands : IsImageOf layout (with_slot opened k None) (with_opened layout opened parts) new
+  pub same : (i : ℕ) → with_opened layout (with_slot opened k None) (with_opened layout opened parts) i ≡ with_opened layout opened parts i
+
+-- A gate that shuts, once the table has what its slot alone gives and no older slot stays open for it, changes no part.
+abbrev pub ShutGatesKeep : Type 0
+ShutGatesKeep = (layout : Layout) (opened : ℕ → Option Transaction) (parts : ℕ → Part) (k : ℕ) (old new : List ℕ) → IsImageOf layout opened parts old
+    → ShutsGate layout opened k old new
+    → IsShutAfter layout opened parts k new

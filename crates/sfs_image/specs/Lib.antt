@@ -1,6 +1,7 @@
 pub mod Bytes
 pub mod Format
 pub mod ImageOf
+pub mod ImageWrites
 pub mod Inode
 pub mod Journal
 pub mod Laws

@@ -1,6 +1,6 @@
 -- The rules of an image that speak of the bytes and pointers of its inodes: rules 1 to 7 of fourteen. For each of them a test
 -- whether an inode breaks it. A rule is looked at only where all rules before it hold.
-use Rattle.std.specs.Prelude.{ℕ, zero, suc, ◌+◌, ◌*◌, ◌-◌, ◌/◌, ◌%◌, ◌==◌, ◌&&◌, ◌||◌, nat_lt, nat_le, Bool, false, not, is_some, [], slice_index_or, if◌then◌else◌}
+use Rattle.std.specs.Prelude.{◌≡◌, ◌≢◌, ◌<◌, ℕ, zero, suc, ◌+◌, ◌*◌, ◌-◌, ◌/◌, ◌%◌, ◌==◌, ◌&&◌, ◌||◌, nat_lt, nat_le, Bool, false, not, is_some, [], slice_index_or, if◌then◌else◌}
 use Rattle.std.specs.List.{list_any}
 use Rattle.sfs_image.specs.Bytes.{nonzero_in}
 use Rattle.sfs_image.specs.Inode.{inode_fault}
@@ -87,3 +87,10 @@ breaks_bytes_rule rule layout parts i =
     else if rule == 5 then breaks_apart parts i
     else if rule == 6 then breaks_tail (parts i)
     else rule == 7 && breaks_slots (parts i)
+
+-- an inode in use that keeps the fifth rule has a block at a place
+pub record HasBlockAt (parts : ℕ → Part) (i place : ℕ) : Type 0 where
+  pub used : is_free_part (parts i) ≡ false
+  pub keeps : breaks_apart parts i ≡ false
+  pub within : place < PLACES
+  pub there : pointer_at (parts i) place ≢ 0

@@ -76,9 +76,13 @@ record_in i body = option_map (λ entry. record { stamp = body.stamp; value = en
 abbrev pub held : List Body → ℕ → Option (List ℕ)
 held bodies i = option_map (λ newest. newest.value) (newest (map (record_in i) bodies))
 
+-- the byte at which the record of inode i stands in the inode table
+abbrev pub table_byte : Layout → ℕ → ℕ
+table_byte layout i = 4096 * table_start layout + 512 * i
+
 -- the record of inode i in the inode table
 abbrev pub table_record : Layout → List ℕ → ℕ → List ℕ
-table_record layout image i = part (4096 * table_start layout + 512 * i) 512 image
+table_record layout image i = part (table_byte layout i) 512 image
 
 -- the settled record of inode i: that of the open slot with the greatest commit stamp that has one, else the table's
 abbrev pub settled : Layout → List ℕ → ℕ → List ℕ

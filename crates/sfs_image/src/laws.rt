@@ -2,6 +2,7 @@ ghost use Rattle.std.specs.Prelude.{◌≡◌, ℕ, None, false};
 ghost use Rattle.sfs_image.specs.Format.{IsFormat};
 ghost use Rattle.sfs_image.specs.Inode.{IsInode, inode_of, inode_fault, inode_bytes, ArePointers, pointers_of, pointers_bytes};
 ghost use Rattle.sfs_image.specs.Journal.{Head, IsHead, head_of, head_bytes};
+ghost use Rattle.sfs_image.specs.Laws.{FreshBlocksMakeParts, LayoutsDivide, SlotsAreNumbered, EntriesAreReadAgain, SettledIsNewest, SettledIsTables, HolesAreZeros, BytesAreTheBlocks, PartsAreWhatTheyReach, FreeInodesBreakNone, BlocksHaveOnePlace, ImagesStandForParts, DataWritesKeep, TableWritesKeep, BodyWritesKeep, OpenedGatesAdd, ShutGatesKeep};
 ghost use Rattle.sfs_image.specs.Slot.{IsSlot, slot_of, slot_fault, slot_bytes};
 ghost use Rattle.sfs_image.specs.SlotBlock.{AreSlots, slots_of, slots_fault, slots_bytes};
 ghost use Rattle.sfs_image.specs.Super.{IsLayout, super_of, super_fault, super_bytes};
@@ -34,4 +35,89 @@ pub fn slot_block_is_format()
 /// The head of a journal slot is read again from its bytes, but for the gate, which they close.
 pub fn head_is_read_again()
     ensures { (head : Head) → IsHead head → head_of (head_bytes head) ≡ record head { gate = false } }
+{}
+
+/// The parts of a disk lie one behind another.
+pub fn layouts_divide()
+    ensures { LayoutsDivide }
+{}
+
+/// Each slot of a core has its number.
+pub fn slots_are_numbered()
+    ensures { SlotsAreNumbered }
+{}
+
+/// Entries that stand in a slot are read again from it.
+pub fn entries_are_read_again()
+    ensures { EntriesAreReadAgain }
+{}
+
+/// The settled record is that of the open slot with the greatest commit stamp that has one.
+pub fn settled_is_newest()
+    ensures { SettledIsNewest }
+{}
+
+/// The settled record that no open slot has is the table's.
+pub fn settled_is_tables()
+    ensures { SettledIsTables }
+{}
+
+/// A hole reads as zeros.
+pub fn holes_are_zeros()
+    ensures { HolesAreZeros }
+{}
+
+/// A byte of a file is that of the block that a pointer names.
+pub fn bytes_are_the_blocks()
+    ensures { BytesAreTheBlocks }
+{}
+
+/// A part is the same in each store that has the same blocks where it has pointers.
+pub fn parts_are_what_they_reach()
+    ensures { PartsAreWhatTheyReach }
+{}
+
+/// A free inode, other than inode 0, breaks no rule but the first.
+pub fn free_inodes_break_none()
+    ensures { FreeInodesBreakNone }
+{}
+
+/// Where no inode breaks the fifth rule each block stands at one place of one inode.
+pub fn blocks_have_one_place()
+    ensures { BlocksHaveOnePlace }
+{}
+
+/// An image that stands for parts is read as these, whichever of its slots are open.
+pub fn images_stand_for_parts()
+    ensures { ImagesStandForParts }
+{}
+
+/// A write apart from the blocks of all parts keeps what an image stands for.
+pub fn data_writes_keep()
+    ensures { DataWritesKeep }
+{}
+
+/// A write within the table's record of an inode that an open slot has keeps what an image stands for.
+pub fn table_writes_keep()
+    ensures { TableWritesKeep }
+{}
+
+/// A write behind the gate of a closed slot keeps what an image stands for.
+pub fn body_writes_keep()
+    ensures { BodyWritesKeep }
+{}
+
+/// A gate that opens over a whole body adds the body's transaction.
+pub fn opened_gates_add()
+    ensures { OpenedGatesAdd }
+{}
+
+/// A gate that shuts once the table has what its slot alone gives changes no part.
+pub fn shut_gates_keep()
+    ensures { ShutGatesKeep }
+{}
+
+/// Fresh blocks that turn the part of an inode into a new one make the new one in an image.
+pub fn fresh_blocks_make_parts()
+    ensures { FreshBlocksMakeParts }
 {}

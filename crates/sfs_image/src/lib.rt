@@ -8,8 +8,12 @@ mod zeros;
 
 pub use bad::Bad;
 pub use laws::{
-    head_is_read_again, inode_is_format, pointers_are_format, slot_block_is_format, slot_is_format,
-    super_is_format,
+    blocks_have_one_place, body_writes_keep, bytes_are_the_blocks, data_writes_keep,
+    entries_are_read_again, free_inodes_break_none, fresh_blocks_make_parts, head_is_read_again,
+    holes_are_zeros, images_stand_for_parts, inode_is_format, layouts_divide, opened_gates_add,
+    parts_are_what_they_reach, pointers_are_format, settled_is_newest, settled_is_tables,
+    shut_gates_keep, slot_block_is_format, slot_is_format, slots_are_numbered, super_is_format,
+    table_writes_keep,
 };
 pub use limits::MOST_SLOTS;
 pub use zeros::{clear, first_nonzero};

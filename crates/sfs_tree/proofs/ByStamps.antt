@@ -9,30 +9,22 @@ use Rattle.std.specs.declared.alloc.Global.{Global}
 use Rattle.sfs_tree.specs.declared.history.Entry.{Entry}
 use Rattle.sfs_tree.specs.Merged.{entries_in, has_stamp, entry_with, entries_from, by_stamps, EachOnce}
 use Rattle.sfs_tree.proofs.Joined.{count-cons}
+use Rattle.sfs_base.proofs.BasicOptions.{some_is}
+use Rattle.sfs_base.proofs.BasicNumbers.{one_is_more, none_left, one_left, suc_same, le_itself, less_plus, le_earlier, less_plus_suc, from_plus_zero, suc_plus, zero_plus, not_less}
 
 module _ (test : Entry → Bool) where
   -- what stands in a list and passes is counted
   counted_at : (es : List Entry) (i : ℕ) (e : Entry) → slice_get es i ≡ Some e → test e ≡ true → count_by test es ≢ 0
   counted_at [] i e there passes none = cc
-  counted_at (x ∷ es) zero e there passes none = one_more _ (ap (λ b. cond b 1 0 + count_by test es) (sym passes ∙ ap test (sym (some_is x e there))) ∙ sym (count-cons test x es) ∙ none)
-    where
-      some_is : (a b : Entry) → Some a ≡ Some b → a ≡ b
-      some_is a b e = cc
+  counted_at (x ∷ es) zero e there passes none = one_is_more _ (ap (λ b. cond b 1 0 + count_by test es) (sym passes ∙ ap test (sym (some_is x e there))) ∙ sym (count-cons test x es) ∙ none)
 
-      one_more : (n : ℕ) → 1 + n ≡ 0 → ⊥
-      one_more n e = omega arith
   counted_at (x ∷ es) (suc i) e there passes none = counted_at es i e there passes (none_left _ _ (sym (count-cons test x es) ∙ none))
-    where
-      none_left : (a n : ℕ) → a + n ≡ 0 → n ≡ 0
-      none_left a n e = omega arith
 
   -- the only one that passes is found
   only_found : (es : List Entry) (i : ℕ) (e : Entry) → count_by test es ≡ 1 → slice_get es i ≡ Some e → test e ≡ true → find test es ≡ Some e
   only_found [] i e one there passes = cc
   only_found (x ∷ es) zero e one there passes = ap (λ b. cond b (Some x) (find test es)) (ap test (some_is x e there) ∙ passes) ∙ there
-    where
-      some_is : (a b : Entry) → Some a ≡ Some b → a ≡ b
-      some_is a b e = cc
+
   only_found (x ∷ es) (suc i) e one there passes =
       elim (test x) as (λ b. test x ≡ b → cond b (Some x) (find test es) ≡ Some e) [
         | true ↦ λ t. absurd (counted_at es i e there passes (none_left _ (ap (λ b. cond b 1 0 + count_by test es) (sym t) ∙ sym (count-cons test x es) ∙ one)))
@@ -41,9 +33,6 @@ module _ (test : Entry → Bool) where
     where
       none_left : (n : ℕ) → 1 + n ≡ 1 → n ≡ 0
       none_left n e = omega arith
-
-      one_left : (n : ℕ) → 0 + n ≡ 1 → n ≡ 1
-      one_left n e = omega arith
 
   -- what is found passes, and what holds of all holds of it
   pub found_is : (P : Entry → Type 0) (es : List Entry) (e : Entry) → All P es → find test es ≡ Some e → P e × (test e ≡ true)
@@ -54,9 +43,6 @@ module _ (test : Entry → Bool) where
         | false ↦ λ t f. found_is P es e (λ k d lt. all (suc k) d (less lt)) f
       ] refl found
     where
-      some_is : (a b : Entry) → Some a ≡ Some b → a ≡ b
-      some_is a b e = cc
-
       more : (n : ℕ) → 0 < suc n
       more n = omega arith
 
@@ -71,9 +57,6 @@ module _ (test : Entry → Bool) where
         | true ↦ λ t. refl
         | false ↦ λ t. one_found es (one_left _ (ap (λ b. cond b 1 0 + count_by test es) (sym t) ∙ sym (count-cons test x es) ∙ one))
       ] refl
-    where
-      one_left : (n : ℕ) → 0 + n ≡ 1 → n ≡ 1
-      one_left n e = omega arith
 
 -- what stands in a list stands among all
 before : (xs ys : List Entry) (i : ℕ) (e : Entry) → slice_get xs i ≡ Some e → slice_get (xs ++ ys) i ≡ Some e
@@ -114,24 +97,9 @@ from_length : (es : List Entry) (s c : ℕ) → ((k : ℕ) → s ≤ k → k < s
 from_length es s zero there = refl
 from_length es s (suc c) there =
     elim (entry_with es s) as (λ o. IsSome o → length (cons_option o (entries_from es (suc s) c)) ≡ suc c) [
-      | Some e ↦ λ some. one_more (from_length es (suc s) c (λ k le lt. there k (later le) (sooner k s c lt)))
+      | Some e ↦ λ some. suc_same (from_length es (suc s) c (λ k le lt. there k (le_earlier le) (less_plus_suc k s c lt)))
       | None ↦ λ some. cc
-    ] (there s (itself s) (more s c))
-  where
-    one_more : {a b : ℕ} → a ≡ b → suc a ≡ suc b
-    one_more e = omega arith
-
-    itself : (n : ℕ) → n ≤ n
-    itself n = omega arith
-
-    more : (n c : ℕ) → n < n + suc c
-    more n c = omega arith
-
-    later : {a b : ℕ} → suc a ≤ b → a ≤ b
-    later le = omega arith
-
-    sooner : (k a c : ℕ) → k < suc a + c → k < a + suc c
-    sooner k a c lt = omega arith
+    ] (there s (le_itself s) (less_plus s c))
 
 from_get : (es : List Entry) (s c i : ℕ) → ((k : ℕ) → s ≤ k → k < s + c → IsSome (entry_with es k)) → i < c → slice_get (entries_from es s c) i ≡ entry_with es (s + i)
 from_get es s zero i there lt = absurd (omega arith)
@@ -139,42 +107,19 @@ from_get es s (suc c) zero there lt =
     (elim (entry_with es s) as (λ o. IsSome o → slice_get (cons_option o (entries_from es (suc s) c)) 0 ≡ o) [
       | Some e ↦ λ some. refl
       | None ↦ λ some. cc
-    ]) (there s (itself s) (more s c))
-    ∙ ap (entry_with es) (none_more s)
-  where
-    itself : (n : ℕ) → n ≤ n
-    itself n = omega arith
+    ]) (there s (le_itself s) (less_plus s c))
+    ∙ ap (entry_with es) (from_plus_zero s)
 
-    more : (n c : ℕ) → n < n + suc c
-    more n c = omega arith
-
-    none_more : (n : ℕ) → n ≡ n + 0
-    none_more n = omega arith
 from_get es s (suc c) (suc i) there lt =
     (elim (entry_with es s) as (λ o. IsSome o → slice_get (cons_option o (entries_from es (suc s) c)) (suc i) ≡ slice_get (entries_from es (suc s) c) i) [
       | Some e ↦ λ some. refl
       | None ↦ λ some. cc
-    ]) (there s (itself s) (more s c))
-    ∙ from_get es (suc s) c i (λ k le less. there k (later le) (sooner k s c less)) (one_less lt)
-    ∙ ap (entry_with es) (one_on s i)
+    ]) (there s (le_itself s) (less_plus s c))
+    ∙ from_get es (suc s) c i (λ k le less. there k (le_earlier le) (less_plus_suc k s c less)) (one_less lt)
+    ∙ ap (entry_with es) (suc_plus s i)
   where
-    itself : (n : ℕ) → n ≤ n
-    itself n = omega arith
-
-    more : (n c : ℕ) → n < n + suc c
-    more n c = omega arith
-
-    later : {a b : ℕ} → suc a ≤ b → a ≤ b
-    later le = omega arith
-
-    sooner : (k a c : ℕ) → k < suc a + c → k < a + suc c
-    sooner k a c lt = omega arith
-
     one_less : {a b : ℕ} → suc a < suc b → a < b
     one_less lt = omega arith
-
-    one_on : (a b : ℕ) → suc a + b ≡ a + suc b
-    one_on a b = omega arith
 
 each_there : (es : List Entry) → EachOnce es → (k : ℕ) → 0 ≤ k → k < 0 + length es → IsSome (entry_with es k)
 each_there es each k le lt = one_found (has_stamp k) es (each.once k (no_more k (length es) lt))
@@ -191,20 +136,14 @@ pub get-by_stamps : (es : List Entry) → EachOnce es → (k : ℕ) → slice_ge
 unfolding by_stamps
 get-by_stamps es each k =
     elim (ltb k (length es)) as (λ b. ltb k (length es) ≡ b → slice_get (entries_from es 0 (length es)) k ≡ entry_with es k) [
-      | true ↦ λ t. from_get es 0 (length es) k (each_there es each) (ltb-true _ _ t) ∙ ap (entry_with es) (no_more k)
+      | true ↦ λ t. from_get es 0 (length es) k (each_there es each) (ltb-true _ _ t) ∙ ap (entry_with es) (zero_plus k)
       | false ↦ λ t.
           slice_get_past (entries_from es 0 (length es)) k (past (from_length es 0 (length es) (each_there es each)) (ltb-false _ _ t))
           ∙ sym (none_is (entry_with es k) (λ e found. not_less (stamp_within es k e each found) (ltb-false _ _ t)))
     ] refl
   where
-    no_more : (n : ℕ) → 0 + n ≡ n
-    no_more n = omega arith
-
     past : {a n k : ℕ} → a ≡ n → n ≤ k → a ≤ k
     past e le = omega arith
-
-    not_less : {a b : ℕ} → a < b → b ≤ a → ⊥
-    not_less lt le = omega arith
 
     none_is : (o : Option Entry) → ((e : Entry) → o ≡ Some e → ⊥) → o ≡ None
     none_is None h = refl

@@ -9,6 +9,7 @@ use Rattle.sfs_tree.specs.Merged.{entries_in, has_stamp, entry_with, by_stamps, 
 use Rattle.sfs_tree.specs.Laws.{CoresMakeTheHistory}
 use Rattle.sfs_tree.proofs.Joined.{count-cons}
 use Rattle.sfs_tree.proofs.ByStamps.{found_is, one_found, length-by_stamps, get-by_stamps}
+use Rattle.sfs_base.proofs.BasicNumbers.{from_zero_plus, less_suc, less_suc_plus, plus_zero, zero_plus, plus_suc, less_zero_plus}
 
 -- what holds of each entry of a list
 abbrev Each : (Entry → Type 0) → List Entry → Type 0
@@ -54,12 +55,9 @@ count-filter p q [] = refl
 count-filter p q (x ∷ xs) =
     elim (q x) as (λ b. count_by p (cond b (x ∷ filter q xs) (filter q xs)) ≡ cond (b && p x) 1 0 + count_by (λ x. q x && p x) xs) [
       | true ↦ count-cons p x (filter q xs) ∙ ap (λ n. cond (p x) 1 0 + n) (count-filter p q xs)
-      | false ↦ count-filter p q xs ∙ none_more _
+      | false ↦ count-filter p q xs ∙ from_zero_plus _
     ]
     ∙ sym (count-cons (λ x. q x && p x) x xs)
-  where
-    none_more : (n : ℕ) → n ≡ 0 + n
-    none_more n = omega arith
 
 -- counts by tests that add up at each entry add up
 count_split : (a b c : Entry → Bool) → ((x : Entry) → cond (a x) 1 0 + cond (b x) 1 0 ≡ cond (c x) 1 0) → (xs : List Entry) → count_by a xs + count_by b xs ≡ count_by c xs
@@ -92,46 +90,34 @@ not_among first zero n lt = refl
 not_among first (suc count) n lt =
     elim (nat_eq n first) as (λ b. nat_eq n first ≡ b → (b || among (suc first) count n) ≡ false) [
       | true ↦ λ t. absurd (not_both (eqb-true _ _ t) lt)
-      | false ↦ λ t. not_among (suc first) count n (more lt)
+      | false ↦ λ t. not_among (suc first) count n (less_suc lt)
     ] refl
   where
     not_both : {a b : ℕ} → a ≡ b → a < b → ⊥
     not_both e lt = omega arith
-
-    more : {a b : ℕ} → a < b → a < suc b
-    more lt = omega arith
 
 is_among : (first count n : ℕ) → first ≤ n → n < first + count → among first count n ≡ true
 is_among first zero n le lt = absurd (omega arith)
 is_among first (suc count) n le lt =
     elim (nat_eq n first) as (λ b. nat_eq n first ≡ b → (b || among (suc first) count n) ≡ true) [
       | true ↦ λ t. refl
-      | false ↦ λ t. is_among (suc first) count n (past (eqb-false _ _ t) le) (shift first count n lt)
+      | false ↦ λ t. is_among (suc first) count n (past (eqb-false _ _ t) le) (less_suc_plus first count n lt)
     ] refl
   where
     past : {a b : ℕ} → b ≢ a → a ≤ b → suc a ≤ b
     past other le = omega arith
-
-    shift : (a c n : ℕ) → n < a + suc c → n < suc a + c
-    shift a c n lt = omega arith
 
 -- an entry is counted for its own list and for those behind it, and for one of them alone
 one_list : (core count : ℕ) (p : Entry → Bool) (x : Entry) → cond (is_core core x && p x) 1 0 + cond (among (suc core) count x.core.0 && p x) 1 0 ≡ cond (among core (suc count) x.core.0 && p x) 1 0
 one_list core count p x =
     elim (nat_eq x.core.0 core) as (λ b. nat_eq x.core.0 core ≡ b → cond (b && p x) 1 0 + cond (among (suc core) count x.core.0 && p x) 1 0 ≡ cond ((b || among (suc core) count x.core.0) && p x) 1 0) [
       | true ↦ λ t.
-          ap (λ b. cond (p x) 1 0 + cond (b && p x) 1 0) (not_among (suc core) count x.core.0 (less (eqb-true _ _ t))) ∙ none_more _
-      | false ↦ λ t. none_before _
+          ap (λ b. cond (p x) 1 0 + cond (b && p x) 1 0) (not_among (suc core) count x.core.0 (less (eqb-true _ _ t))) ∙ plus_zero _
+      | false ↦ λ t. zero_plus _
     ] refl
   where
     less : {a b : ℕ} → a ≡ b → a < suc b
     less e = omega arith
-
-    none_more : (n : ℕ) → n + 0 ≡ n
-    none_more n = omega arith
-
-    none_before : (n : ℕ) → 0 + n ≡ n
-    none_before n = omega arith
 
 -- the lists from a core on have its own entries and those of the cores behind it
 count_lists : (core : ℕ) (parts : List (Vec Entry Global)) (history : List Entry) (p : Entry → Bool) → ((k : ℕ) (part : Vec Entry Global) → slice_get parts k ≡ Some part → part.items ≡ filter (is_core (core + k)) history) → count_by p (entries_in parts) ≡ count_by (λ x. among core (length parts) x.core.0 && p x) history
@@ -146,39 +132,27 @@ count_lists core [] history p own = sym (count_none history)
 count_lists core (part ∷ parts) history p own =
     sum_by-append (λ x. cond (p x) 1 0) part.items (entries_in parts)
     ∙ ap₂ (λ a b. a + b)
-    (ap (count_by p) (own 0 part refl ∙ ap (λ n. filter (is_core n) history) (none_more core)) ∙ count-filter p (is_core core) history)
-    (count_lists (suc core) parts history p (λ k other there. own (suc k) other there ∙ ap (λ n. filter (is_core n) history) (one_on core k)))
+    (ap (count_by p) (own 0 part refl ∙ ap (λ n. filter (is_core n) history) (plus_zero core)) ∙ count-filter p (is_core core) history)
+    (count_lists (suc core) parts history p (λ k other there. own (suc k) other there ∙ ap (λ n. filter (is_core n) history) (plus_suc core k)))
     ∙ count_split (λ x. is_core core x && p x) (λ x. among (suc core) (length parts) x.core.0 && p x) (λ x. among core (suc (length parts)) x.core.0 && p x) (one_list core (length parts) p) history
-  where
-    none_more : (n : ℕ) → n + 0 ≡ n
-    none_more n = omega arith
-
-    one_on : (a b : ℕ) → a + suc b ≡ suc a + b
-    one_on a b = omega arith
 
 -- in a list whose stamps ascend from one on, each of them is there once
 stamps_before : (first stamp : ℕ) (xs : List Entry) → ((i : ℕ) (x : Entry) → slice_get xs i ≡ Some x → x.stamp.0 ≡ first + i) → stamp < first → count_by (has_stamp stamp) xs ≡ 0
 stamps_before first stamp [] h lt = refl
 stamps_before first stamp (x ∷ xs) h lt =
     count-cons (has_stamp stamp) x xs
-    ∙ ap₂ (λ b n. cond b 1 0 + n) (differ (h 0 x refl) lt) (stamps_before (suc first) stamp xs (λ i y there. h (suc i) y there ∙ one_on first i) (more lt))
+    ∙ ap₂ (λ b n. cond b 1 0 + n) (differ (h 0 x refl) lt) (stamps_before (suc first) stamp xs (λ i y there. h (suc i) y there ∙ plus_suc first i) (less_suc lt))
   where
     differ : x.stamp.0 ≡ first + 0 → stamp < first → nat_eq x.stamp.0 stamp ≡ false
     differ is lt = elim (nat_eq x.stamp.0 stamp) as (λ b. nat_eq x.stamp.0 stamp ≡ b → b ≡ false) [ true ↦ λ t. absurd (let e = eqb-true _ _ t in omega arith) | false ↦ λ t. refl ] refl
-
-    more : {a b : ℕ} → a < b → a < suc b
-    more lt = omega arith
-
-    one_on : (a b : ℕ) → a + suc b ≡ suc a + b
-    one_on a b = omega arith
 
 stamps_once : (first stamp : ℕ) (xs : List Entry) → ((i : ℕ) (x : Entry) → slice_get xs i ≡ Some x → x.stamp.0 ≡ first + i) → first ≤ stamp → stamp < first + length xs → count_by (has_stamp stamp) xs ≡ 1
 stamps_once first stamp [] h le lt = absurd (omega arith)
 stamps_once first stamp (x ∷ xs) h le lt =
     count-cons (has_stamp stamp) x xs
     ∙ elim (nat_eq x.stamp.0 stamp) as (λ b. nat_eq x.stamp.0 stamp ≡ b → cond b 1 0 + count_by (has_stamp stamp) xs ≡ 1) [
-      | true ↦ λ t. one_more (stamps_before (suc first) stamp xs (λ i y there. h (suc i) y there ∙ one_on first i) (let e = eqb-true _ _ t in let is = h 0 x refl in omega arith))
-      | false ↦ λ t. none_more (stamps_once (suc first) stamp xs (λ i y there. h (suc i) y there ∙ one_on first i) (let e = eqb-false _ _ t in let is = h 0 x refl in omega arith) (shift first (length xs) stamp lt))
+      | true ↦ λ t. one_more (stamps_before (suc first) stamp xs (λ i y there. h (suc i) y there ∙ plus_suc first i) (let e = eqb-true _ _ t in let is = h 0 x refl in omega arith))
+      | false ↦ λ t. none_more (stamps_once (suc first) stamp xs (λ i y there. h (suc i) y there ∙ plus_suc first i) (let e = eqb-false _ _ t in let is = h 0 x refl in omega arith) (less_suc_plus first (length xs) stamp lt))
     ] refl
   where
     one_more : {n : ℕ} → n ≡ 0 → 1 + n ≡ 1
@@ -187,23 +161,11 @@ stamps_once first stamp (x ∷ xs) h le lt =
     none_more : {n : ℕ} → n ≡ 1 → 0 + n ≡ 1
     none_more e = omega arith
 
-    one_on : (a b : ℕ) → a + suc b ≡ suc a + b
-    one_on a b = omega arith
-
-    shift : (a c n : ℕ) → n < a + suc c → n < suc a + c
-    shift a c n lt = omega arith
-
 module _ (parts : List (Vec Entry Global)) (history : List Entry) (h : AreCoresOf parts history) where
   all_counted : (p : Entry → Bool) → count_by p (entries_in parts) ≡ count_by p history
   all_counted p =
-      count_lists 0 parts history p (λ k part there. h.own k part there ∙ ap (λ n. filter (is_core n) history) (none_before k))
-      ∙ count_same _ p history (each_from_get (λ x. (among 0 (length parts) x.core.0 && p x) ≡ p x) history (λ i x there. ap (λ b. b && p x) (is_among 0 (length parts) x.core.0 (omega arith) (within (h.cores i x there)))))
-    where
-      none_before : (n : ℕ) → n ≡ 0 + n
-      none_before n = omega arith
-
-      within : {a b : ℕ} → a < b → a < 0 + b
-      within lt = omega arith
+      count_lists 0 parts history p (λ k part there. h.own k part there ∙ ap (λ n. filter (is_core n) history) (from_zero_plus k))
+      ∙ count_same _ p history (each_from_get (λ x. (among 0 (length parts) x.core.0 && p x) ≡ p x) history (λ i x there. ap (λ b. b && p x) (is_among 0 (length parts) x.core.0 (omega arith) (less_zero_plus (h.cores i x there)))))
 
   as_long : length (entries_in parts) ≡ length history
   as_long = sym (count_all (entries_in parts)) ∙ all_counted (λ _. true) ∙ count_all history
@@ -225,16 +187,10 @@ module _ (parts : List (Vec Entry Global)) (history : List Entry) (h : AreCoresO
   each_once = record {
     below = each_all _ (entries_in parts) (below (entries_in parts) stands);
     once = λ stamp lt.
-        all_counted (has_stamp stamp) ∙ stamps_once 0 stamp history (λ i x there. h.stamped i x there ∙ none_before i) (omega arith) (within (subst (λ n. stamp < n) as_long lt));
+        all_counted (has_stamp stamp) ∙ stamps_once 0 stamp history (λ i x there. h.stamped i x there ∙ from_zero_plus i) (omega arith) (less_zero_plus (subst (λ n. stamp < n) as_long lt));
     few = subst (λ n. n < 2 ^ 64) (sym as_long) h.few;
   }
     where
-      none_before : (n : ℕ) → n ≡ 0 + n
-      none_before n = omega arith
-
-      within : {a b : ℕ} → a < b → a < 0 + b
-      within lt = omega arith
-
       below : (xs : List Entry) → Each (λ x. slice_get history x.stamp.0 ≡ Some x) xs → Each (λ x. x.stamp.0 < length (entries_in parts)) xs
       below [] each = tt
       below (x ∷ xs) each = (subst (λ n. x.stamp.0 < n) (sym as_long) (slice_get_within history x.stamp.0 x each.0), below xs each.1)

@@ -1,6 +1,6 @@
 -- The stored counts, kept by each change.
-use Rattle.std.proofs.Common.{◌≡◌, ℕ, zero, suc, ◌+◌, ◌-◌, ◌^◌, ◌<◌, ◌≤◌, Bool, true, false, cond, ◌&&◌, List, [], ◌∷◌, ◌++◌, length, set, Option, Some, None, refl, sym, ap, subst, ◌∙◌, arith, count_by, nat_eq, slice_index}
-use borrow.Author.Tests.{eqb-true, eq-eqb, eqb-false}
+use Rattle.std.proofs.Common.{◌≡◌, ℕ, zero, suc, ◌+◌, ◌-◌, ◌^◌, ◌<◌, ◌≤◌, Bool, true, false, cond, ◌&&◌, List, [], ◌∷◌, ◌++◌, length, set, Some, None, refl, sym, ap, subst, ◌∙◌, arith, count_by, nat_eq, slice_index}
+use borrow.Author.Tests.{eqb-true, eqb-false}
 use Rattle.std.specs.Ordering.{nat_cmp}
 use Rattle.std.proofs.lemmas.List.{get_or-set_same, get_or-set_other, length-append, length-set}
 use Rattle.std.specs.FinMap.{FinMap, get, insert, remove, empty, entries, len, get-empty, len-empty}
@@ -11,6 +11,8 @@ use Rattle.sfs_tree.specs.Buckets.{stands_in}
 use Rattle.sfs_tree.specs.Counts.{is_directory_in, holds_directory_in, count_inside, count_directories, one_if, IsCounted, IsWide, MayRise, MayFall}
 use Rattle.sfs_tree.proofs.Joined.{count-insert}
 use Rattle.sfs_tree.proofs.Counting.{count-remove, count-le-len, len_more, len_less, count_agree, count_some, came, Came, stayed}
+use Rattle.sfs_base.proofs.BasicNumbers.{plus_zero, same_number}
+use Rattle.sfs_base.proofs.BasicOptions.{none_some}
 
 -- a count that is more at one place
 counted_more : (ns : List ℕ) (x k more old new : ℕ) → x < length ns → slice_index ns k ≡ old → new ≡ old + cond (nat_eq x k) more 0 → slice_index (set ns x (slice_index ns x + more)) k ≡ new
@@ -21,11 +23,8 @@ counted_more ns x k more old new lt was is =
           ∙ get_or-set_same ns x (slice_index ns x + more) 0 lt
           ∙ ap (λ n. n + more) (ap (slice_index ns) (eqb-true _ _ t) ∙ was)
           ∙ sym e
-      | false ↦ λ t e. get_or-set_other ns x k (slice_index ns x + more) 0 (λ same. eqb-false _ _ t (sym same)) ∙ was ∙ sym (e ∙ no_more old)
+      | false ↦ λ t e. get_or-set_other ns x k (slice_index ns x + more) 0 (λ same. eqb-false _ _ t (sym same)) ∙ was ∙ sym (e ∙ plus_zero old)
     ] refl is
-  where
-    no_more : (n : ℕ) → n + 0 ≡ n
-    no_more n = omega arith
 
 -- a count that is less at one place
 counted_less : (ns : List ℕ) (x k less old new : ℕ) → x < length ns → slice_index ns k ≡ old → old ≡ new + cond (nat_eq x k) less 0 → slice_index (set ns x (slice_index ns x - less)) k ≡ new
@@ -36,12 +35,9 @@ counted_less ns x k less old new lt was is =
           ∙ get_or-set_same ns x (slice_index ns x - less) 0 lt
           ∙ ap (λ n. n - less) (ap (slice_index ns) (eqb-true _ _ t) ∙ was ∙ e)
           ∙ taken new less
-      | false ↦ λ t e. get_or-set_other ns x k (slice_index ns x - less) 0 (λ same. eqb-false _ _ t (sym same)) ∙ was ∙ e ∙ no_more new
+      | false ↦ λ t e. get_or-set_other ns x k (slice_index ns x - less) 0 (λ same. eqb-false _ _ t (sym same)) ∙ was ∙ e ∙ plus_zero new
     ] refl is
   where
-    no_more : (n : ℕ) → n + 0 ≡ n
-    no_more n = omega arith
-
     taken : (n m : ℕ) → n + m - m ≡ n
     taken n m = omega arith
 
@@ -55,9 +51,6 @@ no_rows p =
     let a = count-le-len (empty {X = ℕ} {R = key_cmp}) p in
     let b = len-empty key_cmp ℕ in
     omega arith
-
-none_some : {X : Type 0} {x : X} → ◌≡◌ {A = Option X} None (Some x) → ⊥
-none_some e = cc
 
 pub IsCounted-new : (nodes : FinMap nat_cmp Node) (counts : Counts) → counts.named.items ≡ [] → counts.inside.items ≡ [] → counts.directories.items ≡ [] → counts.total ≡ 0 → IsCounted empty nodes counts
 IsCounted-new nodes counts named inside directories total = record {
@@ -142,9 +135,6 @@ module _ (directory child : ℕ) (is_directory : Bool) (old new : Counts) (r : I
                     get_or-set_other old.holders.items child x directory 0 (λ e. eqb-false _ _ t (sym e)) ∙ h.holders d n x was dir (omega arith)
               ] refl
         ]
-      where
-        same_number : (x : ℕ) → nat_eq x x ≡ true
-        same_number x = eq-eqb x x refl
 
     pub IsCounted-raised : IsCounted (insert rows (directory, name) child) nodes new
     IsCounted-raised = record {
@@ -250,9 +240,6 @@ module _ (rows : FinMap key_cmp ℕ) (nodes : FinMap nat_cmp Node) (counts : Cou
         directories_some = subst (λ b. one_if b < slice_index counts.directories.items directory + 1) (sym is) (enough (is_directory_in nodes child) refl);
       }
     where
-      same_number : (x : ℕ) → nat_eq x x ≡ true
-      same_number x = eq-eqb x x refl
-
       enough : (b : Bool) → is_directory_in nodes child ≡ b → one_if b < slice_index counts.directories.items directory + 1
       enough true e =
           let c = h.directories directory in

@@ -9,10 +9,11 @@ use Rattle.std.proofs.lemmas.List.Sums.{count_by-le-length}
 use Rattle.std.specs.FinMap.{len-entries}
 use Rattle.sfs_tree.specs.Order.{Key, key_cmp}
 use Rattle.sfs_tree.proofs.Joined.{key_cmp_total, key_cmp-IsAntisymmetric, is_equal, count-cons, count-insert}
-use Rattle.sfs_tree.proofs.Search.{both_first, both_second, not_found}
-
-none_some : {X : Type 0} {x : X} → ◌≡◌ {A = Option X} None (Some x) → ⊥
-none_some e = cc
+use Rattle.sfs_tree.proofs.Search.{not_found}
+use Rattle.sfs_base.proofs.BasicTruth.{both_second}
+use Rattle.sfs_base.proofs.BasicTruth.{both_first}
+use Rattle.sfs_base.proofs.BasicOptions.{none_some}
+use Rattle.sfs_base.proofs.BasicTruth.{true_not_false}
 
 pub same_itself : (k : Key) → eq_by_cmp key_cmp k k ≡ true
 same_itself k = ap is_eq (tied_itself key_cmp_total k)
@@ -47,10 +48,7 @@ some_is : {x y : ℕ} → ◌≡◌ {A = Option ℕ} (Some x) (Some y) → y ≡
 some_is e = cc
 
 differ_false : (q k : Key) → eq_by_cmp key_cmp q k ≡ false → q ≢ k
-differ_false q k e same = absurd (true_false (sym (same_itself k) ∙ ap (λ x. eq_by_cmp key_cmp x k) (sym same) ∙ e))
-  where
-    true_false : true ≡ false → ⊥
-    true_false e = cc
+differ_false q k e same = absurd (true_not_false (sym (same_itself k) ∙ ap (λ x. eq_by_cmp key_cmp x k) (sym same) ∙ e))
 
 pub came : (rows : FinMap key_cmp ℕ) (k : Key) (x : ℕ) (q : Key) (y : ℕ) → get (insert rows k x) q ≡ Some y → Came rows k x q y
 came rows k x q y is =

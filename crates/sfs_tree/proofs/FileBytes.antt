@@ -1,7 +1,8 @@
 -- The bytes of a file, where others are put.
-use Rattle.std.proofs.Common.{◌≡◌, ℕ, zero, suc, ◌+◌, ◌-◌, ◌≤◌, List, [], ◌∷◌, ◌++◌, length, take, drop, replicate, refl, sym, ap, ◌∙◌, arith}
+use Rattle.std.proofs.Common.{◌≡◌, ◌<◌, false, nat_eq, ℕ, zero, suc, ◌+◌, ◌-◌, ◌≤◌, List, [], ◌∷◌, ◌++◌, length, take, drop, replicate, refl, sym, ap, ◌∙◌, arith}
 use Rattle.std.proofs.lemmas.List.{take-replicate, drop_all, length-replicate, append-nil}
-use Rattle.sfs_tree.specs.Effect.{with_size, with_bytes}
+use Rattle.std.proofs.lemmas.Bool.Decides.{nat_tests}
+use Rattle.sfs_base.specs.Files.{resized, written}
 
 take_zeros : (at n : ℕ) (bytes : List ℕ) → at - length bytes ≤ n → take at (bytes ++ replicate n 0) ≡ take at bytes ++ replicate (at - length bytes) 0
 take_zeros zero n [] le = ap (λ k. replicate k 0) (let e : 0 ≡ 0 - length {A = ℕ} [] = omega arith in e)
@@ -19,8 +20,10 @@ drop_zeros zero n (x ∷ bytes) e = ap (λ k. x ∷ bytes ++ replicate k 0) (let
 drop_zeros (suc end) n (x ∷ bytes) e = drop_zeros end n bytes (omega arith)
 
 -- the bytes written over those with enough zeros behind them
-pub written_over : (at : ℕ) (written bytes zeros : List ℕ) → zeros ≡ bytes ++ replicate (at + length written - length bytes) 0 → take at zeros ++ written ++ drop (at + length written) zeros ≡ with_bytes at written bytes
-written_over at written bytes zeros is =
-    ap (λ z. take at z ++ written ++ drop (at + length written) z) is
-    ∙ ap (λ front. front ++ written ++ drop (at + length written) (bytes ++ replicate (at + length written - length bytes) 0)) (take_zeros at (at + length written - length bytes) bytes (omega arith))
-    ∙ ap (λ rest. with_size at bytes ++ written ++ rest) (drop_zeros (at + length written) (at + length written - length bytes) bytes refl)
+pub written_over : (at : ℕ) (from bytes zeros : List ℕ) → 0 < length from → zeros ≡ bytes ++ replicate (at + length from - length bytes) 0 → take at zeros ++ from ++ drop (at + length from) zeros ≡ written at from bytes
+written_over at from bytes zeros some is =
+    let test : nat_eq (length from) 0 ≡ false = grind (arith, nat_tests) in
+    rw test
+    (ap (λ z. take at z ++ from ++ drop (at + length from) z) is
+    ∙ ap (λ front. front ++ from ++ drop (at + length from) (bytes ++ replicate (at + length from - length bytes) 0)) (take_zeros at (at + length from - length bytes) bytes (omega arith))
+    ∙ ap (λ rest. resized at bytes ++ from ++ rest) (drop_zeros (at + length from) (at + length from - length bytes) bytes refl))

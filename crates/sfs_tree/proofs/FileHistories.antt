@@ -1,6 +1,6 @@
 -- Trees along a legal history: they stay sound, and a file's bytes at a stamp are those of the tree there.
-use Rattle.std.proofs.Common.{◌≡◌, ℕ, zero, suc, ◌+◌, ◌<◌, ◌≤◌, true, false, cond, ◌&&◌, List, [], ◌∷◌, ◌++◌, take, Option, Some, None, IsSome, inl, inr, refl, sym, ap, subst, ◌∙◌, arith, nat_lt, nat_eq}
-use borrow.Author.Tests.{eqb-true, eq-eqb, ltb-true, lt-ltb}
+use Rattle.std.proofs.Common.{◌≡◌, ℕ, zero, suc, ◌+◌, ◌<◌, ◌≤◌, true, false, cond, ◌&&◌, List, [], ◌∷◌, ◌++◌, take, Option, Some, None, inl, inr, refl, sym, ap, subst, ◌∙◌, arith, nat_eq}
+use borrow.Author.Tests.{eq-eqb, lt-ltb}
 use Rattle.std.specs.Prelude.{filter, fold}
 use Rattle.std.specs.Option.{option_map_or}
 use Rattle.std.specs.FinMap.{get}
@@ -18,6 +18,9 @@ use Rattle.sfs_tree.specs.Parts.{bytes_after}
 use Rattle.sfs_tree.specs.Laws.{IsSoundTree}
 use Rattle.sfs_tree.proofs.KeepsNodes.{node_cases}
 use Rattle.sfs_tree.proofs.SoundTrees.{calls_keep_sound, calls_fit}
+use Rattle.sfs_base.proofs.BasicOptions.{none_not_some}
+use Rattle.sfs_base.proofs.BasicNumbers.{not_same, not_below, zero_plus}
+use Rattle.sfs_base.proofs.BasicLists.{take_none}
 
 -- each tree of a legal history is sound, where the first one is
 sound_from : (stamp k : ℕ) (first : TreeState) (history : List Entry) → IsSoundTree first → IsLegalFrom first stamp history → IsSoundTree (tree_after first (take k history))
@@ -29,9 +32,6 @@ sound_from stamp (suc k) first (entry ∷ history) is legal =
 
 pub histories_keep_sound : (first : TreeState) (history : List Entry) (count : ℕ) → IsSoundTree first → IsLegal first history → IsSoundTree (tree_after first (take count history))
 histories_keep_sound first history count is legal = sound_from 0 count first history is legal
-
-none_some : (o : Option Node) → o ≡ None → IsSome o → ⊥
-none_some o none some = cc
 
 pub bytes_with : (tree : TreeState) (core : ℕ) (effect : Effect) (makes : Option Kind) (f : ℕ) → Fits tree core effect makes → bytes_of (tree_with tree core effect makes) f ≡ bytes_after effect f (bytes_of tree f)
 bytes_with tree core Stays None f fits = refl
@@ -51,7 +51,7 @@ bytes_with tree core (Adds d n c) (Some kind) f fits =
     ]
 bytes_with tree core (Edits file edit) None f fits =
     elim (get tree.nodes file) as (λ o. get tree.nodes file ≡ o → option_map_or (λ (n : Node). n.bytes) (get (with_edit tree.nodes file edit o) f) [] ≡ cond (nat_eq file f) (edited edit (bytes_of tree f)) (bytes_of tree f)) [
-      | None ↦ λ e. absurd (none_some _ e fits.node)
+      | None ↦ λ e. absurd (none_not_some _ e fits.node)
       | Some node ↦ λ e. elim (node_cases tree.nodes file (record node { bytes = edited edit node.bytes }) f) [
         | inl here ↦
             ap (λ (o : Option Node). option_map_or (λ (n : Node). n.bytes) o []) here.1
@@ -59,12 +59,9 @@ bytes_with tree core (Edits file edit) None f fits =
             ∙ sym (ap (λ b. cond b (edited edit (bytes_of tree f)) (bytes_of tree f)) (eq-eqb file f (sym here.0)))
         | inr other ↦
             ap (λ (o : Option Node). option_map_or (λ (n : Node). n.bytes) o []) other.1
-            ∙ sym (ap (λ b. cond b (edited edit (bytes_of tree f)) (bytes_of tree f)) (differ file f (λ same. other.0 (sym same))))
+            ∙ sym (ap (λ b. cond b (edited edit (bytes_of tree f)) (bytes_of tree f)) (not_same file f (λ same. other.0 (sym same))))
       ]
     ] refl
-  where
-    differ : (a b : ℕ) → (a ≡ b → ⊥) → nat_eq a b ≡ false
-    differ a b other = elim (nat_eq a b) as (λ t. nat_eq a b ≡ t → t ≡ false) [ true ↦ λ e. absurd (other (eqb-true _ _ e)) | false ↦ λ _. refl ] refl
 
 -- bytes with a change made
 abbrev change_made : List ℕ → FileChange → List ℕ
@@ -80,9 +77,6 @@ folded f stamp c (Edits file edit) bytes lt =
     ap (λ b. fold change_made bytes (cond (b && nat_eq file f) (record { stamp = stamp; file = file; edit = edit } ∷ []) [])) (lt-ltb _ _ lt)
     ∙ elim (nat_eq file f) as (λ b. fold change_made bytes (cond (true && b) (record { stamp = stamp; file = file; edit = edit } ∷ []) []) ≡ cond b (edited edit bytes) bytes) [ true ↦ refl | false ↦ refl ]
 
-not_below : (a b : ℕ) → b ≤ a → nat_lt a b ≡ false
-not_below a b le = elim (nat_lt a b) as (λ t. nat_lt a b ≡ t → t ≡ false) [ true ↦ λ e. absurd (let lt = ltb-true _ _ e in omega arith) | false ↦ λ _. refl ] refl
-
 dropped : (f c stamp : ℕ) (effect : Effect) → c ≤ stamp → filter (is_edit_below f c) (edits_by stamp effect) ≡ []
 dropped f c stamp Stays le = refl
 dropped f c stamp (Adds d n child) le = refl
@@ -97,10 +91,6 @@ all_dropped f c stamp first (e ∷ history) le legal =
     ∙ ap (λ l. l ++ filter (is_edit_below f c) (edits_of (tree_after_entry first e) history)) (dropped f c e.stamp.0 (verdict first e.core.0 e.call).effect (subst (λ n. c ≤ n) (sym legal.0.stamped) le))
     ∙ all_dropped f c (suc stamp) (tree_after_entry first e) history (omega arith) legal.1
 
-take_none : (h : List Entry) → take 0 h ≡ []
-take_none [] = refl
-take_none (x ∷ h) = refl
-
 bytes_from_stamp : (f c stamp k : ℕ) (first : TreeState) (history : List Entry) → stamp + k ≡ c → IsSoundTree first → IsLegalFrom first stamp history → fold change_made (bytes_of first f) (filter (is_edit_below f c) (edits_of first history)) ≡ bytes_of (tree_after first (take k history)) f
 bytes_from_stamp f c stamp zero first history e is legal =
     ap (fold change_made (bytes_of first f)) (all_dropped f c stamp first history (omega arith) legal)
@@ -114,7 +104,4 @@ bytes_from_stamp f c stamp (suc k) first (entry ∷ history) e is legal =
 
 -- the bytes of a file at a stamp are those of the tree after the entries below it
 pub bytes_at-tree_after : (first : TreeState) (history : List Entry) (f c : ℕ) → IsSoundTree first → IsLegal first history → bytes_at first history f c ≡ bytes_of (tree_after first (take c history)) f
-bytes_at-tree_after first history f c is legal = bytes_from_stamp f c 0 c first history (zero_more c) is legal
-  where
-    zero_more : (n : ℕ) → 0 + n ≡ n
-    zero_more n = omega arith
+bytes_at-tree_after first history f c is legal = bytes_from_stamp f c 0 c first history (zero_plus c) is legal

@@ -1,5 +1,5 @@
 -- Where no condition of the table holds, what a call does fits.
-use Rattle.std.proofs.Common.{◌≡◌, ◌≢◌, ℕ, ◌+◌, ◌<◌, Bool, true, false, cond, not, ◌||◌, ◌&&◌, List, ◌∷◌, length, take, drop, Option, Some, None, is_some, IsSome, inl, inr, refl, sym, ap, subst, ◌∙◌, nat_eq, nat_lt}
+use Rattle.std.proofs.Common.{◌≡◌, ◌≢◌, ℕ, ◌+◌, ◌<◌, Bool, true, false, cond, not, ◌||◌, ◌&&◌, List, ◌∷◌, length, take, drop, Option, Some, None, IsSome, inl, inr, refl, sym, ap, subst, ◌∙◌, nat_eq, nat_lt}
 use borrow.Author.Tests.{eqb-true, eqb-false, eq-eqb, leb-false}
 use Rattle.std.specs.FinMap.{get}
 use Rattle.sfs_base.specs.declared.numbers.Kind.{Kind}
@@ -20,6 +20,8 @@ use Rattle.sfs_tree.proofs.RowFacts.{alive_named, no_rows}
 use Rattle.sfs_tree.proofs.KeepsSound.{way_up}
 use Rattle.sfs_tree.proofs.Numbers.{fresh_number}
 use Rattle.sfs_tree.proofs.Walks.{not_above}
+use Rattle.sfs_base.proofs.BasicTruth.{not_false, not_both, then_false}
+use Rattle.sfs_base.proofs.BasicOptions.{none_of, some_is}
 
 -- what a verdict does fits
 abbrev pub VerdictFits : TreeState → ℕ → Verdict → Type 0
@@ -56,17 +58,6 @@ third_not a b c k l m none =
     let two = not_so b l (cond c (Some m) None) one.1 in
     (not_so c m None two.1).0
 
-not_false : (b : Bool) → not b ≡ false → b ≡ true
-not_false true e = refl
-not_false false e = cc
-
-no_some : {X : Type 0} (o : Option X) → is_some o ≡ false → o ≡ None
-no_some None e = refl
-no_some (Some x) e = cc
-
-true_not_false : {b : Bool} → b ≡ true → b ≡ false → ⊥
-true_not_false t f = cc
-
 pub may_hold : (tree : TreeState) (directory : ℕ) → directory_fault tree directory ≡ None → MayHold tree directory
 may_hold tree directory none =
     let alive = not_so _ _ _ none in
@@ -87,7 +78,7 @@ live_file tree file none =
 -- a live file is not the root, and a node
 pub file_node : (tree : TreeState) → IsSound tree → (file : ℕ) → IsFile tree file → (file ≢ 0) × IsSome (get tree.nodes file)
 file_node tree s file f =
-    let no_root : file ≢ 0 = λ root. true_not_false (subst (λ (x : ℕ). is_directory tree x ≡ true) (sym root) s.root) f.kind in (
+    let no_root : file ≢ 0 = λ root. not_both (subst (λ (x : ℕ). is_directory tree x ≡ true) (sym root) s.root) f.kind in (
       no_root,
       elim (alive_named tree file f.alive) [
         | inl root ↦ absurd (no_root root)
@@ -96,11 +87,7 @@ file_node tree s file f =
     )
 
 bare_when : (tree : TreeState) (node : ℕ) → (is_directory tree node && not (nat_eq (row_count tree node) 0)) ≡ false → is_directory tree node ≡ true → HasNoRows tree node
-bare_when tree node none kind = no_rows tree node (eqb-true _ _ (not_false _ (and_second (is_directory tree node) _ none kind)))
-  where
-    and_second : (a b : Bool) → (a && b) ≡ false → a ≡ true → b ≡ false
-    and_second true b e t = e
-    and_second false b e t = cc
+bare_when tree node none kind = no_rows tree node (eqb-true _ _ (not_false _ (then_false (is_directory tree node) _ none kind)))
 
 module _ (tree : TreeState) (core : ℕ) (s : IsSound tree) where
   make_fits : IsNumbered tree → core < length tree.made → (directory : ℕ) (name : List ℕ) (kind : Kind) → make_fault tree core directory name ≡ None → VerdictFits tree core (make_node tree core directory name kind)
@@ -110,7 +97,7 @@ module _ (tree : TreeState) (core : ℕ) (s : IsSound tree) where
       let room = not_so _ _ _ absent.1 in
       let share = not_so _ _ _ room.1 in
       let within = leb-false _ _ share.0 in
-      record { holder = may_hold tree directory both.0; free = no_some _ absent.0; number = refl; within = within; fresh = fresh_number tree core n lt within }
+      record { holder = may_hold tree directory both.0; free = none_of _ absent.0; number = refl; within = within; fresh = fresh_number tree core n lt within }
 
   link_fits : (file directory : ℕ) (name : List ℕ) → link_fault tree file directory name ≡ None → VerdictFits tree core (done (Adds directory name file))
   link_fits file directory name none =
@@ -119,11 +106,11 @@ module _ (tree : TreeState) (core : ℕ) (s : IsSound tree) where
       let both = neither _ _ kind.1 in
       let absent = not_so _ _ _ both.1 in
       let node = file_node tree s file (record { alive = not_false _ alive.0; kind = kind.0 }) in
-      record { holder = may_hold tree directory both.0; free = no_some _ absent.0; no_root = node.0; placeless = λ k. absurd (true_not_false k kind.0); node = node.1 }
+      record { holder = may_hold tree directory both.0; free = none_of _ absent.0; no_root = node.0; placeless = λ k. absurd (not_both k kind.0); node = node.1 }
 
   unlink_fits : (directory : ℕ) (name : List ℕ) (child : Option ℕ) → row_of tree directory name ≡ child → VerdictFits tree core (unlink_row tree directory name child)
   unlink_fits directory name None e = tt
-  unlink_fits directory name (Some child) e = unless_done tree core _ _ (Removes directory name child) (λ kind. record { row = e; bare = λ k. absurd (true_not_false k kind) })
+  unlink_fits directory name (Some child) e = unless_done tree core _ _ (Removes directory name child) (λ kind. record { row = e; bare = λ k. absurd (not_both k kind) })
 
   rmdir_fits : (directory : ℕ) (name : List ℕ) (child : Option ℕ) → row_of tree directory name ≡ child → VerdictFits tree core (rmdir_row tree directory name child)
   rmdir_fits directory name None e = tt
@@ -148,9 +135,6 @@ module _ (tree : TreeState) (core : ℕ) (s : IsSound tree) where
       let third = third_not (is_directory tree child && not (is_directory tree y)) (not (is_directory tree child) && is_directory tree y) (is_directory tree y && not (nat_eq (row_count tree y) 0)) NotDir IsDir NotEmpty none in
       let same : y ≡ there = some_is y there e in
       subst (λ (z : ℕ). HasNoRows tree z) same (bare_when tree y third (subst (λ (z : ℕ). is_directory tree z ≡ true) (sym same) kind))
-    where
-      some_is : (a b : ℕ) → Some a ≡ Some b → a ≡ b
-      some_is a b e = cc
 
   move_fits : (directory : ℕ) (name : List ℕ) (to_directory : ℕ) (to_name : List ℕ) (child : Option ℕ) → MayHold tree to_directory → row_of tree directory name ≡ child → VerdictFits tree core (move_row tree directory name to_directory to_name child)
   move_fits directory name to_directory to_name None holder e = tt
@@ -169,7 +153,7 @@ module _ (tree : TreeState) (core : ℕ) (s : IsSound tree) where
       ] refl
     where
       other : (o : Option ℕ) → o ≡ Some child → names_child o child ≡ false → ⊥
-      other o there e = true_not_false (ap (λ o. names_child o child) there ∙ eq-eqb child child refl) e
+      other o there e = not_both (ap (λ o. names_child o child) there ∙ eq-eqb child child refl) e
 
   edits_fit : (file : ℕ) → IsFile tree file → FitsEdits tree file
   edits_fit file f = record { node = (file_node tree s file f).1; kind = f.kind }

@@ -1,27 +1,17 @@
 -- The numbers of nodes, kept by each change.
-use Rattle.std.proofs.Common.{◌≡◌, ℕ, zero, suc, ◌+◌, ◌*◌, ◌/◌, ◌%◌, ◌<◌, ◌≤◌, true, false, List, length, set, replicate, Option, Some, None, IsSome, ◌⊎◌, inl, inr, refl, sym, ap, subst, ◌∙◌, arith, nat_eq, slice_index}
+use Rattle.std.proofs.Common.{◌≡◌, ℕ, ◌+◌, ◌*◌, ◌/◌, ◌%◌, ◌<◌, ◌≤◌, true, false, List, length, set, replicate, Option, Some, None, IsSome, ◌⊎◌, inl, inr, refl, sym, ap, subst, ◌∙◌, arith, nat_eq, slice_index}
 use borrow.Author.Tests.{eqb-true, eqb-false}
 use Rattle.std.specs.Ordering.{nat_cmp}
 use Rattle.std.proofs.lemmas.Nat.{div-mul-add, mod-mul-add}
 use Rattle.std.proofs.lemmas.List.{get_or-set_same, get_or-set_other, length-set, length-replicate}
 use Rattle.std.specs.FinMap.{FinMap, get, insert, empty, get-empty}
-use Rattle.sfs_tree.specs.Tree.{Node}
+use Rattle.sfs_tree.specs.Tree.{Node, TreeState}
+use Rattle.sfs_tree.specs.Sound.{IsNumbered}
 use Rattle.sfs_tree.specs.Effect.{Edit, edited, with_edit}
 use Rattle.sfs_tree.specs.Build.{IsFounded}
 use Rattle.sfs_tree.proofs.StoreKept.{some_before}
-
-some_none : {X : Type 0} (o : Option X) → o ≡ None → IsSome o → ⊥
-some_none o none some = cc
-
-none_there : {X : Type 0} (o : Option X) → (IsSome o → ⊥) → o ≡ None
-none_there (Some x) h = absurd (h refl)
-none_there None h = refl
-
-zeros : (n k : ℕ) → slice_index (replicate n 0) k ≡ 0
-zeros zero zero = refl
-zeros zero (suc k) = refl
-zeros (suc n) zero = refl
-zeros (suc n) (suc k) = zeros n k
+use Rattle.sfs_base.proofs.BasicOptions.{none_not_some, none_there}
+use Rattle.sfs_base.proofs.BasicLists.{zeros_read}
 
 -- a tree in which no core has made a node has the nodes below the first new one alone
 pub IsFounded-new : (nodes : FinMap nat_cmp Node) (first share cores : ℕ) → first ≤ 16384 → share * cores ≤ 65536 → ((node : ℕ) → IsSome (get nodes node) → node < first) → IsFounded nodes first share (replicate cores 0)
@@ -29,7 +19,7 @@ IsFounded-new nodes first share cores low shares below = record {
   allowed = record {
     low = low;
     shares = subst (λ n. share * n ≤ 65536) (sym (length-replicate cores 0)) shares;
-    within = λ core. let z = zeros cores core in omega arith;
+    within = λ core. let z = zeros_read cores core in omega arith;
   };
   drawn = record { known = λ node some. inl (below node some) };
 }
@@ -38,7 +28,7 @@ IsFounded-new nodes first share cores low shares below = record {
 pub root_below : (first : ℕ) (root : Node) (node : ℕ) → 1 ≤ first → IsSome (get (insert (empty {R = nat_cmp}) 0 root) node) → node < first
 root_below first root node le some = elim (some_before empty 0 node root some) as (λ _. node < first) [
   | inl same ↦ omega arith
-  | inr old ↦ absurd (some_none _ (get-empty nat_cmp node) old)
+  | inr old ↦ absurd (none_not_some _ (get-empty nat_cmp node) old)
 ]
 
 module _ (nodes : FinMap nat_cmp Node) (first share : ℕ) (made : List ℕ) (h : IsFounded nodes first share made) where
@@ -136,3 +126,17 @@ module _ (nodes : FinMap nat_cmp Node) (first share : ℕ) (made : List ℕ) (h 
             ];
           };
         }
+
+-- the numbers of a tree as it is kept
+pub founded_numbers : (tree : TreeState) → IsFounded tree.nodes tree.first tree.share tree.made → IsNumbered tree
+founded_numbers tree founded = record { known = founded.drawn.known; within = λ core less. let le = founded.allowed.within core in omega arith }
+
+-- where no core has made a node, another share changes nothing
+pub numbered_unmade : (tree : TreeState) (share : ℕ) → IsNumbered tree → ((core : ℕ) → slice_index tree.made core ≡ 0) → IsNumbered (record tree { share = share })
+numbered_unmade tree share numbered unmade = record {
+  known = λ node some. elim (numbered.known node some) [
+    | inl low ↦ inl low
+    | inr made ↦ let none = unmade made.0 in let less = made.3 in absurd (omega arith)
+  ];
+  within = λ core less. let none = unmade core in omega arith;
+}

@@ -1,6 +1,6 @@
 -- Histories that grow by one entry at their end.
-use Rattle.std.proofs.Common.{◌≡◌, ℕ, zero, suc, ◌+◌, ◌<◌, ◌≤◌, Bool, true, false, cond, ◌&&◌, List, [], ◌∷◌, ◌++◌, length, take, Some, None, refl, sym, ap, subst, ◌∙◌, arith, nat_lt, nat_eq}
-use borrow.Author.Tests.{eqb-true, eq-eqb, ltb-true, lt-ltb}
+use Rattle.std.proofs.Common.{◌≡◌, ℕ, zero, suc, ◌+◌, ◌<◌, ◌≤◌, Bool, true, false, cond, ◌&&◌, List, [], ◌∷◌, ◌++◌, length, take, Some, None, refl, sym, ap, subst, ◌∙◌, arith, nat_eq}
+use borrow.Author.Tests.{eqb-true, eq-eqb, lt-ltb}
 use Rattle.std.specs.Prelude.{filter, fold}
 use Rattle.std.specs.Ordering.{eq_by_cmp}
 use Rattle.std.specs.Cmp.Lexicographic.{nat_list_cmp_total}
@@ -16,28 +16,22 @@ use Rattle.sfs_tree.specs.Changes.{RowChange, added, removed, other_side, replac
 use Rattle.sfs_tree.specs.History.{tree_after, tree_after_entry, MayCome, IsLegalFrom, IsLegal}
 use Rattle.sfs_tree.proofs.Joined.{key_cmp_total, same_key, name_cmp-IsAntisymmetric}
 use Rattle.sfs_tree.proofs.Names.{get-names_where, not_same}
+use Rattle.sfs_base.proofs.BasicNumbers.{plus_zero, plus_suc, zero_plus, not_below}
+use Rattle.sfs_base.proofs.BasicLists.{take_none}
 
 pub tree_after-push : (first : TreeState) (history : List Entry) (entry : Entry) → tree_after first (history ++ entry ∷ []) ≡ tree_after_entry (tree_after first history) entry
 tree_after-push first [] entry = refl
 tree_after-push first (e ∷ history) entry = tree_after-push (tree_after_entry first e) history entry
 
 legal_push : (first : TreeState) (stamp : ℕ) (history : List Entry) (entry : Entry) → IsLegalFrom first stamp history → MayCome (tree_after first history) (stamp + length history) entry → IsLegalFrom first stamp (history ++ entry ∷ [])
-legal_push first stamp [] entry legal may = (subst (λ n. MayCome first n entry) (more_zero stamp) may, tt)
-  where
-    more_zero : (n : ℕ) → n + 0 ≡ n
-    more_zero n = omega arith
+legal_push first stamp [] entry legal may = (subst (λ n. MayCome first n entry) (plus_zero stamp) may, tt)
+
 legal_push first stamp (e ∷ history) entry legal may =
-    (legal.0, legal_push (tree_after_entry first e) (suc stamp) history entry legal.1 (subst (λ n. MayCome (tree_after first (e ∷ history)) n entry) (one_on stamp (length history)) may))
-  where
-    one_on : (n m : ℕ) → n + suc m ≡ suc n + m
-    one_on n m = omega arith
+    (legal.0, legal_push (tree_after_entry first e) (suc stamp) history entry legal.1 (subst (λ n. MayCome (tree_after first (e ∷ history)) n entry) (plus_suc stamp (length history)) may))
 
 -- a legal history goes on by an entry that may come
 pub IsLegal-push : (first : TreeState) (history : List Entry) (entry : Entry) → IsLegal first history → MayCome (tree_after first history) (length history) entry → IsLegal first (history ++ entry ∷ [])
-IsLegal-push first history entry legal may = legal_push first 0 history entry legal (subst (λ n. MayCome (tree_after first history) n entry) (sym (zero_more (length history))) may)
-  where
-    zero_more : (n : ℕ) → 0 + n ≡ n
-    zero_more n = omega arith
+IsLegal-push first history entry legal may = legal_push first 0 history entry legal (subst (λ n. MayCome (tree_after first history) n entry) (sym (zero_plus (length history))) may)
 
 -- a row that comes to all rows comes to those of its directory
 pub names_of-insert : (d e : ℕ) (name : List ℕ) (child : ℕ) (rows : FinMap key_cmp ℕ) → names_of d (insert rows (e, name) child) ≡ cond (nat_eq e d) (insert (names_of d rows) name child) (names_of d rows)
@@ -131,9 +125,6 @@ folded d stamp c (Moves p n q m child) tree lt =
     two : (rows : FinMap name_cmp ℕ) → fold with_change rows (filter (is_own_below d c) (goes ∷ comes ∷ [])) ≡ cond (nat_eq q d) (insert (cond (nat_eq p d) (remove rows n) rows) m child) (cond (nat_eq p d) (remove rows n) rows)
     two rows = fold_one d c rows goes (comes ∷ []) lt ∙ fold_one d c (cond (nat_eq p d) (remove rows n) rows) comes [] lt
 
-not_below : (a b : ℕ) → b ≤ a → nat_lt a b ≡ false
-not_below a b le = elim (nat_lt a b) as (λ t. nat_lt a b ≡ t → t ≡ false) [ true ↦ λ e. absurd (let lt = ltb-true _ _ e in omega arith) | false ↦ λ _. refl ] refl
-
 -- a change that does not lie below a stamp is not folded in
 drop_one : (d c : ℕ) (change : RowChange) (changes : List RowChange) → c ≤ change.stamp → filter (is_own_below d c) (change ∷ changes) ≡ filter (is_own_below d c) changes
 drop_one d c change changes le = ap (λ b. cond (b && nat_eq change.directory d) (change ∷ filter (is_own_below d c) changes) (filter (is_own_below d c) changes)) (not_below change.stamp c le)
@@ -165,10 +156,6 @@ all_dropped d c stamp first (e ∷ history) le legal =
     ∙ ap (λ l. l ++ filter (is_own_below d c) (changes_of (tree_after_entry first e) history)) (dropped d c e.stamp.0 (verdict first e.core.0 e.call).effect first (subst (λ n. c ≤ n) (sym legal.0.stamped) le))
     ∙ all_dropped d c (suc stamp) (tree_after_entry first e) history (omega arith) legal.1
 
-take_none : (h : List Entry) → take 0 h ≡ []
-take_none [] = refl
-take_none (x ∷ h) = refl
-
 rows_from_stamp : (d c stamp k : ℕ) (first : TreeState) (history : List Entry) → stamp + k ≡ c → IsLegalFrom first stamp history → fold with_change (names_of d first.rows) (filter (is_own_below d c) (changes_of first history)) ≡ names_of d (tree_after first (take k history)).rows
 rows_from_stamp d c stamp zero first history e legal =
     ap (fold with_change (names_of d first.rows)) (all_dropped d c stamp first history (omega arith) legal)
@@ -182,7 +169,4 @@ rows_from_stamp d c stamp (suc k) first (entry ∷ history) e legal =
 
 -- the rows of a directory at a stamp are those of the tree after the entries below it
 pub rows_at-tree_after : (first : TreeState) (history : List Entry) (d c : ℕ) → IsLegal first history → rows_at first history d c ≡ names_of d (tree_after first (take c history)).rows
-rows_at-tree_after first history d c legal = rows_from_stamp d c 0 c first history (zero_more c) legal
-  where
-    zero_more : (n : ℕ) → 0 + n ≡ n
-    zero_more n = omega arith
+rows_at-tree_after first history d c legal = rows_from_stamp d c 0 c first history (zero_plus c) legal

@@ -14,6 +14,7 @@ use Rattle.sfs_base.specs.Name.{bucket}
 use Rattle.sfs_tree.specs.Order.{name_cmp, Key, key_cmp}
 use Rattle.std.specs.Option.{option_or}
 use Rattle.sfs_tree.specs.Buckets.{Bucket, bucket_at, in_directory, rows_from, joined, IsPlaced}
+use Rattle.sfs_base.proofs.BasicOptions.{none_there, or_none}
 
 pub key_cmp_total : IsTotalOrder key_cmp
 key_cmp_total = then_total (on_total (λ (k : Key). k.0) nat_cmp_total) (on_total (λ (k : Key). k.1) nat_list_cmp_total)
@@ -90,10 +91,6 @@ find-in_directory place d n (e ∷ es) =
     ∙ ap (λ r. cond (cond (nat_eq d place) (eq_by_cmp name_cmp n e.0) false) (Some e.1) r) (find-in_directory place d n es)
     ∙ elim (nat_eq d place) as (λ b. cond (cond b (eq_by_cmp name_cmp n e.0) false) (Some e.1) (cond b (find name_cmp n es) None) ≡ cond b (cond (eq_by_cmp name_cmp n e.0) (Some e.1) (find name_cmp n es)) None) [ true ↦ refl | false ↦ refl ]
 
-pub none_there : {X : Type 0} (o : Option X) → (IsSome o → ⊥) → o ≡ None
-none_there (Some x) h = absurd (h refl)
-none_there None h = refl
-
 -- a name is found in its own bucket alone
 elsewhere : (m : Bucket) (place d : ℕ) (n : List ℕ) → (IsSome (get m n) → bucket n ≡ place % 8) → 8 * d + bucket n ≢ place → cond (nat_eq d (place / 8)) (find name_cmp n (entries m)) None ≡ None
 elsewhere m place d n placed other =
@@ -106,10 +103,6 @@ here : (m : Bucket) (place d : ℕ) (n : List ℕ) → 8 * d + bucket n ≡ plac
 here m place d n e small =
     let d_is : d ≡ place / 8 = omega arith in
     ap (λ b. cond b (find name_cmp n (entries m)) None) (eq-eqb d (place / 8) d_is) ∙ sym (get-entries m n)
-
-either_None : {X : Type 0} (o : Option X) → option_or o None ≡ o
-either_None (Some x) = refl
-either_None None = refl
 
 pub bucket_small : (n : List ℕ) → bucket n < 8
 bucket_small n = omega arith
@@ -138,7 +131,7 @@ find_from place (m ∷ ms) d n zero h e =
     find-append key_cmp (d, n) (map (in_directory (place / 8)) (entries m)) (rows_from (suc place) ms)
     ∙ ap (λ o. option_or o (find key_cmp (d, n) (rows_from (suc place) ms))) (find-in_directory (place / 8) d n (entries m) ∙ here m place d n (omega arith) (bucket_small n))
     ∙ ap (option_or (get m n)) (find_before (suc place) ms d n (placed_tail place m ms h) (omega arith))
-    ∙ either_None (get m n)
+    ∙ or_none (get m n)
 find_from place (m ∷ ms) d n (suc k) h e =
     find-append key_cmp (d, n) (map (in_directory (place / 8)) (entries m)) (rows_from (suc place) ms)
     ∙ ap (λ o. option_or o (find key_cmp (d, n) (rows_from (suc place) ms))) (find-in_directory (place / 8) d n (entries m) ∙ elsewhere m place d n (λ some. let b = h zero n some in omega arith) (omega arith))

@@ -1,5 +1,5 @@
 -- A row that goes from its bucket, or gets another child there.
-use Rattle.std.proofs.Common.{◌≡◌, ℕ, ◌+◌, ◌-◌, ◌*◌, ◌/◌, ◌%◌, ◌<◌, ◌≤◌, Bool, true, false, cond, List, length, set, Option, Some, None, is_some, IsSome, ltb, refl, sym, ap, subst, ◌∙◌, arith, nat_eq}
+use Rattle.std.proofs.Common.{◌≡◌, ℕ, ◌+◌, ◌-◌, ◌*◌, ◌/◌, ◌%◌, ◌<◌, ◌≤◌, Bool, true, false, cond, List, length, set, Option, Some, None, IsSome, ltb, refl, sym, ap, subst, ◌∙◌, arith, nat_eq}
 use Rattle.std.specs.Ordering.{eq_by_cmp}
 use Rattle.std.specs.Cmp.Lexicographic.{nat_list_cmp_total}
 use Rattle.std.specs.FinMap.{empty, get, insert, remove, len, get-insert, get-remove, get-empty, len-insert, len-remove, contains_key}
@@ -10,6 +10,7 @@ use Rattle.sfs_tree.specs.Order.{name_cmp, Key, key_cmp}
 use Rattle.sfs_tree.specs.Buckets.{Bucket, bucket_at, joined, IsPlaced, IsBuilt}
 use Rattle.sfs_tree.proofs.Joined.{key_cmp_total, name_cmp-IsAntisymmetric, is_equal, same_key, other_key, bucket_small, bucket_at_set, get-joined, len-joined}
 use Rattle.sfs_tree.proofs.Counting.{same_rows}
+use Rattle.sfs_base.proofs.BasicOptions.{none_not_some, some_true}
 
 module _ (ms : List Bucket) (d : ℕ) (name : List ℕ) (v : Option ℕ) (new : Bucket) (h : IsPlaced ms) (lt : 8 * d + bucket name < length ms) (is : (other : List ℕ) → get new other ≡ cond (eq_by_cmp name_cmp other name) v (get (bucket_at ms (8 * d + bucket name)) other)) (short : len new ≤ 4096) where
   -- names stay in their buckets where one bucket changes at a name of its own
@@ -59,16 +60,13 @@ module _ (ms : List Bucket) (d : ℕ) (name : List ℕ) (v : Option ℕ) (new : 
             | false ↦ λ t. sym old ∙ ap (λ b. cond b v (get (joined ms) (e, other))) (sym (other_key (e, other) (d, name) (λ same. eqb-false _ _ t (ap (λ (k : Key). 8 * k.0 + bucket k.1) same))))
           ] refl
 
-some_none : {X : Type 0} (o : Option X) → o ≡ None → IsSome o → ⊥
-some_none o none some = cc
-
 module _ (ms : List Bucket) (d : ℕ) (name : List ℕ) (h : IsPlaced ms) (some : IsSome (get (joined ms) (d, name))) where
-  -- a row that is there lies in a bucket that is there
+  -- a row that is some_true lies in a bucket that is some_true
   pub row_within : 8 * d + bucket name < length ms
   row_within =
       elim (ltb (8 * d + bucket name) (length ms)) as (λ b. ltb (8 * d + bucket name) (length ms) ≡ b → 8 * d + bucket name < length ms) [
         | true ↦ λ t. ltb-true _ _ t
-        | false ↦ λ t. absurd (some_none _ (get-joined ms d name h ∙ ap (λ m. get m name) (get_or_past ms (8 * d + bucket name) empty (ltb-false _ _ t)) ∙ get-empty name_cmp name) some)
+        | false ↦ λ t. absurd (none_not_some _ (get-joined ms d name h ∙ ap (λ m. get m name) (get_or_past ms (8 * d + bucket name) empty (ltb-false _ _ t)) ∙ get-empty name_cmp name) some)
       ] refl
 
   pub row_there : IsSome (get (bucket_at ms (8 * d + bucket name)) name)
@@ -94,11 +92,7 @@ module _ (ms : List Bucket) (d : ℕ) (name : List ℕ) (h : IsPlaced ms) (some 
   module _ (x : ℕ) where
     short_replaced : len (insert (bucket_at ms (8 * d + bucket name)) name x) ≤ 4096
     short_replaced =
-        subst (λ n. n ≤ 4096) (sym (len-insert nat_list_cmp_total (bucket_at ms (8 * d + bucket name)) name x ∙ ap (λ b. cond b (len (bucket_at ms (8 * d + bucket name))) (len (bucket_at ms (8 * d + bucket name)) + 1)) (there _ row_there))) (h.full (8 * d + bucket name))
-      where
-        there : (o : Option ℕ) → IsSome o → is_some o ≡ true
-        there (Some y) s = refl
-        there None s = s
+        subst (λ n. n ≤ 4096) (sym (len-insert nat_list_cmp_total (bucket_at ms (8 * d + bucket name)) name x ∙ ap (λ b. cond b (len (bucket_at ms (8 * d + bucket name))) (len (bucket_at ms (8 * d + bucket name)) + 1)) (some_true _ row_there))) (h.full (8 * d + bucket name))
 
     pub IsPlaced-replaced : IsPlaced (set ms (8 * d + bucket name) (insert (bucket_at ms (8 * d + bucket name)) name x))
     IsPlaced-replaced = IsPlaced-changed ms d name (Some x) _ h row_within (get-insert nat_list_cmp_total (bucket_at ms (8 * d + bucket name)) name x) short_replaced

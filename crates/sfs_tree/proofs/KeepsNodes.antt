@@ -1,5 +1,5 @@
 -- Nodes that are made, and bytes that change, keep a tree sound and its nodes numbered.
-use Rattle.std.proofs.Common.{◌≡◌, ◌≢◌, ℕ, true, false, cond, List, Option, Some, None, IsSome, ◌⊎◌, inl, inr, refl, sym, ap, subst, ◌∙◌, nat_eq}
+use Rattle.std.proofs.Common.{◌≡◌, ◌≢◌, ℕ, true, false, cond, List, Some, None, IsSome, ◌⊎◌, inl, inr, refl, sym, ap, subst, ◌∙◌, nat_eq}
 use borrow.Author.Tests.{eqb-true, eqb-false}
 use Rattle.std.specs.Option.{option_map_or}
 use Rattle.std.specs.Ordering.{nat_cmp}
@@ -9,6 +9,7 @@ use Rattle.sfs_tree.specs.Tree.{TreeState, Node, is_directory, is_directory_kind
 use Rattle.sfs_tree.specs.Effect.{Edit, edited, with_edit}
 use Rattle.sfs_tree.specs.Sound.{IsSound}
 use Rattle.sfs_tree.proofs.KeepsSound.{above_up}
+use Rattle.sfs_base.proofs.BasicOptions.{none_not_some}
 
 -- what is found once a node came: it, or what was there
 pub node_cases : (nodes : FinMap nat_cmp Node) (k : ℕ) (v : Node) (x : ℕ) → ((x ≡ k) × (get (insert nodes k v) x ≡ Some v)) ⊎ ((x ≢ k) × (get (insert nodes k v) x ≡ get nodes x))
@@ -58,12 +59,9 @@ KeepKinds-new tree number node made fresh = record {
   kind = λ x some. kind_at tree _ made x (same x some);
 }
   where
-    none_some : (o : Option Node) → o ≡ None → IsSome o → ⊥
-    none_some o none some = cc
-
     same : (x : ℕ) → IsSome (get tree.nodes x) → get (insert tree.nodes number node) x ≡ get tree.nodes x
     same x some = elim (node_cases tree.nodes number node x) [
-      | inl new ↦ absurd (none_some _ fresh (subst (λ (y : ℕ). IsSome (get tree.nodes y)) new.0 some))
+      | inl new ↦ absurd (none_not_some _ fresh (subst (λ (y : ℕ). IsSome (get tree.nodes y)) new.0 some))
       | inr old ↦ old.1
     ]
 

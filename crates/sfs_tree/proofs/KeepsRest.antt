@@ -1,12 +1,12 @@
 -- What a call does not touch it keeps.
-use Rattle.std.proofs.Common.{◌≡◌, ◌≢◌, ℕ, ◌+◌, ◌-◌, Bool, true, false, cond, ◌||◌, List, Option, Some, None, IsSome, inl, inr, refl, sym, ap, ap₂, ◌∙◌, nat_eq}
+use Rattle.std.proofs.Common.{◌≡◌, ◌≢◌, ℕ, ◌+◌, ◌-◌, Bool, true, false, cond, List, Option, Some, None, IsSome, inl, inr, refl, sym, ap, ap₂, ◌∙◌, nat_eq}
 use borrow.Author.Tests.{eqb-true}
 use Rattle.std.specs.FinMap.{FinMap, get, insert, remove}
 use Rattle.sfs_base.specs.declared.numbers.Kind.{Kind}
 use Rattle.sfs_tree.specs.declared.call.Call.{Call}
 use Rattle.sfs_tree.specs.declared.call.Call.TheVariants as call
 use Rattle.sfs_tree.specs.Order.{name_cmp}
-use Rattle.sfs_tree.specs.Tree.{TreeState, Node, row_of, names_where, bytes_of, count_of, kind_of, made_by, next_number}
+use Rattle.sfs_tree.specs.Tree.{TreeState, row_of, names_where, bytes_of, count_of, kind_of, made_by, next_number}
 use Rattle.sfs_tree.specs.Effect.{Effect, Stays, Adds, Removes, Moves, Edits, Puts, Resizes, edited}
 use Rattle.sfs_tree.specs.Verdict.{verdict}
 use Rattle.sfs_tree.specs.Fits.{Fits}
@@ -16,14 +16,8 @@ use Rattle.sfs_tree.specs.Laws.{CallsKeepTheRest}
 use Rattle.sfs_tree.proofs.OwnEffects.{does_its_own, of_one, of_child, of_what_it_does}
 use Rattle.sfs_tree.proofs.Parts.{parts_after, nodes_after, counts_after}
 use Rattle.sfs_tree.proofs.SoundTrees.{calls_fit}
-
-first_false : (a b : Bool) → (a || b) ≡ false → a ≡ false
-first_false true b e = cc
-first_false false b e = refl
-
-second_false : (a b : Bool) → (a || b) ≡ false → b ≡ false
-second_false true b e = cc
-second_false false b e = e
+use Rattle.sfs_base.proofs.BasicTruth.{or_first, or_second}
+use Rattle.sfs_base.proofs.BasicOptions.{some_is_no_none}
 
 module _ (tree : TreeState) (core : ℕ) where
   keeps_part : (c : Call) (directory : ℕ) (test : List ℕ → Bool) (rows : FinMap name_cmp ℕ) → touches_part c directory test ≡ false → (effect : Effect) → own_effect tree core c ≡ Some effect → part_after directory test effect rows ≡ rows
@@ -44,7 +38,7 @@ module _ (tree : TreeState) (core : ℕ) where
       of_child (λ e. part_after at test e rows ≡ rows) (Removes d.0 n) (row_of tree d.0 n) effect own (λ x e. ap (λ b. cond b (remove rows n) rows) apart)
   keeps_part (call.Rename d n q m) at test rows apart effect own =
       of_child (λ e. part_after at test e rows ≡ rows) (Moves d.0 n q.0 m) (row_of tree d.0 n) effect own (λ x e.
-      ap₂ (λ a b. cond b (insert (cond a (remove rows n) rows) m x) (cond a (remove rows n) rows)) (first_false _ _ apart) (second_false _ _ apart))
+      ap₂ (λ a b. cond b (insert (cond a (remove rows n) rows) m x) (cond a (remove rows n) rows)) (or_first _ _ apart) (or_second _ _ apart))
 
   keeps_bytes : (c : Call) (node : ℕ) (bytes : List ℕ) → touches_bytes c node ≡ false → (effect : Effect) → own_effect tree core c ≡ Some effect → bytes_after effect node bytes ≡ bytes
   keeps_bytes (call.Look d n) node bytes apart effect own = cc
@@ -90,12 +84,9 @@ keeps_kind tree core (Moves p n q m c) (Some kind) node f some = absurd f
 keeps_kind tree core (Edits file edit) (Some kind) node f some = absurd f
 keeps_kind tree core (Adds d n c) (Some kind) node f some =
     elim (nat_eq node (next_number tree core)) as (λ b. nat_eq node (next_number tree core) ≡ b → cond b kind (kind_of tree node) ≡ kind_of tree node) [
-      | true ↦ λ t. absurd (no_node some (ap (get tree.nodes) (eqb-true _ _ t ∙ sym f.number) ∙ f.fresh))
+      | true ↦ λ t. absurd (some_is_no_none some (ap (get tree.nodes) (eqb-true _ _ t ∙ sym f.number) ∙ f.fresh))
       | false ↦ λ t. refl
     ] refl
-  where
-    no_node : {o : Option Node} → IsSome o → o ≡ None → ⊥
-    no_node some none = cc
 
 keeps_others : (tree : TreeState) (core : ℕ) (makes : Option Kind) (other : ℕ) → other ≢ core → count_after tree core makes other ≡ made_by tree other
 keeps_others tree core None other apart = refl

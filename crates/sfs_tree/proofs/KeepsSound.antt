@@ -1,5 +1,5 @@
 -- What fits a sound tree keeps it sound.
-use Rattle.std.proofs.Common.{◌≡◌, ◌≢◌, ℕ, Bool, true, false, List, [], ◌∷◌, Some, IsSome, inl, inr, sym, ap, subst, ◌∙◌}
+use Rattle.std.proofs.Common.{◌≡◌, ◌≢◌, ℕ, true, List, [], ◌∷◌, Some, IsSome, inl, inr, sym, ap, subst, ◌∙◌}
 use Rattle.std.specs.FinMap.{FinMap, get, insert, remove}
 use Rattle.sfs_tree.specs.Order.{key_cmp}
 use Rattle.sfs_tree.specs.Tree.{TreeState, row_of, is_alive, is_directory}
@@ -29,9 +29,6 @@ alive_up tree next up node alive = elim (alive_named tree node alive) [
   | inl root ↦ root_alive next node root
   | inr named ↦ named_alive next node (record { directory = named.directory; name = named.name; row = up named.directory named.name node named.row })
 ]
-
-no_directory : (b : Bool) → b ≡ true → b ≡ false → ⊥
-no_directory b t f = cc
 
 -- a row that comes
 module _ (tree : TreeState) (s : IsSound tree) (e : ℕ) (m : List ℕ) (c : ℕ) (f : FitsAdds tree e m c) where

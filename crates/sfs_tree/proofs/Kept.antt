@@ -12,6 +12,7 @@ use Rattle.sfs_tree.specs.Laws.{FittingKeepsSound}
 use Rattle.sfs_tree.proofs.KeepsSound.{IsSound-adds, IsSound-removes}
 use Rattle.sfs_tree.proofs.KeepsMoves.{IsSound-moves}
 use Rattle.sfs_tree.proofs.KeepsNodes.{with_nodes, KeepKinds, KeepKinds-new, KeepKinds-edit, IsSound-nodes, node_cases, directory_node}
+use Rattle.sfs_base.proofs.BasicOptions.{some_is_no_none}
 
 pub IsSound-kept : (tree : TreeState) (core : ℕ) (effect : Effect) (makes : Option Kind) → IsSound tree → Fits tree core effect makes → IsSound (tree_with tree core effect makes)
 IsSound-kept tree core Stays None s f = s
@@ -27,8 +28,8 @@ IsSound-kept tree core (Adds d n c) (Some kind) s f =
     IsSound-adds next sound d n c (record {
       holder = record { kind = keep.kind d (directory_node tree d f.holder.kind) ∙ f.holder.kind; alive = f.holder.alive };
       free = f.free;
-      no_root = λ root. no_node (directory_node tree 0 s.root) (ap (get tree.nodes) (sym root) ∙ f.fresh);
-      placeless = λ k e m row. no_node (s.node e m c row) f.fresh;
+      no_root = λ root. some_is_no_none (directory_node tree 0 s.root) (ap (get tree.nodes) (sym root) ∙ f.fresh);
+      placeless = λ k e m row. some_is_no_none (s.node e m c row) f.fresh;
       node = elim (node_cases tree.nodes (next_number tree core) (record { kind = kind; bytes = [] }) c) [
         | inl here ↦ subst IsSome (sym here.1) refl
         | inr other ↦ absurd (other.0 f.number)
@@ -43,9 +44,6 @@ IsSound-kept tree core (Adds d n c) (Some kind) s f =
 
     sound : IsSound next
     sound = IsSound-nodes tree _ _ s keep
-
-    no_node : {o : Option Node} → IsSome o → o ≡ None → ⊥
-    no_node some none = cc
 
 -- numbers that are known stay known where the nodes that are there keep their numbers and no core has made fewer
 module _ (tree next : TreeState) (same_first : next.first ≡ tree.first) (same_share : next.share ≡ tree.share) (as_long : length tree.made ≡ length next.made) where

@@ -17,6 +17,8 @@ pub mod KeepsNodes
 pub mod KeepsRest
 pub mod KeepsSound
 pub mod Kept
+pub mod Limits
+pub mod Logs
 pub mod Merged
 pub mod Moved
 pub mod Names

@@ -10,7 +10,11 @@ use Rattle.std.specs.FinMap.Entries.{below_all}
 use Rattle.sfs_tree.specs.Order.{name_cmp}
 use Rattle.sfs_tree.specs.NameRow.{both_lists, put_among}
 use Rattle.std.specs.Option.{option_or}
-use Rattle.sfs_tree.proofs.Search.{both_first, both_second, both_of, is_less, below_if_less}
+use Rattle.sfs_tree.proofs.Search.{is_less, below_if_less}
+use Rattle.sfs_base.proofs.BasicTruth.{both_of}
+use Rattle.sfs_base.proofs.BasicTruth.{both_second}
+use Rattle.sfs_base.proofs.BasicTruth.{both_first}
+use Rattle.sfs_base.proofs.BasicTruth.{not_both}
 
 -- no list has nothing to add
 pub both_lists-none : (rows : List (List ℕ × ℕ)) → both_lists rows [] ≡ rows
@@ -48,13 +52,10 @@ find_first name row rows follow h others apart =
     ap (cond (eq_by_cmp name_cmp name row.0) (Some row.1)) (h others (apart_tail row rows others apart))
     ∙ elim (eq_by_cmp name_cmp name row.0) as (λ b. cond b (Some row.1) (option_or (find name_cmp name rows) (find name_cmp name others)) ≡ option_or (cond b (Some row.1) (find name_cmp name rows)) (find name_cmp name others)) [ true ↦ refl | false ↦ refl ]
 
-differ : {b : Bool} → b ≡ true → b ≡ false → ⊥
-differ p q = cc
-
 not_among : (name : List ℕ) (rows : List (List ℕ × ℕ)) (other : List ℕ × ℕ) (others : List (List ℕ × ℕ)) → Apart rows (other ∷ others) → eq_by_cmp name_cmp name other.0 ≡ true → find name_cmp name rows ≡ None
 not_among name rows other others apart t =
     elim (find name_cmp name rows) as (λ o. find name_cmp name rows ≡ o → o ≡ None) [
-      | Some x ↦ λ e. absurd (differ t (none_head other others name (apart name (subst IsSome (sym e) refl))))
+      | Some x ↦ λ e. absurd (not_both t (none_head other others name (apart name (subst IsSome (sym e) refl))))
       | None ↦ λ e. refl
     ] refl
 

@@ -15,6 +15,7 @@ use Rattle.sfs_tree.proofs.Joined.{key_cmp_total, key_cmp-IsAntisymmetric, is_eq
 use Rattle.sfs_tree.proofs.Counted.{MayRise-counted}
 use Rattle.sfs_tree.proofs.Counting.{same_rows, other_than, get_other-insert, count-remove, len_less, found, Found, found_none}
 use Rattle.sfs_tree.proofs.StoreKept.{IsStored-removed, rows_small}
+use Rattle.sfs_base.proofs.BasicOptions.{none_some, some_same}
 
 -- a row that comes and another one that goes, in either order
 pub swapped : (rows : FinMap key_cmp ℕ) (k to : Key) (x : ℕ) → k ≢ to → remove (insert rows to x) k ≡ insert (remove rows k) to x
@@ -41,19 +42,13 @@ replaced rows k to x =
     either_way true b o = refl
     either_way false b o = refl
 
-none_some : {X : Type 0} {x : X} → ◌≡◌ {A = Option X} None (Some x) → ⊥
-none_some e = cc
-
-some_is : {x y : ℕ} → ◌≡◌ {A = Option ℕ} (Some x) (Some y) → x ≡ y
-some_is e = cc
-
 -- a row that is there and one that is not are two
 pub apart : (rows : FinMap key_cmp ℕ) (k to : Key) (x : ℕ) → get rows k ≡ Some x → get rows to ≡ None → k ≢ to
 apart rows k to x some none same = absurd (none_some (sym none ∙ ap (get rows) (sym same) ∙ some))
 
 -- rows of two children are two
 pub apart_by_child : (rows : FinMap key_cmp ℕ) (k to : Key) (x y : ℕ) → get rows k ≡ Some x → get rows to ≡ Some y → x ≢ y → k ≢ to
-apart_by_child rows k to x y some there differ same = absurd (differ (some_is (sym some ∙ ap (get rows) same ∙ there)))
+apart_by_child rows k to x y some there differ same = absurd (differ (some_same (sym some ∙ ap (get rows) same ∙ there)))
 
 pub still_some : (rows : FinMap key_cmp ℕ) (k to : Key) (x y : ℕ) → get rows k ≡ Some x → k ≢ to → IsSome (get (insert rows to y) k)
 still_some rows k to x y some differ = subst IsSome (sym (get_other-insert rows to k y differ ∙ some)) refl

@@ -1,5 +1,5 @@
 -- The rows of one directory, taken from all rows.
-use Rattle.std.proofs.Common.{◌≡◌, ◌≢◌, ℕ, suc, ◌+◌, ◌*◌, ◌<◌, ◌≤◌, Bool, true, false, cond, T, ◌&&◌, List, [], ◌∷◌, length, Option, Some, None, IsSome, refl, sym, ap, subst, ◌∙◌, arith, count_by, nat_eq, nat_lt}
+use Rattle.std.proofs.Common.{◌≡◌, ◌≢◌, ℕ, suc, ◌+◌, ◌*◌, ◌<◌, Bool, true, false, cond, T, ◌&&◌, List, [], ◌∷◌, length, Option, Some, None, IsSome, refl, sym, ap, subst, ◌∙◌, arith, count_by, nat_eq, nat_lt}
 use borrow.Author.Tests.{eqb-true, eq-eqb, eqb-false, ltb-true, ltb-false, lt-ltb}
 use Rattle.std.specs.Prelude.{filter_map}
 use Rattle.std.specs.List.{cons_option}
@@ -13,19 +13,10 @@ use Rattle.sfs_tree.specs.Order.{name_cmp, Key, key_cmp}
 use Rattle.std.specs.Option.{option_or}
 use Rattle.sfs_tree.specs.Tree.{name_row, names_where, names_of, bucket_rows}
 use Rattle.sfs_tree.specs.Buckets.{Bucket, bucket_at, joined, stands_in, IsPlaced}
-use Rattle.sfs_tree.proofs.Joined.{same_key, name_cmp-IsAntisymmetric, is_equal, none_there, get-joined, bucket_small, count-cons}
-
-pub both_first : (a b : Bool) → T (a && b) → T a
-both_first true b p = tt
-both_first false b p = p
-
-pub both_second : (a b : Bool) → T (a && b) → T b
-both_second true b p = p
-both_second false b p = absurd p
-
-both_of : (a b : Bool) → T a → T b → T (a && b)
-both_of true b p q = q
-both_of false b p q = p
+use Rattle.sfs_tree.proofs.Joined.{same_key, name_cmp-IsAntisymmetric, is_equal, get-joined, bucket_small, count-cons}
+use Rattle.sfs_base.proofs.BasicOptions.{none_there}
+use Rattle.sfs_base.proofs.BasicTruth.{both_first, both_second, both_of, and_first, true_not_false}
+use Rattle.sfs_base.proofs.BasicNumbers.{not_below, less_not_same}
 
 -- in one directory, rows go by their names
 less_in_directory : (d : ℕ) (n m : List ℕ) → T (is_lt (key_cmp (d, n) (d, m))) → T (is_lt (name_cmp n m))
@@ -39,10 +30,6 @@ names_below d n test (e ∷ es) h =
       | true ↦ λ t. both_of _ _ (less_in_directory d n e.0.1 (subst (λ x. T (is_lt (key_cmp (d, n) (x, e.0.1)))) (eqb-true _ _ (and_first _ _ t)) (both_first _ _ h))) rest
       | false ↦ λ t. rest
     ] refl
-  where
-    and_first : (a b : Bool) → (a && b) ≡ true → a ≡ true
-    and_first true b e = refl
-    and_first false b e = e
 
 -- the rows of a directory ascend by their names
 pub names_sorted : (d : ℕ) (test : List ℕ → Bool) (es : List (Key × ℕ)) → T (is_sorted key_cmp es) → T (is_sorted name_cmp (filter_map (name_row d test) es))
@@ -53,10 +40,6 @@ names_sorted d test (e ∷ es) h =
       | true ↦ λ t. both_of _ _ (names_below d e.0.1 test es (subst (λ x. T (below_all key_cmp (x, e.0.1) es)) (eqb-true _ _ (and_first _ _ t)) (both_first _ _ h))) rest
       | false ↦ λ t. rest
     ] refl
-  where
-    and_first : (a b : Bool) → (a && b) ≡ true → a ≡ true
-    and_first true b e = refl
-    and_first false b e = e
 
 pub not_same : (x y : ℕ) → nat_eq x y ≡ false → nat_eq y x ≡ false
 not_same x y e = elim (nat_eq y x) as (λ b. nat_eq y x ≡ b → b ≡ false) [ true ↦ λ t. absurd (eqb-false _ _ e (sym (eqb-true _ _ t))) | false ↦ λ _. refl ] refl
@@ -147,9 +130,6 @@ next_bucket d number n rows =
         is_below : (a c : ℕ) → a < c → nat_lt a c ≡ true
         is_below a c lt = lt-ltb a c lt
 
-        not_below : (a c : ℕ) → c ≤ a → nat_lt a c ≡ false
-        not_below a c le = elim (nat_lt a c) as (λ t. nat_lt a c ≡ t → t ≡ false) [ true ↦ λ e. absurd (let lt = ltb-true _ _ e in omega arith) | false ↦ λ _. refl ] refl
-
         either_itself : (o : Option ℕ) → option_or o None ≡ o
         either_itself (Some x) = refl
         either_itself None = refl
@@ -165,18 +145,13 @@ next_bucket d number n rows =
 pub bucket_apart : (d number : ℕ) (n : List ℕ) (rows : FinMap key_cmp ℕ) → IsSome (get (bucket_rows d number rows) n) → cond (nat_lt (bucket n) number) (get rows (d, n)) None ≡ None
 bucket_apart d number n rows some =
     elim (nat_lt (bucket n) number) as (λ t. nat_lt (bucket n) number ≡ t → cond t (get rows (d, n)) None ≡ None) [
-      | true ↦ λ e. absurd (not_some (nat_eq (bucket n) number) (get rows (d, n)) (no (bucket n) number (ltb-true _ _ e)) (subst IsSome (get-names_where d (λ name. nat_eq (bucket name) number) rows n) some))
+      | true ↦ λ e. absurd (not_some (nat_eq (bucket n) number) (get rows (d, n)) (less_not_same (bucket n) number (ltb-true _ _ e)) (subst IsSome (get-names_where d (λ name. nat_eq (bucket name) number) rows n) some))
       | false ↦ λ _. refl
     ] refl
   where
-    no : (a c : ℕ) → a < c → nat_eq a c ≡ false
-    no a c lt = elim (nat_eq a c) as (λ t. nat_eq a c ≡ t → t ≡ false) [ true ↦ λ e. absurd (let same = eqb-true _ _ e in omega arith) | false ↦ λ _. refl ] refl
-
     not_some : (t : Bool) (o : Option ℕ) → t ≡ false → IsSome (cond t o None) → ⊥
-    not_some true o e some = absurd (true_false e)
-      where
-        true_false : true ≡ false → ⊥
-        true_false e = cc
+    not_some true o e some = absurd (true_not_false e)
+
     not_some false o e some = none_some some
       where
         none_some : IsSome {T = ℕ} None → ⊥

@@ -9,6 +9,8 @@ use Rattle.sfs_tree.specs.declared.nodes.NodeData.{NodeData}
 use Rattle.sfs_tree.specs.Tree.{Node}
 use Rattle.sfs_tree.specs.Effect.{Edit, edited, with_edit}
 use Rattle.sfs_tree.specs.Nodes.{node_of, nodes_from, numbered}
+use Rattle.sfs_base.proofs.BasicNumbers.{less_not_same}
+use Rattle.sfs_base.proofs.BasicOptions.{none_not_some, none_some}
 
 -- the node at a place
 pub node_at : List (Option NodeData) → ℕ → Option Node
@@ -18,11 +20,8 @@ find_lower : (number : ℕ) (nodes : List (Option NodeData)) (x : ℕ) → x < n
 find_lower number [] x lt = refl
 find_lower number (None ∷ nodes) x lt = find_lower (suc number) nodes x (omega arith)
 find_lower number (Some n ∷ nodes) x lt =
-    ap (λ b. cond b (Some (node_of n)) (find nat_cmp x (nodes_from (suc number) nodes))) (sym (unsigned_ties x number) ∙ other x number (omega arith))
+    ap (λ b. cond b (Some (node_of n)) (find nat_cmp x (nodes_from (suc number) nodes))) (sym (unsigned_ties x number) ∙ less_not_same x number (omega arith))
     ∙ find_lower (suc number) nodes x (omega arith)
-  where
-    other : (a b : ℕ) → a < b → nat_eq a b ≡ false
-    other a b lt = elim (nat_eq a b) as (λ t. nat_eq a b ≡ t → t ≡ false) [ true ↦ λ e. absurd (let same = eqb-true _ _ e in omega arith) | false ↦ λ _. refl ] refl
 
 find_nodes : (number : ℕ) (nodes : List (Option NodeData)) (k x : ℕ) → number + k ≡ x → find nat_cmp x (nodes_from number nodes) ≡ node_at nodes k
 unfolding node_at
@@ -69,15 +68,12 @@ pub numbered-push : (nodes : List (Option NodeData)) → numbered (nodes ++ None
 numbered-push nodes =
     same_map nat_cmp_total nat_cmp-IsAntisymmetric _ _ (λ y. get-numbered (nodes ++ None ∷ []) y ∙ ap (option_map node_of) (none_behind nodes y) ∙ sym (get-numbered nodes y))
 
-some_none : {X : Type 0} (o : Option X) → o ≡ None → IsSome o → ⊥
-some_none o none some = cc
-
 -- a node has a place
 pub numbered_within : (nodes : List (Option NodeData)) (x : ℕ) → IsSome (get (numbered nodes) x) → x < length nodes
 numbered_within nodes x some =
     elim (ltb x (length nodes)) as (λ b. ltb x (length nodes) ≡ b → x < length nodes) [
       | true ↦ λ t. ltb-true _ _ t
-      | false ↦ λ t. absurd (some_none _ (get-numbered nodes x ∙ ap (option_map node_of) (get_or_past nodes x None (ltb-false _ _ t))) some)
+      | false ↦ λ t. absurd (none_not_some _ (get-numbered nodes x ∙ ap (option_map node_of) (get_or_past nodes x None (ltb-false _ _ t))) some)
     ] refl
 
 -- to put a node that is there again changes nothing
@@ -90,9 +86,6 @@ put_same nodes k n is =
       | false ↦ λ t. refl
     ] refl)
 
-none_not_some : {X : Type 0} {x : X} → ◌≡◌ {A = Option X} None (Some x) → ⊥
-none_not_some e = cc
-
 -- a node that is there, as it is stored and as it is seen
 module _ (places : List (Option NodeData)) (k : ℕ) (n : NodeData) (at : get_or places k None ≡ Some n) where
   pub seen : get (numbered places) k ≡ Some (node_of n)
@@ -102,7 +95,7 @@ module _ (places : List (Option NodeData)) (k : ℕ) (n : NodeData) (at : get_or
   seen_within =
       elim (ltb k (length places)) as (λ b. ltb k (length places) ≡ b → k < length places) [
         | true ↦ λ t. ltb-true _ _ t
-        | false ↦ λ t. absurd (none_not_some (sym (get_or_past places k None (ltb-false _ _ t)) ∙ at))
+        | false ↦ λ t. absurd (none_some (sym (get_or_past places k None (ltb-false _ _ t)) ∙ at))
       ] refl
 
   pub numbered_same : (other : NodeData) → node_of other ≡ node_of n → numbered (set places k (Some other)) ≡ numbered places

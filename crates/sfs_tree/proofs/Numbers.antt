@@ -1,7 +1,7 @@
 -- The numbers of nodes: which are given, and that the next one is new.
 use Rattle.std.proofs.Common.{◌≡◌, ℕ, ◌+◌, ◌*◌, ◌<◌, ◌≤◌, length, slice_index, None, inl, inr, sym, ap, arith, lt_of_lt_of_le}
 use Rattle.std.proofs.lemmas.Nat.{mul-add-lt}
-use Rattle.sfs_tree.proofs.Joined.{none_there}
+use Rattle.sfs_base.proofs.BasicOptions.{none_there}
 use Rattle.std.specs.FinMap.{get}
 use Rattle.sfs_tree.specs.Tree.{TreeState, made_by, next_number}
 use Rattle.sfs_tree.specs.Sound.{IsNumbered}

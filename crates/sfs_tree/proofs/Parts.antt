@@ -14,10 +14,11 @@ use Rattle.sfs_tree.specs.Fits.{Fits, FitsMoves}
 use Rattle.sfs_tree.specs.Parts.{part_with, part_without, is_this, links_after, kind_after}
 use Rattle.sfs_tree.specs.Laws.{PartsAfter, NodesAfter, CountsAfter}
 use Rattle.sfs_tree.proofs.Joined.{key_cmp_total, key_cmp-IsAntisymmetric, same_key, name_cmp-IsAntisymmetric, is_equal, count-insert}
-use Rattle.sfs_tree.proofs.Names.{get-names_where, not_same}
+use Rattle.sfs_tree.proofs.Names.{get-names_where}
 use Rattle.sfs_tree.proofs.RowFacts.{removed_other}
 use Rattle.sfs_tree.proofs.KeepsNodes.{node_cases}
 use Rattle.sfs_tree.proofs.FileHistories.{bytes_with}
+use Rattle.sfs_base.proofs.BasicNumbers.{turned, not_same}
 
 -- what a part has at a name, once there is a row more: it is there, or not in the part, or another
 part_cases : (same_directory same_name mine passes : Bool) (child : Option ℕ) (there : Option ℕ) → (same_name ≡ true → passes ≡ mine) → cond mine (cond (cond same_directory same_name false) child there) None ≡ cond (same_directory && passes) (cond same_name child (cond mine there None)) (cond mine there None)
@@ -41,9 +42,6 @@ names_where-insert d test e name child rows =
       | true ↦ ap (cond (eq_by_cmp name_cmp n name) (Some child)) (sym (get-names_where d test rows n)) ∙ sym (get-insert nat_list_cmp_total (names_where d test rows) name child n)
       | false ↦ sym (get-names_where d test rows n)
     ])
-  where
-    turned : (a b : ℕ) → nat_eq a b ≡ nat_eq b a
-    turned a b = elim (nat_eq a b) as (λ t. nat_eq a b ≡ t → t ≡ nat_eq b a) [ true ↦ λ t. sym (eq-eqb b a (sym (eqb-true _ _ t))) | false ↦ λ t. sym (not_same a b t) ] refl
 
 -- a row that goes from all rows goes from the part that it is in
 names_where-remove : (d : ℕ) (test : List ℕ → Bool) (e : ℕ) (name : List ℕ) (rows : FinMap key_cmp ℕ) → names_where d test (remove rows (e, name)) ≡ part_without d test e name (names_where d test rows)
@@ -56,9 +54,6 @@ names_where-remove d test e name rows =
       | true ↦ ap (cond (eq_by_cmp name_cmp n name) None) (sym (get-names_where d test rows n)) ∙ sym (get-remove nat_list_cmp_total (names_where d test rows) name n)
       | false ↦ sym (get-names_where d test rows n)
     ])
-  where
-    turned : (a b : ℕ) → nat_eq a b ≡ nat_eq b a
-    turned a b = elim (nat_eq a b) as (λ t. nat_eq a b ≡ t → t ≡ nat_eq b a) [ true ↦ λ t. sym (eq-eqb b a (sym (eqb-true _ _ t))) | false ↦ λ t. sym (not_same a b t) ] refl
 
 pub parts_after : PartsAfter
 parts_after tree core Stays makes d test = refl
@@ -133,9 +128,6 @@ links_left tree core (Removes d n c) (Some kind) node f = absurd f
 links_left tree core (Moves p n q m c) None node f = links_moved tree node p n q m c f (row_of tree q m) refl
 links_left tree core (Moves p n q m c) (Some kind) node f = absurd f
 
-differ : (a b : ℕ) → (a ≡ b → ⊥) → nat_eq a b ≡ false
-differ a b other = elim (nat_eq a b) as (λ t. nat_eq a b ≡ t → t ≡ false) [ true ↦ λ e. absurd (other (eqb-true _ _ e)) | false ↦ λ _. refl ] refl
-
 kind_left : (tree : TreeState) (core : ℕ) (effect : Effect) (makes : Option Kind) (node : ℕ) → Fits tree core effect makes → kind_of (tree_with tree core effect makes) node ≡ kind_after tree core makes node
 kind_left tree core Stays None node f = refl
 kind_left tree core (Adds d n c) None node f = refl
@@ -156,7 +148,7 @@ kind_left tree core (Edits file edit) None node f =
 kind_left tree core (Adds d n c) (Some kind) node f =
     elim (node_cases tree.nodes (next_number tree core) (record { kind = kind; bytes = [] }) node) [
       | inl here ↦ ap (λ (o : Option Node). option_map_or (λ (n : Node). n.kind) o File) here.1 ∙ sym (ap (λ b. cond b kind (kind_of tree node)) (eq-eqb _ _ here.0))
-      | inr other ↦ ap (λ (o : Option Node). option_map_or (λ (n : Node). n.kind) o File) other.1 ∙ sym (ap (λ b. cond b kind (kind_of tree node)) (differ _ _ other.0))
+      | inr other ↦ ap (λ (o : Option Node). option_map_or (λ (n : Node). n.kind) o File) other.1 ∙ sym (ap (λ b. cond b kind (kind_of tree node)) (not_same _ _ other.0))
     ]
 
 pub nodes_after : NodesAfter

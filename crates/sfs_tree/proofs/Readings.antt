@@ -1,5 +1,5 @@
 -- Trees that agree on what a call reads have one verdict.
-use Rattle.std.proofs.Common.{◌≡◌, ℕ, ◌+◌, ◌*◌, Bool, true, false, cond, not, ◌||◌, ◌&&◌, T, List, [], ◌∷◌, map, length, take, drop, Option, Some, None, is_some, refl, sym, ap, ap₂, subst, ◌∙◌, arith, count_by, filter_map, nat_eq, nat_le}
+use Rattle.std.proofs.Common.{◌≡◌, ℕ, ◌+◌, ◌*◌, Bool, true, false, cond, not, ◌||◌, ◌&&◌, T, List, [], ◌∷◌, map, length, take, drop, Option, Some, None, is_some, refl, sym, ap, ap₂, subst, ◌∙◌, count_by, filter_map, nat_eq, nat_le}
 use borrow.Author.Tests.{eqb-true, eqb-false}
 use Rattle.std.specs.Option.{option_map_or, option_or}
 use Rattle.std.specs.List.{cons_option}
@@ -15,15 +15,20 @@ use Rattle.sfs_tree.specs.declared.reply.Code.TheVariants.{NoEntry, NotDir, IsDi
 use Rattle.sfs_tree.specs.declared.reply.Reply.TheVariants as reply
 use Rattle.sfs_tree.specs.Order.{Key, name_cmp}
 use Rattle.sfs_tree.specs.Names.{with_kinds}
-use Rattle.sfs_tree.specs.Tree.{TreeState, Node, row_of, is_alive, is_directory, is_directory_kind, kind_of, bytes_of, count_of, row_count, links_of, lies_below, names_of, made_by, next_number, holds_directory, name_row}
+use Rattle.sfs_tree.specs.Tree.{BUCKET_ROWS, TreeState, Node, row_of, is_alive, is_directory, is_directory_kind, kind_of, bytes_of, count_of, row_count, links_of, lies_below, names_of, made_by, next_number, holds_directory, name_row}
 use Rattle.sfs_tree.specs.Effect.{Adds, Removes, Moves}
-use Rattle.sfs_tree.specs.Verdict.{BUCKET_ROWS, MOST_LINKS, Verdict, refused, answered, done, or_else, directory_fault, file_fault, node_fault, size_of, is_full, make_fault, link_fault, unlink_row, rmdir_row, place_fault, names_child, move_row, look_row, write_bytes, trunc_file}
+use Rattle.sfs_tree.specs.Verdict.{MOST_LINKS, Verdict, refused, answered, done, or_else, directory_fault, file_fault, node_fault, size_of, is_full, make_fault, link_fault, unlink_row, rmdir_row, place_fault, names_child, move_row, look_row, write_bytes, trunc_file}
 use Rattle.sfs_tree.specs.Readings.{SameKind, SameNode, SameBucket, SameRows, SameCount, SameKindsIn, SamePlace, SameNumbers, SameMove, SameStat}
 use Rattle.sfs_tree.specs.Laws.{IsSoundTree, ReadingsDecide, BucketsMakeRows}
 use Rattle.sfs_tree.proofs.Joined.{name_cmp-IsAntisymmetric, bucket_small, count-cons}
-use Rattle.sfs_tree.proofs.Names.{get-own_bucket, get-names_where, entries-names_where, both_first, both_second}
+use Rattle.sfs_tree.proofs.Names.{get-own_bucket, get-names_where, entries-names_where}
+use Rattle.sfs_base.proofs.BasicTruth.{both_second}
+use Rattle.sfs_base.proofs.BasicTruth.{both_first}
+use Rattle.sfs_tree.specs.Fits.{MayHold}
+use Rattle.sfs_tree.proofs.Fitting.{may_hold, neither}
 use Rattle.sfs_tree.proofs.RowFacts.{behind_apart}
 use Rattle.sfs_tree.proofs.Walks.{not_below_own}
+use Rattle.sfs_base.proofs.BasicNumbers.{zero_plus}
 
 pub buckets_make_rows : BucketsMakeRows
 buckets_make_rows tree other d same =
@@ -35,7 +40,7 @@ buckets_make_rows tree other d same =
     ∙ sym (get-names_where d (λ _. true) other.rows n))
 
 -- whether a node is a directory goes by its kind
-directory_by_kind : (tree : TreeState) (node : ℕ) → is_directory tree node ≡ is_directory_kind (kind_of tree node)
+pub directory_by_kind : (tree : TreeState) (node : ℕ) → is_directory tree node ≡ is_directory_kind (kind_of tree node)
 directory_by_kind tree node =
     elim (get tree.nodes node) as (λ o. option_map_or (λ (n : Node). is_directory_kind n.kind) o false ≡ is_directory_kind (option_map_or (λ (n : Node). n.kind) o Rattle.sfs_base.specs.declared.numbers.Kind.TheVariants.File)) [
       | Some n ↦ refl
@@ -53,10 +58,18 @@ module _ (tree other : TreeState) where
   same_full d n rows = ap (λ m. nat_le BUCKET_ROWS (len m)) rows
 
   same_directory_fault : (directory : ℕ) → SameNode tree other directory → directory_fault tree directory ≡ directory_fault other directory
-  same_directory_fault d same = ap₂ (λ a k. cond (not a) (Some NoEntry) (cond (not k) (Some NotDir) None)) same.alive (same_directory d same.kind)
+  same_directory_fault d same =
+      elim (is_alive tree d) as (λ b. is_alive tree d ≡ b → cond (not b) (Some NoEntry) (cond (not (is_directory tree d)) (Some NotDir) None) ≡ directory_fault other d) [
+        | true ↦ λ alive. ap₂ (λ a k. cond (not a) (Some NoEntry) (cond (not k) (Some NotDir) None)) (sym alive ∙ same.alive) (same_directory d (same.kind alive))
+        | false ↦ λ dead. ap (λ a. cond (not a) (Some NoEntry) (cond (not (is_directory other d)) (Some NotDir) None)) (sym dead ∙ same.alive)
+      ] refl
 
   same_file_fault : (file : ℕ) → SameNode tree other file → file_fault tree file ≡ file_fault other file
-  same_file_fault f same = ap₂ (λ a k. cond (not a) (Some NoEntry) (cond k (Some IsDir) None)) same.alive (same_directory f same.kind)
+  same_file_fault f same =
+      elim (is_alive tree f) as (λ b. is_alive tree f ≡ b → cond (not b) (Some NoEntry) (cond (is_directory tree f) (Some IsDir) None) ≡ file_fault other f) [
+        | true ↦ λ alive. ap₂ (λ a k. cond (not a) (Some NoEntry) (cond k (Some IsDir) None)) (sym alive ∙ same.alive) (same_directory f (same.kind alive))
+        | false ↦ λ dead. ap (λ a. cond (not a) (Some NoEntry) (cond (is_directory other f) (Some IsDir) None)) (sym dead ∙ same.alive)
+      ] refl
 
   same_node_fault : (node : ℕ) → SameNode tree other node → node_fault tree node ≡ node_fault other node
   same_node_fault node same = ap (λ a. cond (not a) (Some NoEntry) None) same.alive
@@ -101,12 +114,10 @@ module _ (tree other : TreeState) where
 
   link_same : (file directory : ℕ) (name : List ℕ) → SamePlace tree other directory name → SameNode tree other file → (is_directory tree file ≡ false → count_of tree.rows file ≡ count_of other.rows file) → link_fault tree file directory name ≡ link_fault other file directory name
   link_same f d n same node links =
-      ap (λ a. cond (not a) (Some NoEntry) (cond (is_directory tree f) (Some NotPermitted) (linked tree))) node.alive
-      ∙ ap (cond (not (is_alive other f)) (Some NoEntry)) (
-      elim (is_directory tree f) as (λ b. is_directory tree f ≡ b → cond b (Some NotPermitted) (linked tree) ≡ cond (is_directory other f) (Some NotPermitted) (linked other)) [
-        | true ↦ λ k. ap (λ b. cond b (Some NotPermitted) (linked other)) (sym k ∙ same_directory f node.kind)
-        | false ↦ λ k. same_linked (links k) ∙ ap (λ b. cond b (Some NotPermitted) (linked other)) (sym k ∙ same_directory f node.kind)
-      ] refl)
+      elim (is_alive tree f) as (λ b. is_alive tree f ≡ b → cond (not b) (Some NoEntry) (cond (is_directory tree f) (Some NotPermitted) (linked tree)) ≡ link_fault other f d n) [
+        | true ↦ λ alive. of_live alive ∙ ap (λ a. cond (not a) (Some NoEntry) (cond (is_directory other f) (Some NotPermitted) (linked other))) (sym alive ∙ node.alive)
+        | false ↦ λ dead. ap (λ a. cond (not a) (Some NoEntry) (cond (is_directory other f) (Some NotPermitted) (linked other))) (sym dead ∙ node.alive)
+      ] refl
     where
       linked : TreeState → Option Code
       linked t = option_or (directory_fault t d) (cond (is_some (row_of t d n)) (Some Exists) (cond (nat_le MOST_LINKS (count_of t.rows f)) (Some TooManyLinks) (cond (is_full t d n) (Some DirFull) None)))
@@ -117,15 +128,22 @@ module _ (tree other : TreeState) where
           (ap₂ (λ o c. cond (is_some o) (Some Exists) (cond (nat_le MOST_LINKS c) (Some TooManyLinks) (cond (is_full tree d n) (Some DirFull) None))) (same_row d n same.rows) count
           ∙ ap (λ b. cond (is_some (row_of other d n)) (Some Exists) (cond (nat_le MOST_LINKS (count_of other.rows f)) (Some TooManyLinks) (cond b (Some DirFull) None))) (same_full d n same.rows))
 
+      of_live : is_alive tree f ≡ true → cond (is_directory tree f) (Some NotPermitted) (linked tree) ≡ cond (is_directory other f) (Some NotPermitted) (linked other)
+      of_live alive =
+          elim (is_directory tree f) as (λ b. is_directory tree f ≡ b → cond b (Some NotPermitted) (linked tree) ≡ cond (is_directory other f) (Some NotPermitted) (linked other)) [
+            | true ↦ λ k. ap (λ b. cond b (Some NotPermitted) (linked other)) (sym k ∙ same_directory f (node.kind alive))
+            | false ↦ λ k. same_linked (links k) ∙ ap (λ b. cond b (Some NotPermitted) (linked other)) (sym k ∙ same_directory f (node.kind alive))
+          ] refl
+
   place_same : (child to_directory : ℕ) (to_name : List ℕ) (o : Option ℕ) → SameBucket tree other to_directory to_name → is_directory tree child ≡ is_directory other child → ((there : ℕ) → o ≡ Some there → SameKind tree other there) → ((there : ℕ) → o ≡ Some there → is_directory tree there ≡ true → SameCount tree other there) → place_fault tree child to_directory to_name o ≡ place_fault other child to_directory to_name o
   place_same child q m None rows kind kinds counts = ap (λ b. cond b (Some DirFull) None) (same_full q m rows)
   place_same child q m (Some there) rows kind kinds counts =
       ap₂ (λ k t. cond (k && not t) (Some NotDir) (cond (not k && t) (Some IsDir) (cond (is_directory tree there && not (nat_eq (row_count tree there) 0)) (Some NotEmpty) None))) kind (same_directory there (kinds there refl))
       ∙ ap (λ r. cond (is_directory other child && not (is_directory other there)) (Some NotDir) (cond (not (is_directory other child) && is_directory other there) (Some IsDir) (cond r (Some NotEmpty) None))) (same_bare there (kinds there refl) (counts there refl))
 
-  move_same : IsSoundTree tree → IsSoundTree other → (directory : ℕ) (name : List ℕ) (to_directory : ℕ) (to_name : List ℕ) → SameMove tree other directory name to_directory to_name → (o : Option ℕ) → row_of tree directory name ≡ o → move_row tree directory name to_directory to_name o ≡ move_row other directory name to_directory to_name o
-  move_same s t d n q m same None e = refl
-  move_same s t d n q m same (Some child) e =
+  move_same : IsSoundTree tree → IsSoundTree other → (directory : ℕ) (name : List ℕ) (to_directory : ℕ) (to_name : List ℕ) → MayHold tree to_directory → SameMove tree other directory name to_directory to_name → (o : Option ℕ) → row_of tree directory name ≡ o → move_row tree directory name to_directory to_name o ≡ move_row other directory name to_directory to_name o
+  move_same s t d n q m holder same None e = refl
+  move_same s t d n q m holder same (Some child) e =
       let kind : is_directory tree child ≡ is_directory other child = same_directory child (same.child child e) in
       ap₂ (λ r f. cond (names_child r child) (answered reply.Ok) (or_else f (done (Moves d n q m child)))) (same_row q m same.to.rows)
       (ap₂ (λ b f. cond b (Some Invalid) f) (below kind)
@@ -142,7 +160,7 @@ module _ (tree other : TreeState) where
                 let also : is_directory other child ≡ true = sym kind ∙ k in
                 (elim (nat_eq d q) as (λ b. nat_eq d q ≡ b → (nat_eq q child || lies_below tree q child) ≡ (nat_eq q child || lies_below other q child)) [
                   | true ↦ λ h. own tree s e k (eqb-true _ _ h) ∙ sym (own other t (sym (same_row d n same.from.rows) ∙ e) also (eqb-true _ _ h))
-                  | false ↦ λ h. ap (λ b. nat_eq q child || b) (same.below child e k (eqb-false _ _ h))
+                  | false ↦ λ h. ap (λ b. nat_eq q child || b) (same.below holder child e k (eqb-false _ _ h))
                 ]) refl
                 ∙ sym (ap (λ b. b && (nat_eq q child || lies_below other q child)) also)
           ] refl
@@ -179,28 +197,25 @@ directories_in tree d = in_list (entries tree.rows) ∙ ap (λ es. count_by name
           | true ↦
               ap (λ b. cond b 1 0 + count_by names_directory (map (with_kind tree) (filter_map (name_row d (λ _. true)) es))) (directory_by_kind tree e.1)
               ∙ sym (count-cons names_directory (e.0.1, kind_of tree e.1) (map (with_kind tree) (filter_map (name_row d (λ _. true)) es)))
-          | false ↦ none_more _
+          | false ↦ zero_plus _
         ]
-      where
-        none_more : (n : ℕ) → 0 + n ≡ n
-        none_more n = omega arith
 
-links_same : (tree other : TreeState) (node : ℕ) → SameStat tree other node → links_of tree node ≡ links_of other node
-links_same tree other node same =
+links_same : (tree other : TreeState) (node : ℕ) → is_alive tree node ≡ true → SameStat tree other node → links_of tree node ≡ links_of other node
+links_same tree other node alive same =
     elim (is_directory tree node) as (λ b. is_directory tree node ≡ b → cond b (2 + count_by (holds_directory tree node) (entries tree.rows)) (count_of tree.rows node) ≡ links_of other node) [
       | true ↦ λ k.
           ap (λ n. 2 + n) (directories_in tree node ∙ ap (count_by names_directory) (same_with_kinds tree other node (same.rows k) (same.kinds k)) ∙ sym (directories_in other node))
-          ∙ sym (ap (λ b. cond b (2 + count_by (holds_directory other node) (entries other.rows)) (count_of other.rows node)) (sym (same_directory tree other node same.same.kind) ∙ k))
+          ∙ sym (ap (λ b. cond b (2 + count_by (holds_directory other node) (entries other.rows)) (count_of other.rows node)) (sym (same_directory tree other node (same.same.kind alive)) ∙ k))
       | false ↦ λ k.
           same.links k
-          ∙ sym (ap (λ b. cond b (2 + count_by (holds_directory other node) (entries other.rows)) (count_of other.rows node)) (sym (same_directory tree other node same.same.kind) ∙ k))
+          ∙ sym (ap (λ b. cond b (2 + count_by (holds_directory other node) (entries other.rows)) (count_of other.rows node)) (sym (same_directory tree other node (same.same.kind alive)) ∙ k))
     ] refl
 
-size_same : (tree other : TreeState) (node : ℕ) → SameStat tree other node → size_of tree node ≡ size_of other node
-size_same tree other node same =
+size_same : (tree other : TreeState) (node : ℕ) → is_alive tree node ≡ true → SameStat tree other node → size_of tree node ≡ size_of other node
+size_same tree other node alive same =
     elim (is_directory tree node) as (λ b. is_directory tree node ≡ b → cond b (row_count tree node) (length (bytes_of tree node)) ≡ size_of other node) [
-      | true ↦ λ k. ap len (same.rows k) ∙ sym (ap (λ b. cond b (row_count other node) (length (bytes_of other node))) (sym (same_directory tree other node same.same.kind) ∙ k))
-      | false ↦ λ k. ap length (same.bytes k) ∙ sym (ap (λ b. cond b (row_count other node) (length (bytes_of other node))) (sym (same_directory tree other node same.same.kind) ∙ k))
+      | true ↦ λ k. ap len (same.rows k) ∙ sym (ap (λ b. cond b (row_count other node) (length (bytes_of other node))) (sym (same_directory tree other node (same.same.kind alive)) ∙ k))
+      | false ↦ λ k. ap length (same.bytes k) ∙ sym (ap (λ b. cond b (row_count other node) (length (bytes_of other node))) (sym (same_directory tree other node (same.same.kind alive)) ∙ k))
     ] refl
 
 pub readings_decide : ReadingsDecide
@@ -212,15 +227,29 @@ readings_decide tree other core (call.Link f d n) s t same = ap (λ fault. or_el
 readings_decide tree other core (call.Unlink d n) s t same = at_row tree other d.0 n (unlink_row tree d.0 n) (unlink_row other d.0 n) same.0 (unlink_same tree other d.0 n same.1)
 readings_decide tree other core (call.Rmdir d n) s t same = at_row tree other d.0 n (rmdir_row tree d.0 n) (rmdir_row other d.0 n) same.0 (rmdir_same tree other d.0 n same.1 same.2)
 readings_decide tree other core (call.Rename d n q m) s t same =
-    ap₂ or_else (ap₂ option_or (same_directory_fault tree other d.0 same.from.node) (same_directory_fault tree other q.0 same.to.node))
-    (move_same tree other s t d.0 n q.0 m same (row_of tree d.0 n) refl ∙ ap (move_row other d.0 n q.0 m) (same_row tree other d.0 n same.from.rows))
+    let faults = ap₂ option_or (same_directory_fault tree other d.0 same.from.node) (same_directory_fault tree other q.0 same.to.node) in
+    let after : Option Code → Verdict = λ fault. or_else fault (move_row other d.0 n q.0 m (row_of other d.0 n)) in
+    elim (option_or (directory_fault tree d.0) (directory_fault tree q.0)) as (λ o. o ≡ option_or (directory_fault tree d.0) (directory_fault tree q.0) → or_else o (move_row tree d.0 n q.0 m (row_of tree d.0 n)) ≡ after (option_or (directory_fault other d.0) (directory_fault other q.0))) [
+      | Some code ↦ λ is. ap after (is ∙ faults)
+      | None ↦ λ is.
+          let holder = may_hold tree q.0 (neither (directory_fault tree d.0) (directory_fault tree q.0) (sym is)).1 in
+          move_same tree other s t d.0 n q.0 m holder same (row_of tree d.0 n) refl
+          ∙ ap (move_row other d.0 n q.0 m) (same_row tree other d.0 n same.from.rows)
+          ∙ ap after (is ∙ faults)
+    ] refl
 readings_decide tree other core (call.Write f at bytes) s t same = ap (λ fault. or_else fault (write_bytes f.0 at bytes)) (same_file_fault tree other f.0 same)
 readings_decide tree other core (call.Read f at count) s t same =
     ap₂ (λ fault b. or_else fault (answered (reply.Bytes (take count (drop at b))))) (same_file_fault tree other f.0 same.0) same.1
 readings_decide tree other core (call.Trunc f size) s t same = ap (λ fault. or_else fault (trunc_file f.0 size)) (same_file_fault tree other f.0 same)
 readings_decide tree other core (call.Stat x) s t same =
-    ap₂ (λ fault k. or_else fault (answered (reply.Stat k (links_of tree x.0) (size_of tree x.0)))) (same_node_fault tree other x.0 same.same) same.same.kind
-    ∙ ap₂ (λ l z. or_else (node_fault other x.0) (answered (reply.Stat (kind_of other x.0) l z))) (links_same tree other x.0 same) (size_same tree other x.0 same)
+    let after : Bool → Verdict = λ alive. or_else (cond (not alive) (Some NoEntry) None) (answered (reply.Stat (kind_of other x.0) (links_of other x.0) (size_of other x.0))) in
+    elim (is_alive tree x.0) as (λ b. is_alive tree x.0 ≡ b → or_else (cond (not b) (Some NoEntry) None) (answered (reply.Stat (kind_of tree x.0) (links_of tree x.0) (size_of tree x.0))) ≡ after (is_alive other x.0)) [
+      | true ↦ λ alive.
+          ap (λ k. answered (reply.Stat k (links_of tree x.0) (size_of tree x.0))) (same.same.kind alive)
+          ∙ ap₂ (λ l z. answered (reply.Stat (kind_of other x.0) l z)) (links_same tree other x.0 alive same) (size_same tree other x.0 alive same)
+          ∙ ap after (sym alive ∙ same.same.alive)
+      | false ↦ λ dead. ap after (sym dead ∙ same.same.alive)
+    ] refl
 readings_decide tree other core (call.List d) s t same =
     ap₂ (λ fault names. or_else fault (answered (reply.Names names))) (same_directory_fault tree other d.0 same.0) (same_with_kinds tree other d.0 same.1 same.2)
 readings_decide tree other core (call.Fsync x) s t same = ap (λ fault. or_else fault (answered reply.Ok)) (same_node_fault tree other x.0 same)

@@ -7,7 +7,10 @@ use Rattle.std.specs.Ordering.{is_eq, is_lt, eq_by_cmp}
 use Rattle.std.specs.Cmp.{IsTotalOrder}
 use Rattle.std.specs.FinMap.{find, is_sorted, IsAntisymmetric}
 use Rattle.std.specs.FinMap.Entries.{below_all}
-use Rattle.sfs_tree.proofs.Search.{both_first, both_second, both_of, not_found, first_if}
+use Rattle.sfs_tree.proofs.Search.{not_found, first_if}
+use Rattle.sfs_base.proofs.BasicTruth.{both_of}
+use Rattle.sfs_base.proofs.BasicTruth.{both_second}
+use Rattle.sfs_base.proofs.BasicTruth.{both_first}
 
 equal_is : (o : Ordering) → is_eq o ≡ true → o ≡ Equal
 equal_is Less e = cc

@@ -11,8 +11,11 @@ use Rattle.std.specs.FinMap.Entries.{below_all}
 use Rattle.sfs_tree.specs.Order.{name_cmp, Key, key_cmp}
 use Rattle.sfs_tree.specs.Tree.{TreeState, names_it, count_of, row_of, is_alive, names_of, row_count, holder_of}
 use Rattle.sfs_tree.proofs.Joined.{key_cmp_total, key_cmp-IsAntisymmetric, is_equal, count-cons}
-use Rattle.sfs_tree.proofs.Names.{both_first, both_second, get-names_where, len-names_of}
+use Rattle.sfs_tree.proofs.Names.{get-names_where, len-names_of}
+use Rattle.sfs_base.proofs.BasicTruth.{both_second, or_true}
+use Rattle.sfs_base.proofs.BasicTruth.{both_first}
 use Rattle.sfs_tree.specs.Buckets.{stands_in}
+use Rattle.sfs_base.proofs.BasicNumbers.{one_is_more, none_left}
 
 -- two rows have one place or not
 pub key_cases : (d e : ℕ) (n m : List ℕ) → ((eq_by_cmp key_cmp (d, n) (e, m) ≡ true) × (d ≡ e) × (n ≡ m)) ⊎ ((eq_by_cmp key_cmp (d, n) (e, m) ≡ false) × (d ≡ e → n ≡ m → ⊥))
@@ -39,9 +42,6 @@ none_is x e = cc
 
 some_is : {X : Type 0} (x y : X) → Some x ≡ Some y → x ≡ y
 some_is x y e = cc
-
-not_both : (b : Bool) → b ≡ true → b ≡ false → ⊥
-not_both b t f = cc
 
 reversed : (o : Ordering) → T (is_lt o) → is_eq (ordering_reverse o) ≡ false
 reversed Less h = refl
@@ -93,16 +93,10 @@ counted test k x (e ∷ es) found passes =
       | true ↦ λ t f none.
           let key : k ≡ e.0 = key_cmp-IsAntisymmetric k e.0 (is_equal _ t) in
           let child : e.1 ≡ x = some_is e.1 x f in
-          one_more _ (ap (λ b. cond b 1 0 + count_by test es) (sym (passed e key child)) ∙ sym (count-cons test e es) ∙ none)
+          one_is_more _ (ap (λ b. cond b 1 0 + count_by test es) (sym (passed e key child)) ∙ sym (count-cons test e es) ∙ none)
       | false ↦ λ t f none. counted test k x es f passes (none_left (cond (test e) 1 0) _ (sym (count-cons test e es) ∙ none))
     ] refl found
   where
-    one_more : (n : ℕ) → 1 + n ≡ 0 → ⊥
-    one_more n e = omega arith
-
-    none_left : (a n : ℕ) → a + n ≡ 0 → n ≡ 0
-    none_left a n e = omega arith
-
     passed : (e : Key × ℕ) → k ≡ e.0 → e.1 ≡ x → test e ≡ true
     passed e key child = subst (λ (q : Key). test (q, e.1) ≡ true) key (subst (λ (y : ℕ). test (k, y) ≡ true) (sym child) passes)
 
@@ -113,7 +107,7 @@ pub record IsNamed (rows : FinMap key_cmp ℕ) (node : ℕ) : Type 0 where
   pub row : get rows (directory, name) ≡ Some node
 
 -- a node is named, or no row is counted for it
-named_or_none : (rows : FinMap key_cmp ℕ) (node : ℕ) → IsNamed rows node ⊎ (count_of rows node ≡ 0)
+pub named_or_none : (rows : FinMap key_cmp ℕ) (node : ℕ) → IsNamed rows node ⊎ (count_of rows node ≡ 0)
 named_or_none rows node = elim (found_or_none (names_it node) (entries rows)) [
   | inl f ↦
       let both = found_entry (names_it node) f.0 (entries rows) (entries_sorted rows) f.1 in
@@ -149,10 +143,6 @@ named_alive tree node named =
       | true ↦ λ t. absurd (named_counts tree.rows node named (eqb-true _ _ t))
       | false ↦ λ t. or_true (nat_eq node 0)
     ] refl
-  where
-    or_true : (b : Bool) → (b || true) ≡ true
-    or_true true = refl
-    or_true false = refl
 
 -- a directory that counts no rows has none
 pub no_rows : (tree : TreeState) (directory : ℕ) → row_count tree directory ≡ 0 → (name : List ℕ) → row_of tree directory name ≡ None

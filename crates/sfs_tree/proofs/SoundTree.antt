@@ -1,24 +1,21 @@
 -- What a sound tree is like where it is stored.
-use Rattle.std.proofs.Common.{◌≡◌, ◌≢◌, ℕ, zero, suc, ◌+◌, ◌<◌, ◌≤◌, Bool, true, false, not, ◌||◌, cond, List, Option, Some, None, IsSome, option_map, refl, sym, ap, ◌∙◌, arith, nat_eq}
-use borrow.Author.Tests.{eqb-true, eq-eqb, eqb-false}
+use Rattle.std.proofs.Common.{◌≡◌, ◌≢◌, ℕ, zero, suc, ◌+◌, ◌<◌, ◌≤◌, Bool, true, false, not, ◌||◌, cond, List, Some, None, IsSome, option_map, refl, sym, ap, ◌∙◌, arith, nat_eq}
+use borrow.Author.Tests.{eqb-true, eqb-false}
 use Rattle.std.specs.List as list
 use Rattle.std.specs.FinMap.{get, remove, entries}
 use Rattle.sfs_tree.specs.Order.{Key}
 use Rattle.sfs_tree.specs.Tree.{TreeState, row_of, is_alive, is_directory, count_of, names_it, holder_of, walk_up, and_above}
 use Rattle.sfs_tree.specs.Sound.{IsSound}
 use Rattle.sfs_tree.proofs.Counting.{count-remove, count_none, stayed, found, Found, found_none}
-
-none_some : {X : Type 0} {x : X} → ◌≡◌ {A = Option X} None (Some x) → ⊥
-none_some e = cc
-
-number_itself : (x : ℕ) → nat_eq x x ≡ true
-number_itself x = eq-eqb x x refl
+use Rattle.sfs_base.proofs.BasicOptions.{none_some, some_same}
+use Rattle.sfs_base.proofs.BasicNumbers.{same_number}
+use Rattle.sfs_base.proofs.BasicTruth.{false_not_true}
 
 -- one row alone names a directory
 pub sound_once : (tree : TreeState) → IsSound tree → (directory : ℕ) (name : List ℕ) (child : ℕ) → row_of tree directory name ≡ Some child → is_directory tree child ≡ true → count_of tree.rows child ≡ 1
 sound_once tree s directory name child is dir =
     count-remove tree.rows (directory, name) child (names_it child) is
-    ∙ ap (λ b. count_of (remove tree.rows (directory, name)) child + cond b 1 0) (number_itself child)
+    ∙ ap (λ b. count_of (remove tree.rows (directory, name)) child + cond b 1 0) (same_number child)
     ∙ ap (λ n. n + 1) (count_none (names_it child) (remove tree.rows (directory, name)) (λ k x there. other k x (stayed tree.rows (directory, name) k x there)))
     ∙ one
   where
@@ -45,9 +42,6 @@ sound_few tree s child dir = by_count (count_of tree.rows child) refl
         let one : count_of tree.rows child ≡ 1 = sound_once tree s f.row.0.0 f.row.0.1 child (f.there ∙ ap Some (eqb-true _ _ f.passes)) dir in
         omega arith
 
-some_is : {x y : ℕ} → ◌≡◌ {A = Option ℕ} (Some x) (Some y) → x ≡ y
-some_is e = cc
-
 -- a holder is a directory
 pub sound_holder : (tree : TreeState) → IsSound tree → (child holder : ℕ) → holder_of tree child ≡ Some holder → is_directory tree holder ≡ true
 sound_holder tree s child holder is = by_count (count_of tree.rows child) refl
@@ -56,7 +50,7 @@ sound_holder tree s child holder is = by_count (count_of tree.rows child) refl
     by_count zero e = absurd (none_some (sym (ap (option_map (λ (row : Key × ℕ). row.0.0)) (found_none (names_it child) (entries tree.rows) e)) ∙ is))
     by_count (suc n) e =
         let f : Found (names_it child) tree.rows = found (names_it child) tree.rows (omega arith) in
-        let same : f.row.0.0 ≡ holder = some_is (sym (ap (option_map (λ (row : Key × ℕ). row.0.0)) f.is) ∙ is) in
+        let same : f.row.0.0 ≡ holder = some_same (sym (ap (option_map (λ (row : Key × ℕ). row.0.0)) f.is) ∙ is) in
         ap (is_directory tree) (sym same) ∙ (s.holds f.row.0.0 f.row.0.1 child (f.there ∙ ap Some (eqb-true _ _ f.passes))).0
 
 -- what is alive and no directory is a node of the tree
@@ -71,10 +65,8 @@ sound_file tree s file alive no_directory =
     differ p q = cc
 
     named : (b : Bool) → nat_eq (count_of tree.rows file) 0 ≡ b → not b ≡ true → IsSome (get tree.nodes file)
-    named true t a = absurd (not_both a)
-      where
-        not_both : false ≡ true → ⊥
-        not_both e = cc
+    named true t a = absurd (false_not_true a)
+
     named false t a =
         let f : Found (names_it file) tree.rows = found (names_it file) tree.rows (some (count_of tree.rows file) (eqb-false _ _ t)) in
         s.node f.row.0.0 f.row.0.1 file (f.there ∙ ap Some (eqb-true _ _ f.passes))

@@ -1,5 +1,5 @@
 -- Trees that stay sound from the root alone on.
-use Rattle.std.proofs.Common.{◌≡◌, ℕ, ◌+◌, ◌<◌, false, List, [], Option, Some, None, IsSome, inl, inr, refl, sym, ap, subst, ◌∙◌, arith}
+use Rattle.std.proofs.Common.{◌≡◌, ℕ, ◌+◌, ◌<◌, false, List, [], Some, None, inl, inr, refl, sym, ap, subst, ◌∙◌, arith}
 use Rattle.std.specs.Option.{option_map_or}
 use Rattle.std.specs.Ordering.{nat_cmp}
 use Rattle.std.proofs.lemmas.List.{get_or-replicate, length-replicate}
@@ -13,6 +13,7 @@ use Rattle.sfs_tree.proofs.KeepsNodes.{node_cases}
 use Rattle.sfs_tree.proofs.Kept.{IsSound-kept, IsNumbered-kept}
 use Rattle.sfs_tree.proofs.Fitting.{verdict_fits}
 use Rattle.sfs_tree.proofs.Numbers.{fresh_number, same_drawn}
+use Rattle.sfs_base.proofs.BasicOptions.{none_not_some}
 
 pub calls_fit : CallsFit
 calls_fit tree core c is lt = verdict_fits tree core is.sound is.numbered lt c
@@ -37,9 +38,6 @@ no_row directory name child row = absurd (none_is (sym (get-empty key_cmp (direc
     none_is : None ≡ Some child → ⊥
     none_is e = cc
 
-none_some : (o : Option Node) → o ≡ None → IsSome o → ⊥
-none_some o none some = cc
-
 pub root_alone_is_sound : RootIsSound
 root_alone_is_sound first share cores low = record {
   sound = record {
@@ -56,7 +54,7 @@ root_alone_is_sound first share cores low = record {
   numbered = record {
     known = λ x some. inl (elim (node_cases empty 0 (record { kind = Directory; bytes = [] }) x) [
       | inl here ↦ subst (λ y. y < first) (sym here.0) low
-      | inr other ↦ absurd (none_some _ (other.1 ∙ get-empty nat_cmp x) some)
+      | inr other ↦ absurd (none_not_some _ (other.1 ∙ get-empty nat_cmp x) some)
     ]);
     within = λ core lt. let less : core < cores = subst (λ n. core < n) (length-replicate cores 0) lt in no_more _ share (get_or-replicate cores core 0 0 less);
   };

@@ -16,12 +16,7 @@ use Rattle.sfs_tree.specs.Store.{IsStored}
 use Rattle.sfs_tree.proofs.Joined.{is_equal}
 use Rattle.sfs_tree.proofs.Counted.{IsCounted-nodes, MayRise-counted, MayFall-counted}
 use Rattle.sfs_tree.proofs.Counting.{came, Came, stayed, len_more}
-
-none_some : {X : Type 0} {x : X} → ◌≡◌ {A = Option X} None (Some x) → ⊥
-none_some e = cc
-
-some_none : {X : Type 0} (o : Option X) → o ≡ None → IsSome o → ⊥
-some_none o none some = cc
+use Rattle.sfs_base.proofs.BasicOptions.{none_some, none_not_some}
 
 is_some : {X : Type 0} (o : Option X) (x : X) → o ≡ Some x → IsSome o
 is_some o x e = subst IsSome (sym e) refl
@@ -33,7 +28,7 @@ IsStored-new n c r nodes places rows buckets counted wide = record {
   enough = omega arith;
   few = omega arith;
   most = let e : len r.rows ≡ 0 = ap len rows ∙ len-empty key_cmp ℕ in omega arith;
-  within = λ node some. absurd (some_none _ (ap (λ m. get m node) nodes ∙ get-empty nat_cmp node) some);
+  within = λ node some. absurd (none_not_some _ (ap (λ m. get m node) nodes ∙ get-empty nat_cmp node) some);
   placed = λ d name x is. absurd (none_some (sym (ap (λ m. get m (d, name)) rows ∙ get-empty key_cmp (d, name)) ∙ is));
   children = λ d name x is. absurd (none_some (sym (ap (λ m. get m (d, name)) rows ∙ get-empty key_cmp (d, name)) ∙ is));
 }
@@ -92,7 +87,7 @@ module _ (n : NodesState) (c : Counts) (r : RowsState) (h : IsStored n c r) wher
   -- a further node
   pub IsStored-node : (m : NodesState) (k : ℕ) (node : Node) → m.nodes ≡ insert n.nodes k node → m.places ≡ n.places → k < n.places → get n.nodes k ≡ None → IsStored m c r
   IsStored-node m k node nodes places lt absent = record {
-    counted = subst (λ nodes. IsCounted r.rows nodes c) (sym nodes) (IsCounted-nodes r.rows n.nodes c h.counted (insert n.nodes k node) (λ q x is. ap (λ (o : Option Node). is_directory_node o) (other_node n.nodes k x node (λ same. some_none _ (ap (get n.nodes) same ∙ absent) (h.children q.0 q.1 x is)))));
+    counted = subst (λ nodes. IsCounted r.rows nodes c) (sym nodes) (IsCounted-nodes r.rows n.nodes c h.counted (insert n.nodes k node) (λ q x is. ap (λ (o : Option Node). is_directory_node o) (other_node n.nodes k x node (λ same. none_not_some _ (ap (get n.nodes) same ∙ absent) (h.children q.0 q.1 x is)))));
     wide = subst (IsWide c) (sym places) h.wide;
     enough = let e = h.enough in omega arith;
     few = h.few;

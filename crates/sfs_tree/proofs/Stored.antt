@@ -1,17 +1,15 @@
 -- The parts of a store, kept by each change.
-use Rattle.std.proofs.Common.{◌≡◌, ℕ, zero, suc, List, [], ◌∷◌, ◌++◌, replicate, Option, None, IsSome, sym, ap, subst, ◌∙◌, arith}
+use Rattle.std.proofs.Common.{◌≡◌, ℕ, zero, suc, List, [], ◌∷◌, ◌++◌, replicate, sym, ap, subst, ◌∙◌, arith}
 use Rattle.std.specs.FinMap.{empty, get-empty, len-empty}
 use Rattle.std.proofs.lemmas.List.{append-nil, append_assoc, length-append}
 use Rattle.sfs_tree.specs.Order.{name_cmp}
 use Rattle.sfs_tree.specs.Buckets.{Bucket, joined, IsPlaced, IsBuilt}
 use Rattle.sfs_tree.proofs.Joined.{IsPlaced-push, joined-push}
-
-some_none : {X : Type 0} (o : Option X) → o ≡ None → IsSome o → ⊥
-some_none o none some = cc
+use Rattle.sfs_base.proofs.BasicOptions.{none_not_some}
 
 pub IsPlaced-new : IsPlaced []
 IsPlaced-new = record {
-  placed = λ place name some. absurd (some_none _ (get-empty name_cmp name) some);
+  placed = λ place name some. absurd (none_not_some _ (get-empty name_cmp name) some);
   full = λ place. let e = len-empty name_cmp ℕ in omega arith;
 }
 

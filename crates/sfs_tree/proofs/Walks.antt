@@ -1,5 +1,5 @@
 -- The walk up from a directory meets the directories above it.
-use Rattle.std.proofs.Common.{◌≡◌, ◌≢◌, ℕ, zero, suc, ◌<◌, ◌≤◌, Bool, true, false, cond, ◌||◌, List, [], ◌∷◌, length, Option, Some, None, option_map, inl, inr, refl, sym, ap, ap₂, subst, ◌∙◌, arith, nat_eq}
+use Rattle.std.proofs.Common.{◌≡◌, ◌≢◌, ℕ, zero, suc, ◌<◌, ◌≤◌, true, false, cond, ◌||◌, List, [], ◌∷◌, length, Option, Some, None, option_map, inl, inr, refl, sym, ap, ap₂, subst, ◌∙◌, arith, nat_eq}
 use borrow.Author.Tests.{eqb-true, eqb-false}
 use Rattle.std.specs.List as lists
 use Rattle.std.specs.FinMap.{entries, len, len-entries}
@@ -9,6 +9,9 @@ use Rattle.sfs_tree.specs.Sound.{Above, at_root, below, IsSound}
 use Rattle.sfs_tree.specs.Fits.{Lacks}
 use Rattle.sfs_tree.specs.Laws.{WalksMeetThoseAbove}
 use Rattle.sfs_tree.proofs.RowFacts.{holder_found}
+use Rattle.sfs_base.proofs.BasicOptions.{some_is}
+use Rattle.sfs_base.proofs.BasicNumbers.{suc_same, less_next, none_below}
+use Rattle.sfs_base.proofs.BasicTruth.{or_first, or_second}
 
 -- the steps of a function from a number on, up to where it has none
 abbrev Chain : (ℕ → Option ℕ) → ℕ → List ℕ → Type 0
@@ -21,13 +24,7 @@ same_length f x [] (h ∷ k) a b = cc
 same_length f x (h ∷ l) [] a b = cc
 same_length f x (h ∷ l) (g ∷ k) a b =
     let same : g ≡ h = some_is g h (sym b.0 ∙ a.0) in
-    one_more (same_length f h l k a.1 (subst (λ y. Chain f y k) same b.1))
-  where
-    some_is : (a b : ℕ) → Some a ≡ Some b → a ≡ b
-    some_is a b e = cc
-
-    one_more : {a b : ℕ} → a ≡ b → suc a ≡ suc b
-    one_more e = omega arith
+    suc_same (same_length f h l k a.1 (subst (λ y. Chain f y k) same b.1))
 
 -- the steps from a number on are one list
 same_chain : (f : ℕ → Option ℕ) (x : ℕ) (l k : List ℕ) → Chain f x l → Chain f x k → l ≡ k
@@ -37,9 +34,6 @@ same_chain f x (h ∷ l) [] a b = cc
 same_chain f x (h ∷ l) (g ∷ k) a b =
     let same : g ≡ h = some_is g h (sym b.0 ∙ a.0) in
     ap₂ (λ (y : ℕ) (ys : List ℕ). y ∷ ys) (sym same) (same_chain f h l k a.1 (subst (λ y. Chain f y k) same b.1))
-  where
-    some_is : (a b : ℕ) → Some a ≡ Some b → a ≡ b
-    some_is a b e = cc
 
 -- no step comes back
 no_loop : (f : ℕ → Option ℕ) (x n : ℕ) → ((k : List ℕ) → Chain f x k → length k ≡ n) → (y : ℕ) (l : List ℕ) → Chain f y l → length l < n → Lacks (y ∷ l) x
@@ -71,11 +65,8 @@ one_fewer x h [] found = cc
 one_fewer x h (e ∷ es) found =
     elim (nat_eq e.1 x) as (λ b. option_map (λ (row : Key × ℕ). row.0.0) (cond b (Some e) (lists.find (names_it x) es)) ≡ Some h → length (e ∷ es) ≡ suc (length (cond b es (e ∷ without x es)))) [
       | true ↦ λ f. refl
-      | false ↦ λ f. one_more (one_fewer x h es f)
+      | false ↦ λ f. suc_same (one_fewer x h es f)
     ] found
-  where
-    one_more : {a b : ℕ} → a ≡ b → suc a ≡ suc b
-    one_more e = omega arith
 
 others_found : (x y : ℕ) (es : List (Key × ℕ)) → y ≢ x → lists.find (names_it y) (without x es) ≡ lists.find (names_it y) es
 unfolding without
@@ -97,11 +88,8 @@ chain_without x es y (h ∷ l) chain lacks = (ap (option_map (λ (row : Key × �
 chain_within : (es : List (Key × ℕ)) (x : ℕ) (l : List ℕ) → Chain (holder_in es) x l → length l ≤ length es
 chain_within es x [] chain = omega arith
 chain_within es x (h ∷ l) chain =
-    one_more (one_fewer x h es chain.0) (chain_within (without x es) h l (chain_without x es h l chain.1 (no_loop (holder_in es) x (suc (length l)) (λ k other. same_length (holder_in es) x (h ∷ l) k chain other) h l chain.1 (less (length l)))))
+    one_more (one_fewer x h es chain.0) (chain_within (without x es) h l (chain_without x es h l chain.1 (no_loop (holder_in es) x (suc (length l)) (λ k other. same_length (holder_in es) x (h ∷ l) k chain other) h l chain.1 (less_next (length l)))))
   where
-    less : (n : ℕ) → n < suc n
-    less n = omega arith
-
     one_more : {a b n : ℕ} → n ≡ suc b → a ≤ b → suc a ≤ n
     one_more e le = omega arith
 
@@ -109,10 +97,8 @@ chain_within es x (h ∷ l) chain =
 walk_meets : (tree : TreeState) (steps x : ℕ) (l : List ℕ) → Chain (holder_of tree) x l → length l ≤ steps → walk_up steps tree x ≡ l
 walk_meets tree zero x [] chain le = refl
 walk_meets tree (suc steps) x [] chain le = ap (and_above (walk_up steps tree)) chain
-walk_meets tree zero x (h ∷ l) chain le = absurd (no_less le)
-  where
-    no_less : {n : ℕ} → suc n ≤ 0 → ⊥
-    no_less le = omega arith
+walk_meets tree zero x (h ∷ l) chain le = absurd (none_below le)
+
 walk_meets tree (suc steps) x (h ∷ l) chain le = ap (and_above (walk_up steps tree)) chain.0 ∙ ap (λ k. h ∷ k) (walk_meets tree steps h l chain.1 (one_less le))
   where
     one_less : {a b : ℕ} → suc a ≤ suc b → a ≤ b
@@ -145,17 +131,9 @@ module _ (tree : TreeState) (s : IsSound tree) where
   not_above {node} {above} directory way kind apart =
       lacks above (subst (λ l. lists.list_any (λ a. nat_eq a directory) l ≡ false) (walk_is way kind) apart)
     where
-      first_false : (a b : Bool) → (a || b) ≡ false → a ≡ false
-      first_false true b e = cc
-      first_false false b e = refl
-
-      second_false : (a b : Bool) → (a || b) ≡ false → b ≡ false
-      second_false true b e = cc
-      second_false false b e = e
-
       lacks : (l : List ℕ) → lists.list_any (λ a. nat_eq a directory) l ≡ false → Lacks l directory
       lacks [] e = tt
-      lacks (a ∷ l) e = (eqb-false _ _ (first_false _ _ e), lacks l (second_false _ _ e))
+      lacks (a ∷ l) e = (eqb-false _ _ (or_first _ _ e), lacks l (or_second _ _ e))
 
   list_lacks : (l : List ℕ) (directory : ℕ) → Lacks l directory → lists.list_any (λ a. nat_eq a directory) l ≡ false
   list_lacks [] directory lacks = refl
@@ -171,15 +149,9 @@ module _ (tree : TreeState) (s : IsSound tree) where
   above_own holder node (h ∷ l) chain is =
       let same : h ≡ holder = some_is h holder (sym chain.0 ∙ is) in
       let rest : Chain (holder_of tree) holder l = subst (λ y. Chain (holder_of tree) y l) same chain.1 in
-      let lacks : Lacks (holder ∷ l) node = no_loop (holder_of tree) node (suc (length l)) (λ k other. same_length (holder_of tree) node (h ∷ l) k chain other) holder l rest (less (length l)) in
+      let lacks : Lacks (holder ∷ l) node = no_loop (holder_of tree) node (suc (length l)) (λ k other. same_length (holder_of tree) node (h ∷ l) k chain other) holder l rest (less_next (length l)) in
       let walk = walk_meets tree (len tree.rows) holder l rest (subst (λ n. length l ≤ n) (sym (len-entries tree.rows)) (chain_within (entries tree.rows) holder l rest)) in
       ap (λ k. nat_eq holder node || lists.list_any (λ a. nat_eq a node) k) walk ∙ list_lacks (holder ∷ l) node lacks
-    where
-      some_is : (a b : ℕ) → Some a ≡ Some b → a ≡ b
-      some_is a b e = cc
-
-      less : (n : ℕ) → n < suc n
-      less n = omega arith
 
   pub not_below_own : (holder node : ℕ) (name : List ℕ) → row_of tree holder name ≡ Some node → is_directory tree node ≡ true → (nat_eq holder node || lies_below tree holder node) ≡ false
   not_below_own holder node name row kind =

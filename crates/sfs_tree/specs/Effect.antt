@@ -1,8 +1,9 @@
 -- What a call does to the tree.
-use Rattle.std.specs.Prelude.{ℕ, ◌+◌, ◌-◌, List, [], ◌++◌, length, take, drop, replicate, Option, Some, None, slice_set}
+use Rattle.std.specs.Prelude.{ℕ, ◌+◌, List, [], Option, Some, None, slice_set}
 use Rattle.std.specs.Ordering.{nat_cmp}
 use Rattle.std.specs.FinMap.{FinMap, get, insert, remove}
 use Rattle.sfs_base.specs.declared.numbers.Kind.{Kind}
+use Rattle.sfs_base.specs.Files.{resized, written}
 use Rattle.sfs_tree.specs.Order.{key_cmp}
 use Rattle.sfs_tree.specs.Tree.{TreeState, Node, made_by, next_number}
 
@@ -11,18 +12,10 @@ pub data Edit : Type 0 where
   Puts : (at : ℕ) (bytes : List ℕ) → Edit
   Resizes : (size : ℕ) → Edit
 
--- bytes at this size: the first of them, and zeros behind them where there are fewer
-abbrev pub with_size : ℕ → List ℕ → List ℕ
-with_size size bytes = take size bytes ++ replicate (size - length bytes) 0
-
--- bytes with others put from byte `at` on; what lies between the old end and these is zero
-abbrev pub with_bytes : ℕ → List ℕ → List ℕ → List ℕ
-with_bytes at written bytes = with_size at bytes ++ written ++ drop (at + length written) bytes
-
 -- a file's bytes after an edit
 abbrev pub edited : Edit → List ℕ → List ℕ
-edited (Puts at written) bytes = with_bytes at written bytes
-edited (Resizes size) bytes = with_size size bytes
+edited (Puts at from) bytes = written at from bytes
+edited (Resizes size) bytes = resized size bytes
 
 -- what becomes of the tree: nothing; a row comes; a row goes; a row's child moves to another row, in place of what stands there;
 -- a file's bytes change

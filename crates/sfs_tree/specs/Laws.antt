@@ -1,16 +1,18 @@
 -- The laws of the tree of one thread, each of which a function of the module laws proves.
-use Rattle.std.specs.Prelude.{◌≡◌, ◌≢◌, ℕ, Bool, ◌+◌, ◌*◌, ◌<◌, ◌≤◌, true, false, List, length, take, Option, None, Vec}
+use Rattle.std.specs.Prelude.{◌≡◌, ℕ, Bool, ◌+◌, ◌*◌, ◌<◌, ◌≤◌, ◌==◌, ◌||◌, ◌&&◌, true, false, is_some, List, length, take, Option, None, Vec}
 use Rattle.std.specs.FinMap.{get, len}
 use Rattle.sfs_tree.specs.declared.call.Call.{Call}
-use Rattle.sfs_tree.specs.Tree.{TreeState, row_of, is_directory, names_of, names_where, bucket_rows, bytes_of, kind_of, count_of, row_count, holder_of, walk_up, made_by, next_number}
+use Rattle.sfs_tree.specs.Lock.{needs_lock, stands_of, AreHolders, EndsAtRoot}
+use Rattle.sfs_tree.specs.Tree.{TreeState, row_of, is_alive, is_directory, names_of, names_where, bucket_rows, bytes_of, kind_of, count_of, holder_of, walk_up, made_by, next_number}
 use Rattle.sfs_tree.specs.Verdict.{verdict, tree_after_call}
 use Rattle.sfs_tree.specs.Build.{root_alone}
-use Rattle.sfs_tree.specs.Sound.{Above, IsSound, IsNumbered}
+use Rattle.sfs_tree.specs.Sound.{Above, IsSound, IsNumbered, IsWithinLimits}
 use Rattle.sfs_tree.specs.Fits.{Fits}
 use Rattle.sfs_tree.specs.declared.history.Entry.{Entry}
 use Rattle.sfs_tree.specs.Effect.{Effect, tree_with}
 use Rattle.sfs_tree.specs.History.{tree_after, IsLegal}
-use Rattle.sfs_tree.specs.Changes.{rows_at, bytes_at}
+use Rattle.sfs_tree.specs.Changes.{rows_at, bytes_at, changes_by}
+use Rattle.sfs_tree.specs.Logged.{logged_by, erased_entry}
 use Rattle.std.specs.declared.alloc.Global.{Global}
 use Rattle.sfs_tree.specs.Merged.{AreCoresOf, MakeTheHistory}
 use Rattle.sfs_tree.specs.Readings.{Agree}
@@ -67,13 +69,41 @@ EffectsAct = (tree : TreeState) (core : ℕ) (effect : Effect) (makes : Option K
 abbrev pub CallsDoTheirOwn : Type 0
 CallsDoTheirOwn = (tree : TreeState) (core : ℕ) (c : Call) → DoesItsOwn tree core c
 
--- No call but one that moves a directory from one directory to another changes the holder of a directory that has rows.
-abbrev pub HoldersStay : Type 0
-HoldersStay = (tree : TreeState) (core : ℕ) (c : Call) (node : ℕ) → IsSoundTree tree → core < length tree.made → moves_directory_between tree c ≡ false → is_directory tree node ≡ true → row_count tree node ≢ 0 → holder_of (tree_after_call tree core c) node ≡ holder_of tree node
+-- A call under the tree lock is a rename between two directories of a directory.
+abbrev pub LocksAreSeen : Type 0
+LocksAreSeen = (tree : TreeState) (core : ℕ) (c : Call) → moves_directory_between tree c ≡ false → needs_lock tree core c ≡ false
 
--- Nor does any other call change the directories above one that has rows.
+-- what a call leaves of a directory that is alive after it: it was alive, and its holder is the same
+pub record StaysHeld (tree next : TreeState) (node : ℕ) : Type 0 where
+  pub alive : is_alive tree node ≡ true
+  pub holder : holder_of next node ≡ holder_of tree node
+
+-- No call without the tree lock makes a dead directory alive, or changes the holder of one that is alive after it.
+abbrev pub HoldersStay : Type 0
+HoldersStay = (tree : TreeState) (core : ℕ) (c : Call) (node : ℕ) → IsSoundTree tree → core < length tree.made → needs_lock tree core c ≡ false → is_directory tree node ≡ true
+    → is_alive (tree_after_call tree core c) node ≡ true → StaysHeld tree (tree_after_call tree core c) node
+
+-- Nor does such a call change the directories above one that is alive after it.
 abbrev pub WaysStay : Type 0
-WaysStay = (tree : TreeState) (core : ℕ) (c : Call) (node : ℕ) (above : List ℕ) → IsSoundTree tree → core < length tree.made → moves_directory_between tree c ≡ false → is_directory tree node ≡ true → row_count tree node ≢ 0 → Above tree node above → Above (tree_after_call tree core c) node above
+WaysStay = (tree : TreeState) (core : ℕ) (c : Call) (node : ℕ) (above : List ℕ) → IsSoundTree tree → core < length tree.made → needs_lock tree core c ≡ false → is_directory tree node ≡ true
+    → is_alive (tree_after_call tree core c) node ≡ true → Above tree node above → Above (tree_after_call tree core c) node above
+
+-- No call, with the lock or without it, makes a dead directory alive.
+abbrev pub DeadStayDead : Type 0
+DeadStayDead = (tree : TreeState) (core : ℕ) (c : Call) (node : ℕ) → IsSoundTree tree → core < length tree.made → is_directory tree node ≡ true → is_alive tree node ≡ false → is_alive (tree_after_call tree core c) node ≡ false
+
+-- What was read of holders under the tree lock stays so through each call of another core.
+abbrev pub ReadHoldersStay : Type 0
+ReadHoldersStay = (tree : TreeState) (core : ℕ) (c : Call) (node : ℕ) (holders : List ℕ) → IsSoundTree tree → core < length tree.made → needs_lock tree core c ≡ false → AreHolders tree node holders → AreHolders (tree_after_call tree core c) node holders
+
+-- Holders that were read up to the root are the directories above a node that is alive, and a walk up meets them.
+abbrev pub ReadHoldersAreAbove : Type 0
+ReadHoldersAreAbove = (tree : TreeState) (node : ℕ) (holders : List ℕ) → IsSoundTree tree → is_alive tree node ≡ true → is_directory tree node ≡ true → AreHolders tree node holders → EndsAtRoot node holders
+    → Above tree node holders × (walk_up (len tree.rows) tree node ≡ holders)
+
+-- A directory is alive exactly where it is the root or stands somewhere.
+abbrev pub StandingIsAlive : Type 0
+StandingIsAlive = (tree : TreeState) (node : ℕ) → IsSoundTree tree → (node == 0 || is_some (stands_of tree node)) ≡ (is_alive tree node && is_directory tree node)
 
 -- What an effect leaves of the part of a directory that has the names which pass a test is made of that part alone; so is it of a
 -- bucket, and of a whole directory.
@@ -117,3 +147,12 @@ FittingKeepsSound = (tree : TreeState) (core : ℕ) (effect : Effect) (makes : O
 -- The lists of the cores make the history.
 abbrev pub CoresMakeTheHistory : Type 0
 CoresMakeTheHistory = (parts : List (Vec Entry Global)) (history : List Entry) → AreCoresOf parts history → MakeTheHistory parts history
+
+-- What an entry logs erases to its changes of rows, which removals end a directory included.
+abbrev pub LogsErase : Type 0
+LogsErase = (tree : TreeState) (core stamp : ℕ) (c : Call) → IsSoundTree tree → core < length tree.made
+    → erased_entry (logged_by tree core stamp (verdict tree core c).effect (verdict tree core c).makes) ≡ changes_by tree stamp (verdict tree core c).effect
+
+-- Each tree of a legal history from a sound one within its limits is within them.
+abbrev pub HistoriesStayWithin : Type 0
+HistoriesStayWithin = (first : TreeState) (history : List Entry) (count : ℕ) → IsSoundTree first → IsLegal first history → IsWithinLimits first → IsWithinLimits (tree_after first (take count history))

@@ -1,7 +1,6 @@
 pub mod Buckets
 pub mod Build
 pub mod Changes
-pub mod Copy
 pub mod Counts
 pub mod Effect
 pub mod Fits
@@ -10,6 +9,8 @@ pub mod History
 pub mod Kept
 pub mod Laws
 pub mod Least
+pub mod Lock
+pub mod Logged
 pub mod Merged
 pub mod NameKinds
 pub mod NameRow

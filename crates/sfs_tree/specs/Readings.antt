@@ -3,16 +3,17 @@ use Rattle.std.specs.Prelude.{◌≡◌, ◌≢◌, ℕ, true, false, List, Some
 use Rattle.sfs_base.specs.Name.{bucket}
 use Rattle.sfs_tree.specs.declared.call.Call.{Call}
 use Rattle.sfs_tree.specs.declared.call.Call.TheVariants as call
+use Rattle.sfs_tree.specs.Fits.{MayHold}
 use Rattle.sfs_tree.specs.Tree.{TreeState, row_of, is_alive, is_directory, kind_of, bytes_of, count_of, row_count, lies_below, names_of, bucket_rows, made_by}
 
 -- the trees agree on the kind of a node
 abbrev pub SameKind : TreeState → TreeState → ℕ → Type 0
 SameKind tree other node = kind_of tree node ≡ kind_of other node
 
--- the trees agree on a node: whether it is alive, and its kind
+-- the trees agree on a node: whether it is alive, and then its kind
 pub record SameNode (tree other : TreeState) (node : ℕ) : Type 0 where
   pub alive : is_alive tree node ≡ is_alive other node
-  pub kind : SameKind tree other node
+  pub kind : is_alive tree node ≡ true → SameKind tree other node
 
 -- the trees agree on the bucket of a directory in which a name lies
 abbrev pub SameBucket : TreeState → TreeState → ℕ → List ℕ → Type 0
@@ -41,13 +42,13 @@ pub record SameNumbers (tree other : TreeState) (core : ℕ) : Type 0 where
   pub share : tree.share ≡ other.share
   pub made : made_by tree core ≡ made_by other core
 
--- what a rename reads: both places; the child's kind and, where it is a directory that changes its directory, whether the new one lies
--- below it; of what stands at the new place, the kind and, of a directory, how many rows it has
+-- what a rename reads: both places; the child's kind and, where it is a directory that changes its directory for one that may hold it,
+-- whether the new one lies below it; of what stands at the new place, the kind and, of a directory, how many rows it has
 pub record SameMove (tree other : TreeState) (directory : ℕ) (name : List ℕ) (to_directory : ℕ) (to_name : List ℕ) : Type 0 where
   pub from : SamePlace tree other directory name
   pub to : SamePlace tree other to_directory to_name
   pub child : (child : ℕ) → row_of tree directory name ≡ Some child → SameKind tree other child
-  pub below : (child : ℕ) → row_of tree directory name ≡ Some child → is_directory tree child ≡ true → directory ≢ to_directory → lies_below tree to_directory child ≡ lies_below other to_directory child
+  pub below : MayHold tree to_directory → (child : ℕ) → row_of tree directory name ≡ Some child → is_directory tree child ≡ true → directory ≢ to_directory → lies_below tree to_directory child ≡ lies_below other to_directory child
   pub kind : (there : ℕ) → row_of tree to_directory to_name ≡ Some there → SameKind tree other there
   pub rows : (there : ℕ) → row_of tree to_directory to_name ≡ Some there → is_directory tree there ≡ true → SameCount tree other there
 

@@ -1,7 +1,7 @@
 -- When a tree is sound: each directory stands in one place, and the walk up from it ends at the root.
-use Rattle.std.specs.Prelude.{◌≡◌, ◌≢◌, ◌⊎◌, ℕ, ◌+◌, ◌*◌, ◌<◌, true, List, [], ◌∷◌, length, Some, IsSome, slice_index}
-use Rattle.std.specs.FinMap.{get}
-use Rattle.sfs_tree.specs.Tree.{TreeState, row_of, is_alive, is_directory}
+use Rattle.std.specs.Prelude.{◌≡◌, ◌≢◌, ◌⊎◌, ℕ, ◌+◌, ◌*◌, ◌<◌, ◌≤◌, true, List, [], ◌∷◌, length, Some, IsSome, slice_index}
+use Rattle.std.specs.FinMap.{get, len}
+use Rattle.sfs_tree.specs.Tree.{BUCKET_ROWS, TreeState, row_of, is_alive, is_directory, bucket_rows, bytes_of}
 
 -- These are the directories from a node's holder up to the root.
 pub data Above (tree : TreeState) : ℕ → List ℕ → Type 0 where
@@ -31,3 +31,8 @@ IsMade tree number = (core creation : ℕ) × (core < length tree.made) × (crea
 pub record IsNumbered (tree : TreeState) : Type 0 where
   pub known : (node : ℕ) → IsSome (get tree.nodes node) → (node < tree.first) ⊎ IsMade tree node
   pub within : (core : ℕ) → core < length tree.made → slice_index tree.made core < tree.share + 1
+
+-- A tree within its limits: no bucket has more rows than it may have, and directories have no bytes.
+pub record IsWithinLimits (tree : TreeState) : Type 0 where
+  pub buckets : (directory number : ℕ) → len (bucket_rows directory number tree.rows) ≤ BUCKET_ROWS
+  pub plain : (node : ℕ) → is_directory tree node ≡ true → bytes_of tree node ≡ []

@@ -93,6 +93,10 @@ names_of directory = names_where directory (λ _. true)
 abbrev pub bucket_rows : ℕ → ℕ → FinMap key_cmp ℕ → FinMap name_cmp ℕ
 bucket_rows directory number = names_where directory (λ name. bucket name == number)
 
+-- how many rows a bucket of a directory holds at most
+abbrev pub BUCKET_ROWS : ℕ
+BUCKET_ROWS = 4096
+
 -- how many nodes a core has made
 abbrev pub made_by : TreeState → ℕ → ℕ
 made_by tree core = slice_index tree.made core

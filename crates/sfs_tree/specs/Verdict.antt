@@ -10,13 +10,9 @@ use Rattle.sfs_tree.specs.declared.reply.Reply.{Reply}
 use Rattle.sfs_tree.specs.declared.reply.Reply.TheVariants as reply
 use Rattle.sfs_tree.specs.declared.reply.Code.{Code}
 use Rattle.sfs_tree.specs.declared.reply.Code.TheVariants.{NoEntry, Exists, NotDir, IsDir, NotEmpty, Invalid, NotPermitted, TooManyLinks, FileTooBig, DirFull, NoNodes}
-use Rattle.sfs_tree.specs.Tree.{TreeState, row_of, is_alive, is_directory, kind_of, bytes_of, count_of, row_count, links_of, lies_below, names_of, bucket_rows, made_by, next_number}
+use Rattle.sfs_tree.specs.Tree.{BUCKET_ROWS, TreeState, row_of, is_alive, is_directory, kind_of, bytes_of, count_of, row_count, links_of, lies_below, names_of, bucket_rows, made_by, next_number}
 use Rattle.sfs_tree.specs.Names.{with_kinds}
 use Rattle.sfs_tree.specs.Effect.{Effect, Stays, Adds, Removes, Moves, Edits, Puts, Resizes, tree_with}
-
--- how many rows a bucket of a directory holds at most
-abbrev pub BUCKET_ROWS : ℕ
-BUCKET_ROWS = 4096
 
 -- up to how many links a further one may bring a file
 abbrev pub MOST_LINKS : ℕ

@@ -1,23 +1,27 @@
 // The bytes of a file.
 ghost use Rattle.std.specs.Prelude.{◌≡◌, ◌+◌, ◌-◌, ◌<◌, ◌≤◌, ◌^◌, ◌++◌, length, take, drop, replicate, vec_len, OnOk, OnErr};
-ghost use Rattle.sfs_tree.specs.Effect.{with_bytes, with_size};
+ghost use Rattle.sfs_base.specs.Files.{written, resized};
 
 use sfs_base::NoMemory;
 
-/// Puts bytes from byte `at` on. What lies between the old end and these is zero.
-pub fn put_bytes(bytes: &mut Vec<u8>, at: usize, written: &[u8]) -> Result<(), NoMemory>
-    requires { at + length written.now < 2 ^ 32 }
-    ensures ok { OnOk result (bytes.new.items ≡ with_bytes at written.now bytes.old.items) }
+/// Puts bytes from byte `at` on. What lies between the old end and these is zero; no bytes change
+/// nothing.
+pub fn put_bytes(bytes: &mut Vec<u8>, at: usize, from: &[u8]) -> Result<(), NoMemory>
+    requires { at + length from.now < 2 ^ 32 }
+    ensures ok { OnOk result (bytes.new.items ≡ written at from.now bytes.old.items) }
     ensures err { OnErr result (bytes.new.items ≡ bytes.old.items) }
 {
-    make_room(bytes, at + written.len())?;
-    overwrite(bytes, at, written);
+    if from.is_empty() {
+        return Ok(());
+    }
+    make_room(bytes, at + from.len())?;
+    overwrite(bytes, at, from);
     Ok(())
 }
 
 /// Gives the bytes this size: zeros come behind them, or the last of them go.
 pub fn set_size(bytes: &mut Vec<u8>, size: usize) -> Result<(), NoMemory>
-    ensures ok { OnOk result (bytes.new.items ≡ with_size size bytes.old.items) }
+    ensures ok { OnOk result (bytes.new.items ≡ resized size bytes.old.items) }
     ensures err { OnErr result (bytes.new.items ≡ bytes.old.items) }
 {
     bytes.resize(size, 0)?;
@@ -37,9 +41,9 @@ fn make_room(bytes: &mut Vec<u8>, end: usize) -> Result<(), NoMemory>
 }
 
 // Puts bytes over those that are there.
-fn overwrite(bytes: &mut Vec<u8>, at: usize, written: &[u8])
-    requires { at + length written.now ≤ vec_len bytes.old }
-    ensures { bytes.new.items ≡ take at bytes.old.items ++ written.now ++ drop (at + length written.now) bytes.old.items }
+fn overwrite(bytes: &mut Vec<u8>, at: usize, from: &[u8])
+    requires { at + length from.now ≤ vec_len bytes.old }
+    ensures { bytes.new.items ≡ take at bytes.old.items ++ from.now ++ drop (at + length from.now) bytes.old.items }
 {
-    bytes[at..at + written.len()].copy_from_slice(written);
+    bytes[at..at + from.len()].copy_from_slice(from);
 }

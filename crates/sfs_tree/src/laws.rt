@@ -3,7 +3,9 @@ ghost use Rattle.sfs_tree.specs.Laws.{RootIsSound, CallsKeepSound, HistoriesKeep
 ghost use Rattle.sfs_tree.specs.Laws.{DrawnIsNew, DrawnApart};
 ghost use Rattle.sfs_tree.specs.Laws.{EffectsAct, PartsAfter, NodesAfter, CountsAfter};
 ghost use Rattle.sfs_tree.specs.Laws.{CallsDoTheirOwn, CallsKeepTheRest, ReadingsDecide, BucketsMakeRows};
-ghost use Rattle.sfs_tree.specs.Laws.{HoldersStay, WaysStay, WalksMeetThoseAbove};
+ghost use Rattle.sfs_tree.specs.Laws.{LocksAreSeen, HoldersStay, WaysStay, DeadStayDead, WalksMeetThoseAbove};
+ghost use Rattle.sfs_tree.specs.Laws.{ReadHoldersStay, ReadHoldersAreAbove, StandingIsAlive};
+ghost use Rattle.sfs_tree.specs.Laws.{LogsErase, HistoriesStayWithin};
 ghost use Rattle.sfs_tree.specs.Laws.{RowsAreTheTrees, BytesAreTheTrees, CoresMakeTheHistory};
 
 /// The root alone is a sound tree.
@@ -81,14 +83,39 @@ pub fn buckets_make_rows()
     ensures { BucketsMakeRows }
 {}
 
-/// A directory with rows keeps its holder, but where a directory moves to another one.
+/// A call under the tree lock is a rename between two directories of a directory.
+pub fn locks_are_seen()
+    ensures { LocksAreSeen }
+{}
+
+/// A directory that is alive after a call without the tree lock was alive, with the same holder.
 pub fn holders_stay()
     ensures { HoldersStay }
 {}
 
-/// The directories above a directory with rows stay, but where a directory moves to another one.
+/// The directories above such a one stay.
 pub fn ways_stay()
     ensures { WaysStay }
+{}
+
+/// No call makes a dead directory alive.
+pub fn dead_stay_dead()
+    ensures { DeadStayDead }
+{}
+
+/// What was read of holders under the tree lock stays so through each call of another core.
+pub fn read_holders_stay()
+    ensures { ReadHoldersStay }
+{}
+
+/// Holders that were read up to the root are the directories above.
+pub fn read_holders_are_above()
+    ensures { ReadHoldersAreAbove }
+{}
+
+/// A directory is alive exactly where it is the root or stands somewhere.
+pub fn standing_is_alive()
+    ensures { StandingIsAlive }
 {}
 
 /// A walk up from a directory meets the directories above it.
@@ -109,4 +136,14 @@ pub fn bytes_are_the_trees()
 /// The lists of the cores of a history make it, each stamp once.
 pub fn cores_make_the_history()
     ensures { CoresMakeTheHistory }
+{}
+
+/// What an entry logs erases to its changes of rows.
+pub fn logs_erase()
+    ensures { LogsErase }
+{}
+
+/// Each tree of a legal history from one within its limits is within them.
+pub fn histories_stay_within()
+    ensures { HistoriesStayWithin }
 {}

@@ -49,6 +49,7 @@ impl Tree {
     ghost use Rattle.sfs_tree.specs.Build.{root_alone, with_node, with_row};
     ghost use Rattle.sfs_tree.specs.Sound.{IsSound, IsNumbered};
     ghost use Rattle.sfs_tree.specs.Step.{IsReadable};
+    ghost use Rattle.sfs_tree.specs.Laws.{IsSoundTree};
     ghost use Rattle.sfs_tree.specs.Verdict.{verdict, tree_after_call};
 
     /// The root alone. The first new node has the number `first`, 1 to 16,384; each of the cores may
@@ -108,7 +109,8 @@ impl Tree {
     pub fn allow(&mut self, share: u32)
         requires unmade { (core : ℕ) → made_by self.old core ≡ 0 }
         requires shares { share * length self.old.made ≤ 65536 }
-        ensures { self.new ≡ record (self.old) { share = share } }
+        ensures share { self.new ≡ record (self.old) { share = share } }
+        ensures numbered { IsNumbered self.new }
     {
         self.share = share;
     }
@@ -135,7 +137,9 @@ impl Tree {
         ensures ok { IfOk result (λ reply. reply ≡ (verdict self.old core.0 call.now).reply) }
         ensures tree { OnOk result (self.new ≡ tree_after_call self.old core.0 call.now) }
         ensures err { OnErr result (self.new ≡ self.old) }
+        ensures sound { IsSoundTree self.new }
     {
+        let _ = &self.alloc;
         self.run(core, call)
     }
 }

@@ -2,4 +2,5 @@ pub mod Changes
 pub mod First
 pub mod Free
 pub mod Order
+pub mod Others
 pub mod Rows

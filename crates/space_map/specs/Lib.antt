@@ -1,4 +1,5 @@
 pub mod Change
 pub mod Groups
+pub mod Laws
 pub mod Pool
 pub mod Space

@@ -21,3 +21,8 @@ shortage space need =
 -- each listed number is granted
 abbrev pub AllGranted : Pool → List ℕ → Type 0
 AllGranted pool = All (λ number. status_of pool number ≡ Some Granted)
+
+-- the inodes and the blocks of a grant
+pub record GrantedNumbers : Type 0 where
+  pub inodes : List ℕ
+  pub blocks : List ℕ

@@ -1,4 +1,7 @@
+ghost use Rattle.std.specs.Prelude.{◌≡◌};
+
 use sfs_base::{BlockList, InodeList};
+use std::marker::Model;
 
 /// How much a commit needs.
 #[derive(Clone, Copy, Debug, PartialEq, Eq)]
@@ -8,9 +11,54 @@ pub struct Need {
 }
 
 /// Inodes and blocks that a map has granted to one commit, each list ascending. It is a debt: it
-/// goes back to the map, by `give_back` or by `free_after`, and can't be dropped.
+/// goes back to the map, by `give_back` or by `free_after`, and can't be dropped, made or taken apart
+/// by others. Contracts see its two lists of numbers.
 #[derive(Debug)]
 pub struct Grant {
-    pub inodes: InodeList,
-    pub blocks: BlockList,
+    inodes: InodeList,
+    blocks: BlockList,
+}
+
+impl Model for Grant {
+    ghost use Rattle.space_map.specs.Space.{GrantedNumbers};
+
+    ghost Value = { GrantedNumbers };
+
+    ghost view = { λ grant. record {
+      inodes = grant.inodes.items;
+      blocks = grant.blocks.items;
+    } };
+}
+
+impl Grant {
+    // The grant of these.
+    pub(crate) fn new(inodes: InodeList, blocks: BlockList) -> Grant
+        ensures inodes { result.inodes ≡ inodes.items }
+        ensures blocks { result.blocks ≡ blocks.items }
+    {
+        Grant { inodes, blocks }
+    }
+
+    // Its two lists, once it has ended.
+    pub(crate) fn end(self) -> (InodeList, BlockList)
+        ensures inodes { result.0.items ≡ self.inodes }
+        ensures blocks { result.1.items ≡ self.blocks }
+    {
+        let Grant { inodes, blocks } = self;
+        (inodes, blocks)
+    }
+
+    /// The inodes, ascending.
+    pub fn inodes(&self) -> &[u32]
+        ensures { result.now ≡ self.now.inodes }
+    {
+        self.inodes.as_slice()
+    }
+
+    /// The blocks, ascending.
+    pub fn blocks(&self) -> &[u32]
+        ensures { result.now ≡ self.now.blocks }
+    {
+        self.blocks.as_slice()
+    }
 }

@@ -3,6 +3,7 @@
 
 mod fault;
 mod grant;
+pub mod laws;
 mod map;
 mod pool;
 mod status;

@@ -53,11 +53,11 @@ impl SpaceMap {
     /// are free, of inodes before blocks.
     pub fn reserve(&mut self, need: Need) -> Result<Grant, SpaceFault>
         ensures inodes { IfOk result (λ grant.
-            Grants self.old.inodes need.inodes grant.inodes.items self.new.inodes) }
+            Grants self.old.inodes need.inodes grant.inodes self.new.inodes) }
         ensures blocks { IfOk result (λ grant.
-            Grants self.old.blocks need.blocks grant.blocks.items self.new.blocks) }
+            Grants self.old.blocks need.blocks grant.blocks self.new.blocks) }
         ensures least { IfOk result (λ grant.
-            grant.inodes.items ≡ take need.inodes (free_numbers self.old.inodes)) }
+            grant.inodes ≡ take need.inodes (free_numbers self.old.inodes)) }
         ensures enough { IfOk result (λ _. shortage self.old need ≡ None) }
         ensures cause { IfErr result (λ fault.
             MatchOption (shortage self.old need)
@@ -71,17 +71,17 @@ impl SpaceMap {
         let mut blocks = self.blocks.room_for(need.blocks)?;
         self.inodes.grant(need.inodes, &mut inodes);
         self.blocks.grant(need.blocks, &mut blocks);
-        Ok(Grant { inodes, blocks })
+        Ok(Grant::new(inodes, blocks))
     }
 
     /// Makes free again what was granted. It takes no memory.
     pub fn give_back(&mut self, grant: Grant)
-        requires inodes { AllGranted self.old.inodes grant.inodes.items }
-        requires blocks { AllGranted self.old.blocks grant.blocks.items }
-        ensures inodes { BecomeAll Free grant.inodes.items self.old.inodes self.new.inodes }
-        ensures blocks { BecomeAll Free grant.blocks.items self.old.blocks self.new.blocks }
+        requires inodes { AllGranted self.old.inodes grant.inodes }
+        requires blocks { AllGranted self.old.blocks grant.blocks }
+        ensures inodes { BecomeAll Free grant.inodes self.old.inodes self.new.inodes }
+        ensures blocks { BecomeAll Free grant.blocks self.old.blocks self.new.blocks }
     {
-        let Grant { inodes, blocks } = grant;
+        let (inodes, blocks) = grant.end();
         self.inodes
             .change_all(inodes.as_slice(), Change::Become(Status::Free));
         self.blocks
@@ -91,15 +91,12 @@ impl SpaceMap {
     /// Ends a grant: what was granted stays taken. Then the listed blocks and inodes are free that
     /// were taken, and in no grant. It takes no memory.
     pub fn free_after(&mut self, grant: Grant, blocks: &[u32], inodes: &[u32])
-        requires inodes { AllGranted self.old.inodes grant.inodes.items }
-        requires blocks { AllGranted self.old.blocks grant.blocks.items }
-        ensures inodes { Ends grant.inodes.items inodes.now self.old.inodes self.new.inodes }
-        ensures blocks { Ends grant.blocks.items blocks.now self.old.blocks self.new.blocks }
+        requires inodes { AllGranted self.old.inodes grant.inodes }
+        requires blocks { AllGranted self.old.blocks grant.blocks }
+        ensures inodes { Ends grant.inodes inodes.now self.old.inodes self.new.inodes }
+        ensures blocks { Ends grant.blocks blocks.now self.old.blocks self.new.blocks }
     {
-        let Grant {
-            inodes: granted_inodes,
-            blocks: granted_blocks,
-        } = grant;
+        let (granted_inodes, granted_blocks) = grant.end();
         self.inodes.end(granted_inodes.as_slice(), inodes);
         self.blocks.end(granted_blocks.as_slice(), blocks);
     }

@@ -11,6 +11,8 @@ mod ends;
 #[cfg(test)]
 mod files;
 #[cfg(test)]
+mod images;
+#[cfg(test)]
 mod inodes;
 #[cfg(test)]
 mod journal;

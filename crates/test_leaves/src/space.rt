@@ -22,8 +22,8 @@ fn assert_short(rt: &impl Abort, map: &mut SpaceMap, need: Need, due: SpaceFault
 
 // Asserts what is granted.
 fn assert_granted(rt: &impl Abort, grant: &Grant, inodes: &[u32], blocks: &[u32]) {
-    assert_eq!(rt; grant.inodes.as_slice(), inodes);
-    assert_eq!(rt; grant.blocks.as_slice(), blocks);
+    assert_eq!(rt; grant.inodes(), inodes);
+    assert_eq!(rt; grant.blocks(), blocks);
 }
 
 // A need that is met.

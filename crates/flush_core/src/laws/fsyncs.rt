@@ -1,5 +1,5 @@
 // Laws of fsyncs over one history, one alone and in lists.
-ghost use Rattle.flush_core.specs.Laws.{FsyncsCover, FsyncsKeep, ListsCover, ListsKeep};
+ghost use Rattle.flush_core.specs.Laws.{FsyncsCover, FsyncsKeep, HistoriesAreCovered, ListsCover, ListsKeep};
 
 /// An fsync keeps the cut closed, and each directory with an inode has its making below its birth place's cut.
 pub fn fsyncs_keep()
@@ -19,4 +19,9 @@ pub fn lists_keep()
 /// After a list of fsyncs each of them is covered.
 pub fn lists_cover()
     ensures { ListsCover }
+{}
+
+/// A list of fsyncs that has all those acknowledged by a moment covers the history at it.
+pub fn histories_are_covered()
+    ensures { HistoriesAreCovered }
 {}

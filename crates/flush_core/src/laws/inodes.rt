@@ -1,7 +1,7 @@
 // Laws of members, and of which nodes have an inode.
 ghost use Rattle.flush_core.specs.LawsInodes.{BirthsAreNewNodes, FilesEnterBlank, FilesSettle, NoneIsDead};
 ghost use Rattle.flush_core.specs.LawsInodes.{DirectoriesAreNamed, DirectoriesStayNamed};
-ghost use Rattle.flush_core.specs.LawsInodes.{FilesFlushThemselves, MembersAreDirectories, OthersStay};
+ghost use Rattle.flush_core.specs.LawsInodes.{FilesFlushThemselves, FilesKeepInodes, MembersAreDirectories, OthersStay};
 
 /// Each member of an fsync's closure is the fsync's own node or a directory.
 pub fn members_are_directories()
@@ -11,6 +11,11 @@ pub fn members_are_directories()
 /// An fsync of a file that has an inode concerns that file alone.
 pub fn files_flush_themselves()
     ensures { FilesFlushThemselves }
+{}
+
+/// An fsync of a live file that has an inode gives none and takes none.
+pub fn files_keep_inodes()
+    ensures { FilesKeepInodes }
 {}
 
 /// An fsync leaves a node that it does not concern as it was.

@@ -50,12 +50,14 @@ impl Tree {
     }
 
     /// The row at a place of one of a directory's eight buckets, names ascending by their bytes; `None`
-    /// exactly past the last.
+    /// exactly past the last row and from bucket 8 on.
     pub fn row(&self, dir: NodeId, bucket: u8, place: u32) -> Option<(&Name, NodeId)>
-        requires { bucket < 8 }
         ensures { option_map (λ row. (row.0.now, row.1.0)) result
             ≡ slice_get (finmap.entries (bucket_rows dir.0 bucket self.now.rows)) place }
     {
+        if bucket >= 8 {
+            return None;
+        }
         let rows = self.store.bucket(dir.0, bucket)?;
         let row = rows.at(place as usize)?;
         Some((&row.name, row.child))

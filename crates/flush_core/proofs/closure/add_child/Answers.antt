@@ -1,6 +1,6 @@
 use Rattle.std.proofs.Common.{refl, sym, ◌∙◌}
 use Rattle.flush_core.specs.Engine.{NamesFor}
-use Rattle.flush_core.proofs.Own.{both}
+use Rattle.flush_core.proofs.Basics.{both}
 use Rattle.flush_core.proofs.Gathered.{join_one, join_none}
 use Rattle.flush_core.proofs.closure.add_child.Goals as goal
 use Rattle.flush_core.proofs.closure.add_child.Goals.{else-has-via-then-has+else-spans, else-has-via-else-has}

@@ -1,7 +1,7 @@
 use Rattle.std.proofs.Common.{◌≡◌, ◌^◌, true, inl, inr, sym, subst, ◌∙◌, arith}
 use Rattle.flush_core.specs.Closure.{every_entry, Closure, itself}
 use Rattle.flush_core.specs.NodeSets.{has_node}
-use Rattle.flush_core.proofs.Own.{both}
+use Rattle.flush_core.proofs.Basics.{both}
 use Rattle.flush_core.proofs.Marks.{with_in, with_kept, with_cases, marked_within}
 use Rattle.flush_core.proofs.Counting.{one_more_less}
 use Rattle.flush_core.proofs.Brought.{wanted_is_in, in_members}

@@ -1,8 +1,9 @@
-use Rattle.std.proofs.Common.{◌≡◌, true, false, map, refl, sym, ap, ◌∙◌}
+use Rattle.std.proofs.Common.{◌≡◌, true, map, refl, sym, ap, ◌∙◌}
 use Rattle.flush_core.specs.declared.flight.InFlight.{InFlight}
 use Rattle.flush_core.specs.NodeSets.{has_node}
 use Rattle.flush_core.specs.Machine.{Flight}
 use Rattle.flush_core.specs.Flights.{flight_as, IsTaken}
+use Rattle.flush_core.proofs.Basics.{no_true}
 use Rattle.flush_core.proofs.Listed.{one_at, more_hold, all_hold, from_map, to_map}
 use Rattle.flush_core.proofs.flight.is_taken.Goals as goal
 
@@ -22,17 +23,11 @@ returns-then-has c = (
 pub loop-flight-preserved : goal.loop-flight-preserved
 loop-flight-preserved c =
     more_hold (λ (flight : InFlight). has_node flight.concerned c.args.node ≡ true → ⊥) c.args.flights.now c.loop-flight.flight-index c.flight-item.result c.flight-item.result c.loop-flight-test.true c.flight-item.is c.loop-flight.invariant
-    (λ has. differ (sym c.if-has.false ∙ c.has.ensures ∙ has))
-  where
-    differ : false ≡ true → ⊥
-    differ e = cc
+    (λ has. no_true (sym c.if-has.false ∙ c.has.ensures ∙ has))
 
 pub returns : goal.returns
-returns c = (λ e. absurd (differ e), λ taken. absurd (none taken))
+returns c = (λ e. no_true e, λ taken. absurd (none taken))
   where
-    differ : false ≡ true → ⊥
-    differ e = cc
-
     none : IsTaken (map flight_as c.args.flights.now) c.args.node → ⊥
     none taken =
         let found = from_map flight_as c.args.flights.now taken.flight taken.flies in

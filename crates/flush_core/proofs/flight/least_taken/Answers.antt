@@ -1,6 +1,7 @@
-use Rattle.std.proofs.Common.{◌≡◌, ◌++◌, ◌∷◌, [], true, false, map, take, get_or, sym, subst, ◌∙◌}
+use Rattle.std.proofs.Common.{◌++◌, ◌∷◌, [], map, take, get_or, sym, subst, ◌∙◌}
 use Rattle.std.proofs.lemmas.List.{take_more, take_all}
 use Rattle.flush_core.specs.Flights.{flight_as}
+use Rattle.flush_core.proofs.Basics.{no_true}
 use Rattle.flush_core.proofs.Least.{IsLeastOf, least_passed, least_more, least_in}
 use Rattle.flush_core.proofs.flight.least_taken.Goals.{then-is_taken, else-is_taken}
 use Rattle.flush_core.proofs.flight.least_taken.Goals as goal
@@ -12,11 +13,8 @@ loop-node-preserved c = subst (λ l. IsLeastOf (map flight_as c.args.flights.now
       (least_more (map flight_as c.args.flights.now) (take c.loop-node.node-index c.deref-node-items.result.now) _ (c.is_taken.ensures.0 w.if-is_taken.true) c.loop-node.least c.loop-node.invariant)
   | else-is_taken w ↦
       subst (λ o. IsLeastOf (map flight_as c.args.flights.now) (take c.loop-node.node-index c.deref-node-items.result.now ++ get_or c.deref-node-items.result.now c.loop-node.node-index 0 ∷ []) o) (sym w.least-is)
-      (least_passed (map flight_as c.args.flights.now) (take c.loop-node.node-index c.deref-node-items.result.now) _ c.loop-node.least c.loop-node.invariant (λ taken. differ (sym w.if-is_taken.false ∙ c.is_taken.ensures.1 taken)))
+      (least_passed (map flight_as c.args.flights.now) (take c.loop-node.node-index c.deref-node-items.result.now) _ c.loop-node.least c.loop-node.invariant (λ taken. no_true (sym w.if-is_taken.false ∙ c.is_taken.ensures.1 taken)))
 ])
-  where
-    differ : false ≡ true → ⊥
-    differ e = cc
 
 pub returns : goal.returns
 returns c = least_in (map flight_as c.args.flights.now) c.args.nodes.now c.in_ok-list.list.items c.loop-node.least c.in_ok-list.ensures

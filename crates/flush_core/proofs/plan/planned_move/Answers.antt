@@ -4,7 +4,7 @@ use Rattle.sfs_tree.specs.Changes.{RowChange, added, other_side}
 use Rattle.flush_core.specs.declared.past.OwnChange.{OwnChange}
 use Rattle.flush_core.specs.Past.{row_change_of}
 use Rattle.flush_core.specs.Plan.{IsAboveNew}
-use Rattle.flush_core.proofs.Noted.{noted_taken, noted_put, noted_more}
+use Rattle.flush_core.proofs.KeptAbove.{noted_taken, noted_put, noted_more}
 use Rattle.flush_core.proofs.plan.planned_move.Goals as goal
 
 pub returns-clause-above : goal.returns-clause-above

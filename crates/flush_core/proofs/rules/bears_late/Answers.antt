@@ -1,7 +1,7 @@
 use Rattle.std.proofs.Common.{get_or, refl}
 use Rattle.flush_core.specs.declared.past.BornNode.{BornNode}
 use Rattle.flush_core.specs.Broken.{IsBornLate}
-use Rattle.flush_core.proofs.Own.{both}
+use Rattle.flush_core.proofs.Basics.{both}
 use Rattle.flush_core.proofs.Searched.{found, none_more, none_at_all}
 use Rattle.flush_core.proofs.rules.bears_late.Goals as goal
 

@@ -1,7 +1,7 @@
 use Rattle.std.proofs.Common.{◌∷◌, ℕ, slice_index, add-one, sym, ap, subst}
 use borrow.Author.Count.{below_more}
 use Rattle.flush_core.specs.Broken.{IsUnplaced}
-use Rattle.flush_core.proofs.Own.{both}
+use Rattle.flush_core.proofs.Basics.{both}
 use Rattle.flush_core.proofs.rules.has_unplaced.Goals as goal
 
 pub loop-holder-preserved : goal.loop-holder-preserved

@@ -1,6 +1,6 @@
 use Rattle.std.proofs.Common.{refl}
 use Rattle.flush_core.specs.Broken.{LacksAncestor}
-use Rattle.flush_core.proofs.Own.{both}
+use Rattle.flush_core.proofs.Basics.{both}
 use Rattle.flush_core.proofs.Searched.{found, none_more, none_at_all}
 use Rattle.flush_core.proofs.rules.lacks_ancestors.Goals as goal
 

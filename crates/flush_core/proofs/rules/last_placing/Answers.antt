@@ -2,7 +2,7 @@ use Rattle.std.proofs.Common.{Option, ℕ, List, sym, subst, ◌∙◌, ap, Some
 use Rattle.std.proofs.lemmas.List.{take_all}
 use Rattle.flush_core.specs.Broken.{IsLatest}
 use Rattle.flush_core.specs.declared.past.OwnChange.{OwnChange}
-use Rattle.flush_core.proofs.Own.{both}
+use Rattle.flush_core.proofs.Basics.{both}
 use Rattle.flush_core.proofs.Placings.{latest_more, latest_skip}
 use Rattle.flush_core.proofs.rules.last_placing.Goals as goal
 use Rattle.flush_core.proofs.rules.last_placing.Goals.{then-places_below, else-places_below}

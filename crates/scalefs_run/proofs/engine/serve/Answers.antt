@@ -1,13 +1,9 @@
 -- The phases of a script, one after another.
-use Rattle.std.proofs.Common.{Result, Ok, Err, arith}
-use Rattle.std.specs.Prelude.{OnErr}
+use Rattle.std.proofs.Common.{arith}
 use Rattle.sfs_dev.proofs.Runs.{GoesOn-trans}
 use Rattle.scalefs_run.proofs.Making.{follows_next, follows_part}
 use Rattle.scalefs_run.proofs.engine.serve.Goals as goal
-
-on_err : {A E : Type 0} {X : Type 0} (r : Result A E) → X → OnErr r X
-on_err (Ok v) x = tt
-on_err (Err e) x = x
+use Rattle.sfs_base.proofs.BasicOptions.{on_err}
 
 pub returns-in_err-serve_phase-clause-invariant : goal.returns-in_err-serve_phase-clause-invariant
 returns-in_err-serve_phase-clause-invariant g c start from first h = c.in_err-serve_phase.ensures.invariant start from first (c.loop-phase.invariant.still start from first h)

@@ -1,14 +1,10 @@
 -- The workers of a phase, one after another.
-use Rattle.std.proofs.Common.{◌≡◌, Result, Ok, Err, subst, arith}
-use Rattle.std.specs.Prelude.{OnErr}
+use Rattle.std.proofs.Common.{◌≡◌, subst, arith}
 use Rattle.sfs_dev.proofs.Runs.{GoesOn-trans}
 use Rattle.scalefs_run.specs.Made.{Grown, UpTo}
 use Rattle.scalefs_run.proofs.Making.{up_to_more, up_to_part, up_to_all}
 use Rattle.scalefs_run.proofs.engine.serve_phase.Goals as goal
-
-on_err : {A E : Type 0} {X : Type 0} (r : Result A E) → X → OnErr r X
-on_err (Ok v) x = tt
-on_err (Err e) x = x
+use Rattle.sfs_base.proofs.BasicOptions.{on_err}
 
 pub returns-in_err-serve_worker-clause-invariant : goal.returns-in_err-serve_worker-clause-invariant
 returns-in_err-serve_worker-clause-invariant g c start from first h = c.in_err-serve_worker.ensures.invariant start from first (c.loop-core.invariant.still start from first h)

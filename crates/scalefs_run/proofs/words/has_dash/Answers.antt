@@ -1,11 +1,8 @@
-use Rattle.std.proofs.Common.{◌≡◌, ℕ, zero, suc, ◌<◌, Bool, true, false, List, [], ◌∷◌, ◌||◌, length, map, string_bytes, Global, get_or, refl, sym, ap, ◌∙◌, arith}
+use Rattle.std.proofs.Common.{◌≡◌, ℕ, zero, suc, ◌<◌, true, List, [], ◌∷◌, ◌||◌, length, map, string_bytes, Global, get_or, sym, ap, ◌∙◌, arith}
 use Rattle.std.specs.List.{list_any}
 use Rattle.scalefs_run.specs.Words.{begins_with_dash}
 use Rattle.scalefs_run.proofs.words.has_dash.Goals as goal
-
-or_true : (a : Bool) → (a || true) ≡ true
-or_true true = refl
-or_true false = refl
+use Rattle.sfs_base.proofs.BasicTruth.{or_true}
 
 -- a word that passes
 any_at : {A : Type 0} (f : A → List ℕ) (xs : List A) (k : ℕ) (x : A) → k < length xs → x ≡ get_or xs k x → begins_with_dash (f x) ≡ true → list_any begins_with_dash (map f xs) ≡ true

@@ -1,4 +1,4 @@
-use Rattle.std.proofs.Common.{rules, ◌≡◌, ◌<◌, ◌++◌, ◌∷◌, [], length, true, false, inr, sym, ap, subst, ◌∙◌}
+use Rattle.std.proofs.Common.{rules, ◌≡◌, ◌<◌, ◌++◌, ◌∷◌, [], length, inr, sym, ap, subst, ◌∙◌}
 use Rattle.sfs_tree.specs.declared.history.Entry.{Entry}
 use Rattle.sfs_tree.specs.History.{MayCome}
 use Rattle.flush_core.specs.declared.event.Event.TheVariants as event
@@ -7,6 +7,7 @@ use Rattle.flush_core.specs.Machine.{IsRefused, Accepts}
 use Rattle.flush_core.specs.State.{KeptState, machine_of}
 use Rattle.flush_core.specs.Story.{StoryState, end_of, with_entry, IsReadyPast}
 use Rattle.flush_core.specs.contracts.state.State as shown
+use Rattle.flush_core.proofs.Basics.{no_true}
 use Rattle.flush_core.proofs.Stories.{past_sound, past_core, joined_ready}
 use Rattle.flush_core.proofs.Called.{not_legal, may_come, takes_call}
 use Rattle.flush_core.proofs.state.State.call.Goals as goal
@@ -20,12 +21,9 @@ add-requires-clause-sound c = past_sound _ _ c.in_ok-past.past c.in_ok-past.ensu
 pub returns-then-not-is_answer : goal.returns-then-not-is_answer
 returns-then-not-is_answer c = (
   inr (subst (λ (s : KeptState). IsRefused (machine_of s) (event.Call c.args.entry.now) (refused.NotLegal c.in_ok-reply.reply)) c.self.view_is (not_legal (shown.the_view c.self.inside) c.in_ok-past.past c.in_ok-past.ensures.past
-      c.args.entry.now (ap (λ (s : KeptState). s.crashed) c.self.view_is ∙ c.requires.running) (search rules) (subst (λ (s : KeptState). c.args.entry.now.core.0 < length s.first.made) (sym c.self.view_is) c.requires.core) c.flushes-is_flush.result c.flushes-is_flush.ensures c.in_ok-reply.reply c.in_ok-reply.ensures.reply (λ right. differ (sym c.if-not-is_answer.true ∙ c.is_answer.ensures.1 right)))),
+      c.args.entry.now (ap (λ (s : KeptState). s.crashed) c.self.view_is ∙ c.requires.running) (search rules) (subst (λ (s : KeptState). c.args.entry.now.core.0 < length s.first.made) (sym c.self.view_is) c.requires.core) c.flushes-is_flush.result c.flushes-is_flush.ensures c.in_ok-reply.reply c.in_ok-reply.ensures.reply (λ right. no_true (sym c.if-not-is_answer.true ∙ c.is_answer.ensures.1 right)))),
   (λ i. record (shown.the_view c.self.inside) { first = (c.take_past.ensures.same i).first; entries = (c.take_past.ensures.same i).history }) ∙ c.self.view_is,
 )
-  where
-    differ : false ≡ true → ⊥
-    differ e = cc
 
 pub join-requires-clause-may : goal.join-requires-clause-may
 join-requires-clause-may c =

@@ -1,6 +1,5 @@
-use Rattle.std.proofs.Common.{rules, ◌≡◌, true, false, map, length, ℕ, ◌<◌, List, get_or, ap, sym, ◌∙◌, arith}
+use Rattle.std.proofs.Common.{rules, ◌≡◌, true, false, map, length, ℕ, ◌<◌, List, get_or, ap, sym, ◌∙◌}
 use Rattle.std.proofs.lemmas.List.{get_or-map}
-use Rattle.sfs_base.specs.declared.numbers.Kind.{Kind}
 use Rattle.sfs_tree.specs.NameKinds.{name_kind}
 use Rattle.sfs_tree.proofs.listing.NameRows.equals.Goals as goal
 

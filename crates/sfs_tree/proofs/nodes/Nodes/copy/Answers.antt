@@ -1,4 +1,4 @@
-use Rattle.std.proofs.Common.{◌≡◌, map, option_map, List, ℕ, [], ◌∷◌, length, suc, take, Option, Some, None, ap, sym, ◌∙◌, refl}
+use Rattle.std.proofs.Common.{◌≡◌, map, option_map, List, ℕ, [], ◌∷◌, length, suc, Option, Some, None, ap, sym, ◌∙◌, refl}
 use Rattle.std.proofs.lemmas.List.{take_all, length-map}
 use Rattle.std.specs.FinMap.{from_entries}
 use Rattle.sfs_tree.specs.declared.nodes.NodeData.{NodeData}

@@ -7,13 +7,11 @@ use Rattle.sfs_tree.specs.NodesState.{NodesState}
 use Rattle.sfs_tree.specs.Nodes.{node_of}
 use Rattle.sfs_tree.proofs.Numbered.{get-numbered}
 use Rattle.sfs_tree.proofs.nodes.Nodes.next_from.Goals as goal
+use Rattle.sfs_base.proofs.BasicOptions.{none_not_some}
 
 seen : (o : Option NodeData) → is_some o ≡ true → IsSome (option_map node_of o)
 seen (Some n) e = refl
 seen None e = cc
-
-none_not : {X : Type 0} (o : Option X) → o ≡ None → IsSome o → ⊥
-none_not o none some = cc
 
 pub returns-then-is_some-clause-found : goal.returns-then-is_some-clause-found
 returns-then-is_some-clause-found c =
@@ -24,7 +22,7 @@ returns-then-is_some-clause-found c =
       node = subst (λ (s : NodesState). IsSome (get s.nodes place)) c.self.view_is (subst IsSome (ap (option_map node_of) at ∙ sym (get-numbered c.self.inside.places.items place)) (seen c.index.result.now (sym c.is_some.ensures ∙ c.if-is_some.true)));
       from = c.loop-place.auto.place;
       least = λ other from some. elim (ltb other place) as (λ b. ltb other place ≡ b → place ≤ other) [
-        | true ↦ λ t. absurd (none_not _ (c.loop-place.invariant other from (ltb-true _ _ t)) some)
+        | true ↦ λ t. absurd (none_not_some _ (c.loop-place.invariant other from (ltb-true _ _ t)) some)
         | false ↦ λ t. ltb-false _ _ t
       ] refl;
     }

@@ -1,4 +1,4 @@
-use Rattle.std.proofs.Common.{◌≡◌, Result, Ok, Err, OnErr, Option, Some, None, option_map, get_or, set, sym, ap, ◌∙◌, arith}
+use Rattle.std.proofs.Common.{◌≡◌, Option, Some, None, option_map, get_or, set, sym, ap, ◌∙◌, arith}
 use Rattle.std.specs.FinMap.{get}
 use Rattle.std.proofs.lemmas.List.{get_or_read, get_or_past, set-get_or}
 use Rattle.sfs_tree.specs.declared.nodes.NodeData.{NodeData}
@@ -9,10 +9,7 @@ use Rattle.sfs_tree.specs.Effect.{Resizes, with_edit}
 use Rattle.sfs_tree.proofs.Numbered.{numbered_same, numbered_edited, get-numbered}
 use Rattle.sfs_tree.proofs.nodes.Nodes.resize.Goals as goal
 use Rattle.sfs_tree.proofs.nodes.Nodes.resize.Goals.{After-index_mut, in-Some+in_ok-resize-in-Some, in-None}
-
-on_err : {X E : Type 0} {P : Type 0} (r : Result X E) → P → OnErr r P
-on_err (Ok x) p = tt
-on_err (Err e) p = p
+use Rattle.sfs_base.proofs.BasicOptions.{on_err}
 
 -- what lies at the number's place
 there : (c : After-index_mut) (o : Option NodeData) → c.index_mut.result.now ≡ o → get_or c.self.inside.places.items c.args.number None ≡ o

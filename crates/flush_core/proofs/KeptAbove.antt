@@ -7,32 +7,26 @@ use Rattle.sfs_tree.specs.Changes.{RowChange, added, removed, other_side}
 use Rattle.sfs_tree.proofs.KeepsSound.{way_up}
 use Rattle.sfs_tree.proofs.Walks.{walk_is}
 use Rattle.flush_core.specs.declared.past.OwnChange.{OwnChange}
-use Rattle.flush_core.specs.Rules.{IsOneOf}
-use Rattle.flush_core.specs.Past.{row_change_of}
-use Rattle.flush_core.specs.Plan.{MovesDirectory, IsNoted, AreNoted, IsAboveNew}
-use Rattle.flush_core.proofs.Along.{in_either}
+use Rattle.flush_core.specs.Rules.{IsOneOf, MovesDirectory}
+use Rattle.flush_core.specs.Past.{row_change_of, KeepsAbove}
+use Rattle.flush_core.specs.Plan.{KeepAllAbove, IsAboveNew}
+use Rattle.flush_core.proofs.Basics.{in_either, no_true, none_some}
 
 -- none are noted of a change that moves no directory
-pub noted_none : (tree : TreeState) (change : OwnChange) → (MovesDirectory tree (row_change_of change) → ⊥) → change.above ≡ None → IsNoted tree change
+pub noted_none : (tree : TreeState) (change : OwnChange) → (MovesDirectory tree (row_change_of change) → ⊥) → change.above ≡ None → KeepsAbove tree change
 noted_none tree change still none = record {
-  moves = λ v e. absurd (differ (sym none ∙ e));
-  stand = λ v e. absurd (differ (sym none ∙ e));
+  moves = λ v e. absurd (none_some (sym none ∙ e));
+  stand = λ v e. absurd (none_some (sym none ∙ e));
   all = λ moves above way. absurd (still moves);
 }
-  where
-    differ : {v : Vec ℕ Global} → None ≡ Some v → ⊥
-    differ e = cc
 
 -- a row that goes moves nothing
-pub noted_taken : (tree : TreeState) (change : OwnChange) (stamp directory : ℕ) (name : List ℕ) (child : ℕ) (other : Option ℕ) (ends : Bool) → row_change_of change ≡ removed stamp directory name child other ends → change.above ≡ None → IsNoted tree change
-noted_taken tree change stamp directory name child other ends row none = noted_none tree change (λ moves. differ (sym (ap (λ (c : RowChange). c.places) row) ∙ moves.places)) none
-  where
-    differ : false ≡ true → ⊥
-    differ e = cc
+pub noted_taken : (tree : TreeState) (change : OwnChange) (stamp directory : ℕ) (name : List ℕ) (child : ℕ) (other : Option ℕ) (ends : Bool) → row_change_of change ≡ removed stamp directory name child other ends → change.above ≡ None → KeepsAbove tree change
+noted_taken tree change stamp directory name child other ends row none = noted_none tree change (λ moves. no_true (sym (ap (λ (c : RowChange). c.places) row) ∙ moves.places)) none
 
 -- a row that comes by a rename
 pub noted_put : (tree : TreeState) (change : OwnChange) (stamp directory to_directory : ℕ) (name : List ℕ) (child : ℕ) → IsSound tree → row_change_of change ≡ added stamp to_directory name child (other_side to_directory directory)
-    → IsAboveNew tree directory to_directory child change.above → is_directory tree to_directory ≡ true → is_alive tree to_directory ≡ true → IsNoted tree change
+    → IsAboveNew tree directory to_directory child change.above → is_directory tree to_directory ≡ true → is_alive tree to_directory ≡ true → KeepsAbove tree change
 noted_put tree change stamp directory to_directory name child s row new kind alive = record {
   moves = λ v e. record {
     places = ap (λ (c : RowChange). c.places) row;
@@ -68,15 +62,15 @@ noted_put tree change stamp directory to_directory name child s row new kind ali
     noted_all (Some v) e some up = (v, e, new.walk v e ∙ walk_is tree s up kind)
 
 -- some are noted, and one more is
-pub noted_more : (tree : TreeState) (changes more : List OwnChange) (change : OwnChange) → more ≡ changes ++ change ∷ [] → AreNoted tree changes → (is_directory tree change.directory ≡ true → is_alive tree change.directory ≡ true → IsNoted tree change) → AreNoted tree more
+pub noted_more : (tree : TreeState) (changes more : List OwnChange) (change : OwnChange) → more ≡ changes ++ change ∷ [] → KeepAllAbove tree changes → (is_directory tree change.directory ≡ true → is_alive tree change.directory ≡ true → KeepsAbove tree change) → KeepAllAbove tree more
 noted_more tree changes more change is noted one other among kind alive = elim (in_either changes (change ∷ []) other (subst (λ l. IsOneOf l other) is among)) [
   | inl old ↦ noted other old kind alive
   | inr new ↦ elim new [
-    | inl same ↦ subst (λ (c : OwnChange). IsNoted tree c) same (one (subst (λ (c : OwnChange). is_directory tree c.directory ≡ true) (sym same) kind) (subst (λ (c : OwnChange). is_alive tree c.directory ≡ true) (sym same) alive))
+    | inl same ↦ subst (λ (c : OwnChange). KeepsAbove tree c) same (one (subst (λ (c : OwnChange). is_directory tree c.directory ≡ true) (sym same) kind) (subst (λ (c : OwnChange). is_alive tree c.directory ≡ true) (sym same) alive))
     | inr none ↦ absurd none
   ]
 ]
 
 -- a row that comes by no rename
-pub noted_plain : (tree : TreeState) (change : OwnChange) (stamp directory : ℕ) (name : List ℕ) (child : ℕ) → row_change_of change ≡ added stamp directory name child None → change.above ≡ None → IsNoted tree change
+pub noted_plain : (tree : TreeState) (change : OwnChange) (stamp directory : ℕ) (name : List ℕ) (child : ℕ) → row_change_of change ≡ added stamp directory name child None → change.above ≡ None → KeepsAbove tree change
 noted_plain tree change stamp directory name child row none = noted_none tree change (λ moves. moves.other (ap (λ (c : RowChange). c.other) row)) none

@@ -1,0 +1,79 @@
+-- Writes to an image, whole or torn: which bytes they may change, and what stands where they are made.
+use Rattle.std.specs.Prelude.{◌≡◌, ◌≢◌, ◌⊎◌, ℕ, ◌+◌, ◌*◌, ◌<◌, ◌≤◌, true, false, All, List, length, take, drop, Option, None, Some}
+use Rattle.sfs_image.specs.Bytes.{part}
+use Rattle.sfs_image.specs.ImageOf.{InodePart, Transaction, part_given, given, with_opened, with_slot, HasBody, PointsToData}
+use Rattle.sfs_image.specs.Journal.{head_of}
+use Rattle.sfs_image.specs.Part.{Part, IsGathered, pointer_at}
+use Rattle.sfs_image.specs.Settled.{Stamped, image_block, journal_slot, slot_byte, slot_count, table_byte, table_record}
+use Rattle.sfs_image.specs.Super.{Layout, slot_blocks, data_start}
+
+-- two lists of bytes are the same but for the n bytes from byte `at` on
+pub record AgreesOutside (at n : ℕ) (old new : List ℕ) : Type 0 where
+  pub before : take at new ≡ take at old
+  pub behind : drop (at + n) new ≡ drop (at + n) old
+  pub size : length new ≡ length old
+
+-- m bytes from byte `from` on and n bytes from byte `at` on have none in common
+abbrev pub LiesApart : ℕ → ℕ → ℕ → ℕ → Type 0
+LiesApart from m at n = (from + m ≤ at) ⊎ (at + n ≤ from)
+
+-- A transaction may come to the open ones: its commit stamp is none of theirs, and greater than that of each which gives an inode
+-- that it gives too; and its parts are gathered from these blocks and point to data.
+pub record MayOpen (layout : Layout) (opened : ℕ → Option Transaction) (one : Transaction) (store : ℕ → List ℕ) : Type 0 where
+  pub own : (j : ℕ) (other : Transaction) → j < slot_count layout → opened j ≡ Some other → other.stamp ≢ one.stamp
+  pub newer : (i j : ℕ) (other ours : Stamped Part) → j < slot_count layout → part_given i (opened j) ≡ Some other → part_given i (Some one) ≡ Some ours →
+      other.stamp < ours.stamp
+  pub gathered : All (λ (inner : InodePart). IsGathered store inner.part) one.parts
+  pub pointers : All (λ (inner : InodePart). PointsToData layout inner.part) one.parts
+
+-- A slot may be closed whose transaction has a lesser commit stamp than each other which gives an inode that it gives too, and
+-- which gives no inode alone whose record is not in the table.
+pub record MayShut (layout : Layout) (opened : ℕ → Option Transaction) (k : ℕ) (image : List ℕ) : Type 0 where
+  pub older : (i j : ℕ) (other ours : Stamped Part) → j < slot_count layout → j ≢ k → part_given i (opened j) ≡ Some other →
+      part_given i (opened k) ≡ Some ours → ours.stamp < other.stamp
+  pub table : (i : ℕ) (ours : Stamped Part) → i < layout.inodes → part_given i (opened k) ≡ Some ours → given layout (with_slot opened k None) i ≡ None →
+      table_record layout image i ≡ ours.value.raw
+
+-- A write to the data area, apart from the blocks of all parts.
+pub record WritesData (layout : Layout) (opened : ℕ → Option Transaction) (parts : ℕ → Part) (old new : List ℕ) : Type 0 where
+  pub at : ℕ
+  pub n : ℕ
+  pub written : AgreesOutside at n old new
+  pub behind : 4096 * data_start layout ≤ at
+  pub apart : (i place : ℕ) → i < layout.inodes → pointer_at (with_opened layout opened parts i) place ≢ 0
+      → LiesApart (4096 * pointer_at (with_opened layout opened parts i) place) 4096 at n
+
+-- A write of n bytes within the table's record of inode i, which an open slot has.
+pub record WritesRecord (layout : Layout) (opened : ℕ → Option Transaction) (i : ℕ) (old new : List ℕ) : Type 0 where
+  pub from : ℕ
+  pub n : ℕ
+  pub written : AgreesOutside (table_byte layout i + from) n old new
+  pub within : i < layout.inodes
+  pub fits : from + n ≤ 512
+  pub taken : given layout opened i ≢ None
+
+-- A write of n bytes behind the gate of slot k, which is closed.
+pub record WritesBody (layout : Layout) (opened : ℕ → Option Transaction) (k : ℕ) (old new : List ℕ) : Type 0 where
+  pub from : ℕ
+  pub n : ℕ
+  pub written : AgreesOutside (slot_byte layout k + from) n old new
+  pub within : k < slot_count layout
+  pub fits : from + n ≤ 4096 * slot_blocks layout.inodes
+  pub behind : 1 ≤ from
+  pub shut : opened k ≡ None
+
+-- A write of one byte at the gate of slot k, which is closed and has the whole body of a transaction, opens it.
+pub record OpensGate (layout : Layout) (opened : ℕ → Option Transaction) (k : ℕ) (one : Transaction) (old new : List ℕ) : Type 0 where
+  pub within : k < slot_count layout
+  pub written : AgreesOutside (slot_byte layout k) 1 old new
+  pub shut : opened k ≡ None
+  pub whole : HasBody layout.inodes one (journal_slot layout old k)
+  pub may : MayOpen layout opened one (image_block old)
+  pub gate : (head_of (part 0 4096 (journal_slot layout new k))).gate ≡ true
+
+-- A write of one byte at the gate of slot k shuts it.
+pub record ShutsGate (layout : Layout) (opened : ℕ → Option Transaction) (k : ℕ) (old new : List ℕ) : Type 0 where
+  pub within : k < slot_count layout
+  pub written : AgreesOutside (slot_byte layout k) 1 old new
+  pub may : MayShut layout opened k old
+  pub gate : (head_of (part 0 4096 (journal_slot layout new k))).gate ≡ false
