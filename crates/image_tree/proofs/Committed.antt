@@ -18,7 +18,8 @@ use Rattle.image_tree.specs.Renamed.{Numbering}
 use Rattle.image_tree.specs.Stands.{row_on, ShowsNode, IsUnused, HoldsApart, StandsForTree}
 use Rattle.image_tree.specs.Commit.{row_in_net, brought_row, slot_after, new_rows, filled, slots_after, Commit, blank, seen_before, IsAside, HasBlock, hole, kept, fresh, ComesBy, had, enters, IsCommitStep, GivesNumbers}
 use Rattle.image_tree.specs.Laws.{CommitsKeepStanding}
-use Rattle.image_tree.proofs.Basics.{some_is, none_some, both_true_first}
+use Rattle.sfs_base.proofs.BasicTruth.{and_first}
+use Rattle.sfs_base.proofs.BasicOptions.{none_some, some_same}
 use Rattle.image_tree.proofs.Paired.{count_paired}
 use Rattle.image_tree.proofs.Renaming.{under_is}
 use Rattle.image_tree.proofs.Standing.{holder_number, kind_directory, not_used, standing_images_show}
@@ -47,7 +48,7 @@ module _ (num after : Numbering) (old new : TreeState) (x : ℕ) (net : List Net
   after_named row made is = by_child (number_of row.after) is
     where
       by_child : (o : Option ℕ) → option_map (row_on after new row.name) o ≡ Some made → made.name ≡ row.name
-      by_child (Some y) e = ap (λ (r : Row). r.name) (sym (some_is e))
+      by_child (Some y) e = ap (λ (r : Row). r.name) (sym (some_same e))
       by_child None e = absurd (none_some e)
 
   new_named : (row : NetRow) (made : Row) → new_row row ≡ Some made → made.name ≡ row.name
@@ -61,7 +62,7 @@ module _ (num after : Numbering) (old new : TreeState) (x : ℕ) (net : List Net
   slot_named row made is = by_net (row_in_net row.name net) refl is
     where
       by_net : (o : Option NetRow) → row_in_net row.name net ≡ o → option_map_or (brought_row after new) o (Some row) ≡ Some made → made.name ≡ row.name
-      by_net None e same = ap (λ (r : Row). r.name) (sym (some_is same))
+      by_net None e same = ap (λ (r : Row). r.name) (sym (some_same same))
       by_net (Some r) e same = after_named r made same ∙ (net_row_is (names_of x old.rows) (names_of x new.rows) net is_net row.name r e).0
 
   old_row : (n : List ℕ) → get (names_of x old.rows) n ≡ row_of old x n
@@ -184,9 +185,9 @@ module _ (old new : TreeState) (kinds : (x : ℕ) → kind_of new x ≡ kind_of 
 
   directories_alike : count_by (holds_directory old x) (entries old.rows) ≡ count_by (holds_directory new x) (entries new.rows)
   directories_alike = count_alike (holds_directory old x) (holds_directory new x) old.rows new.rows (λ k y is passes.
-      let here : k.0 ≡ x = eqb-true _ _ (both_true_first (nat_eq k.0 x) (is_directory old y) passes) in
+      let here : k.0 ≡ x = eqb-true _ _ (and_first (nat_eq k.0 x) (is_directory old y) passes) in
       (back_at new k y x here (rows k.1 ∙ at old k y x here is), ap (λ b. nat_eq k.0 x && b) (same_directory y) ∙ passes)) (λ k y is passes.
-      let here : k.0 ≡ x = eqb-true _ _ (both_true_first (nat_eq k.0 x) (is_directory new y) passes) in
+      let here : k.0 ≡ x = eqb-true _ _ (and_first (nat_eq k.0 x) (is_directory new y) passes) in
       (back_at old k y x here (sym (rows k.1) ∙ at new k y x here is), ap (λ b. nat_eq k.0 x && b) (sym (same_directory y)) ∙ passes))
 
   naming_alike : count_of old.rows x ≡ count_of new.rows x
@@ -229,7 +230,7 @@ module _ (commit : Commit) (old new : TreeState) (image next : SeenInodes) (step
   keeps_number y i j a b = by_way (step.commits.numbers.comes y j b)
     where
       by_way : ComesBy commit image y j → i ≡ j
-      by_way (had is) = some_is (sym a ∙ is)
+      by_way (had is) = some_same (sym a ∙ is)
       by_way (enters none _ _) = absurd (none_some (sym none ∙ a))
 
   pub same_row : (d : ℕ) (n : List ℕ) (y : ℕ) → row_of old d n ≡ Some y → row_of new d n ≡ Some y → ◌≡◌ {A = Row} (row_on commit.before old n y) (row_on commit.after new n y)

@@ -22,7 +22,8 @@ use Rattle.image_tree.specs.Stands.{row_on, IsUnused}
 use Rattle.image_tree.specs.Commit.{row_in_net, brought_row, slot_after, new_rows, filled, slots_after, Commit, blank, seen_before, IsBuiltAnew, IsAside, HasBlock, hole, kept, fresh, ComesBy, had, enters, IsCommit}
 use Rattle.image_tree.specs.Elsewhere.{Elsewhere, commit_there, IsTouched, IsPlanned, Suits}
 use Rattle.image_tree.specs.Laws.{PlannedCommitsHoldElsewhere}
-use Rattle.image_tree.proofs.Basics.{some_is, none_some, true_false}
+use Rattle.sfs_base.proofs.BasicTruth.{not_both}
+use Rattle.sfs_base.proofs.BasicOptions.{none_some, some_same}
 use Rattle.image_tree.proofs.NetRows.{same_option, net_row_is, no_net_row}
 use Rattle.image_tree.proofs.Committed.{links_alike, number_once}
 use Rattle.image_tree.proofs.Standing.{not_used}
@@ -106,7 +107,7 @@ module _ (commit : Commit) (old new : TreeState) (image next : SeenInodes) (ther
       same_node None None e = refl
       same_node None (Some q) e = absurd (none_some e)
       same_node (Some o) None e = absurd (none_some (sym e))
-      same_node (Some o) (Some q) e = let same : o.0 ≡ q.0 = some_is e in λ i. Some (record { 0 = same i })
+      same_node (Some o) (Some q) e = let same : o.0 ≡ q.0 = some_same e in λ i. Some (record { 0 = same i })
 
       by_child : (o : Option ℕ) → number_of row.after ≡ o → option_map (row_on there.after there.new row.name) o ≡ option_map (row_on commit.after new row.name) o
       by_child None e = refl
@@ -172,7 +173,7 @@ module _ (commit : Commit) (old new : TreeState) (image next : SeenInodes) (ther
   untouched x i other is t = by_number t.number
     where
       apart : (y : ℕ) → commit.concerns y ≡ true → there.before y ≡ Some i → ⊥
-      apart y concerned same = true_false (ap commit.concerns (suits.stands.once x y i is same) ∙ concerned) other
+      apart y concerned same = not_both (ap commit.concerns (suits.stands.once x y i is same) ∙ concerned) other
 
       by_way : commit.after t.node ≡ Some i → ComesBy commit image t.node i → ⊥
       by_way now (had was) = apart t.node t.concerned (suits.agrees.numbers t.node t.concerned ∙ was)
@@ -196,10 +197,10 @@ module _ (commit : Commit) (old new : TreeState) (image next : SeenInodes) (ther
   }
     where
       stayed : (d : ℕ) (n : List ℕ) → row_of new d n ≡ Some x → row_of old d n ≡ Some x
-      stayed d n row = elim (same_option (row_of old d n) (Some x)) [ inl same ↦ same | inr differ ↦ absurd (true_false (plan.concerns.comes d n x row differ) other) ]
+      stayed d n row = elim (same_option (row_of old d n) (Some x)) [ inl same ↦ same | inr differ ↦ absurd (not_both (plan.concerns.comes d n x row differ) other) ]
 
       stays : (d : ℕ) (n : List ℕ) → row_of old d n ≡ Some x → row_of new d n ≡ Some x
-      stays d n row = elim (same_option (row_of new d n) (Some x)) [ inl same ↦ same | inr differ ↦ absurd (true_false (plan.concerns.goes d n x row differ) other) ]
+      stays d n row = elim (same_option (row_of new d n) (Some x)) [ inl same ↦ same | inr differ ↦ absurd (not_both (plan.concerns.goes d n x row differ) other) ]
 
   stays_there : (x i : ℕ) → there.after x ≡ Some i → commit.concerns x ≡ false → (there.before x ≡ Some i) × (there.next.seen i ≡ there.image.seen i) × IsAside there.old there.new x
   stays_there x i is other =
@@ -230,7 +231,7 @@ module _ (commit : Commit) (old new : TreeState) (image next : SeenInodes) (ther
   touched_alone i t y other is = by_number t.number
     where
       same_concern : t.node ≡ y → ⊥
-      same_concern same = true_false t.concerned (ap commit.concerns same ∙ other)
+      same_concern same = not_both t.concerned (ap commit.concerns same ∙ other)
 
       by_number : (commit.before t.node ≡ Some i) ⊎ (commit.after t.node ≡ Some i) → ⊥
       by_number (inl was) = same_concern (plan.stands.once t.node y i was (plan.commits.stays y i is other).0)

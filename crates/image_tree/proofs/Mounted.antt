@@ -11,7 +11,7 @@ use Rattle.sfs_base.specs.Name.{bucket}
 use Rattle.sfs_base.specs.declared.numbers.Kind.{Kind}
 use Rattle.sfs_base.specs.declared.numbers.Kind.TheVariants.{File, Directory}
 use Rattle.sfs_tree.specs.Order.{name_cmp, Key}
-use Rattle.sfs_tree.specs.Tree.{TreeState, Node, row_of, is_directory, is_alive, kind_of, count_of, links_of, names_it, holds_directory, bucket_rows}
+use Rattle.sfs_tree.specs.Tree.{BUCKET_ROWS, TreeState, Node, row_of, is_directory, is_alive, kind_of, count_of, links_of, names_it, holds_directory, bucket_rows}
 use Rattle.sfs_tree.specs.Sound.{Above, at_root, below, IsSound}
 use Rattle.sfs_tree.proofs.Counting.{count_some, count_agree, only}
 use Rattle.sfs_tree.proofs.Joined.{name_cmp-IsAntisymmetric}
@@ -24,11 +24,11 @@ use Rattle.image_tree.specs.Slots.{looked_up, name_count}
 use Rattle.image_tree.specs.ImageTree.{Making, NOTHING_MADE, shows_directory, image_rows, is_node, is_used, node_shown, nodes_where, tree_where, image_tree, tree_with_orphans}
 use Rattle.image_tree.specs.Renamed.{Numbering, IsMet, root, named}
 use Rattle.image_tree.specs.Stands.{inode_under, row_on, ShowsNode, IsUnused, StandsForTree, IsStorable}
-use Rattle.sfs_tree.specs.Verdict.{BUCKET_ROWS}
 use Rattle.image_tree.specs.Keeps.{ruled_tree, IsDirectoryInode, MayName, MayStand, KeepsRules}
 use Rattle.image_tree.specs.Mount.{own_numbers, ShowsByKind, HasNoOrphans}
 use Rattle.image_tree.specs.Laws.{RulesMakeStanding}
-use Rattle.image_tree.proofs.Basics.{some_is, none_some, true_false}
+use Rattle.sfs_base.proofs.BasicTruth.{not_both}
+use Rattle.sfs_base.proofs.BasicOptions.{none_some, some_same}
 use Rattle.image_tree.proofs.SlotRows.{looked_named}
 use Rattle.image_tree.proofs.Images.{row_shown, no_row_shown, slot_back, get_node, no_node_outside, node_is, directory_where, directory_shown, directory_is_node, file_is_node, kind_again}
 
@@ -38,7 +38,7 @@ looked_may image n [] row all is = absurd (none_some is)
 looked_may image n (None ∷ slots) row all is = looked_may image n slots row all.1 is
 looked_may image n (Some held ∷ slots) row all is =
     elim (bytes_eq n held.name) as (λ b. cond b (Some held) (looked_up n slots) ≡ Some row → MayName image row) [
-      | true ↦ λ e. subst (MayName image) (some_is e) all.0
+      | true ↦ λ e. subst (MayName image) (some_same e) all.0
       | false ↦ λ e. looked_may image n slots row all.1 e
     ] is
 
@@ -151,12 +151,12 @@ module _ (image : SeenInodes) (making : Making) (k : KeepsRules image) (g : Show
     | false ↦ λ t e. absurd (none_some e)
     | true ↦ λ t e. elim (is_used image x) as (λ b. is_used image x ≡ b → cond b (Some x) None ≡ Some i → IsOwn x i) [
       | false ↦ λ u e. absurd (none_some e)
-      | true ↦ λ u e. record { is = some_is e; within = ltb-true _ _ t; used = u }
+      | true ↦ λ u e. record { is = some_same e; within = ltb-true _ _ t; used = u }
     ] refl e
   ] refl e
 
   used_not_free : (x : ℕ) → is_used image x ≡ true → (image.seen x).kind ≢ 0
-  used_not_free x u free = true_false u (ap (λ b. not (nat_eq b 0)) free)
+  used_not_free x u free = not_both u (ap (λ b. not (nat_eq b 0)) free)
 
   own_directory : (i : ℕ) → i < image.count → is_directory own i ≡ shows_directory (image.seen i)
   own_directory i lt = directory_where image (is_used image) making used_directory i lt

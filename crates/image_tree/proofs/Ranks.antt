@@ -9,7 +9,7 @@ use Rattle.sfs_image.specs.Seen.{SeenInodes, FILE_BLOCKS, PLACES}
 use Rattle.image_tree.specs.Commit.{Commit, seen_before, HasBlock, hole, kept, fresh, TakesBlocks}
 use Rattle.image_tree.specs.Need.{Rewrite, rewrites_table, table_has_pointer, takes_place, pointer_after, place_in_row, takes_in_row, rank, RanksServe, GrantServes, IsListed, TakesByRank}
 use Rattle.image_tree.specs.Laws.{RanksServeGrants, RanksTakeFreeBlocks}
-use Rattle.image_tree.proofs.Basics.{some_is, none_some}
+use Rattle.sfs_base.proofs.BasicOptions.{none_some, some_same}
 
 module _ (takes : ℕ → Bool) where
   count_more : (a n : ℕ) → count_by takes (range_with_len a (suc n)) ≡ count_by takes (range_with_len a n) + cond (takes (a + n)) 1 0
@@ -152,7 +152,7 @@ module _ (commit : Commit) (image next : SeenInodes) (inodes : List ℕ) (rewrit
         let ranks = g.once (rank (takes_in_row rewrites) (place_in_row r.number place)) (rank (takes_in_row rewrites) (place_in_row q.number other)) r.within q.within (sym r.block ∙ same ∙ q.block) in
         let rows = (ranks_serve (takes_in_row rewrites)).once (place_in_row r.number place) (place_in_row q.number other) r.takes q.takes ranks in
         let numbers = same_number r.number q.number place other r.small q.small rows in
-        (some_is (sym r.inode ∙ ap (slice_get inodes) numbers.0 ∙ q.inode), numbers.1);
+        (some_same (sym r.inode ∙ ap (slice_get inodes) numbers.0 ∙ q.inode), numbers.1);
   }
     where
       same_number : (m l place other : ℕ) → place < PLACES → other < PLACES → PLACES * m + place ≡ PLACES * l + other → (m ≡ l) × (place ≡ other)

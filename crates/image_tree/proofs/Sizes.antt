@@ -11,8 +11,7 @@ use Rattle.sfs_base.specs.Name.{bucket}
 use Rattle.sfs_base.specs.declared.numbers.Kind.TheVariants.{File, Directory}
 use Rattle.sfs_base.specs.declared.numbers.Kind.{Kind}
 use Rattle.sfs_tree.specs.Order.{name_cmp, Key, key_cmp}
-use Rattle.sfs_tree.specs.Tree.{TreeState, row_of, kind_of, name_row, names_of, bucket_rows}
-use Rattle.sfs_tree.specs.Verdict.{BUCKET_ROWS}
+use Rattle.sfs_tree.specs.Tree.{BUCKET_ROWS, TreeState, row_of, kind_of, name_row, names_of, bucket_rows}
 use Rattle.sfs_tree.proofs.Joined.{count-cons, bucket_small}
 use Rattle.sfs_tree.proofs.Names.{entries-names_where, get-names_where}
 use Rattle.sfs_image.specs.Rules.{DIRECTORY_BLOCKS}
@@ -23,7 +22,7 @@ use Rattle.image_tree.specs.Stands.{row_on}
 use Rattle.image_tree.specs.Commit.{slot_after, new_rows, filled, slots_after, Commit, blank, seen_before, ComesBy, had, enters, IsCommitStep}
 use Rattle.image_tree.specs.Sizes.{DirectoriesFit}
 use Rattle.image_tree.specs.Laws.{CommitsKeepDirectoriesFit}
-use Rattle.image_tree.proofs.Basics.{none_some}
+use Rattle.sfs_base.proofs.BasicOptions.{none_some}
 use Rattle.image_tree.proofs.SlotRows.{bytes_same, bytes_are, count_slot, looked_counts}
 use Rattle.image_tree.proofs.SlotsAfter.{looked_in_blocks, count_in_blocks, length_in_blocks}
 use Rattle.image_tree.proofs.Standing.{not_used}

@@ -2,10 +2,9 @@
 use Rattle.std.specs.Prelude.{◌≡◌, ◌≢◌, ◌⊎◌, ℕ, ◌*◌, ◌/◌, ◌<◌, ◌≤◌, true, List, length, Some, option_map, if◌then◌else◌}
 use Rattle.std.specs.FinMap.{len}
 use Rattle.std.specs.Option.{unwrap_or}
-use Rattle.sfs_tree.specs.Tree.{TreeState, row_of, kind_of, bytes_of, links_of, is_directory, bucket_rows}
+use Rattle.sfs_tree.specs.Tree.{BUCKET_ROWS, TreeState, row_of, kind_of, bytes_of, links_of, is_directory, bucket_rows}
 use Rattle.sfs_image.specs.Slot.{Row, kind_byte}
 use Rattle.sfs_image.specs.Seen.{Seen, SeenInodes, PLACES}
-use Rattle.sfs_tree.specs.Verdict.{BUCKET_ROWS}
 use Rattle.image_tree.specs.Slots.{BLOCK_SLOTS, looked_up, name_count}
 use Rattle.image_tree.specs.ImageTree.{shows_directory}
 use Rattle.image_tree.specs.Renamed.{Numbering, HasNumber, IsMet}
