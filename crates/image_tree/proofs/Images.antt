@@ -90,7 +90,7 @@ module _ (image : SeenInodes) where
       get-from_entries key_cmp_total (flat_map (rows_in image) (range_with_len 0 image.count)) (i, n)
       ∙ find_inside key_cmp (rows_in image) (i, n) i (λ k other. rows_apart i k n other) 0 image.count (omega arith) (omega arith)
 
-  no_rows_outside : (i : ℕ) (n : List ℕ) → image.count ≤ i → get (image_rows image) (i, n) ≡ None
+  pub no_rows_outside : (i : ℕ) (n : List ℕ) → image.count ≤ i → get (image_rows image) (i, n) ≡ None
   no_rows_outside i n le =
       get-from_entries key_cmp_total (flat_map (rows_in image) (range_with_len 0 image.count)) (i, n)
       ∙ find_outside key_cmp (rows_in image) (i, n) i (λ k other. rows_apart i k n other) 0 image.count (inr (omega arith))

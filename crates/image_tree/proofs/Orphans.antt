@@ -191,6 +191,9 @@ module _ (image next : SeenInodes) (k : KeepsRules image) (g : ShowsByKind image
     reached = λ i is. let w = was_directory i is in let up = k.reached i w.inode in (up.0, above_same up.1);
   }
 
+  no_kind : 0 ≡ kind_byte Directory → ⊥
+  no_kind e = cc
+
   kinds_stay : ShowsByKind next
   kinds_stay = record {
     kinds = λ i lt used.
@@ -202,6 +205,9 @@ module _ (image next : SeenInodes) (k : KeepsRules image) (g : ShowsByKind image
     files = λ i lt file.
         let same = used_stays i (within i lt) (λ free. not_both (sym free ∙ file)) in
         subst (λ (seen : Seen). seen.slots ≡ []) (sym same) (g.files i (within i lt) (ap (λ (seen : Seen). seen.kind) (sym same) ∙ file));
+    directories = λ i lt directory.
+        let same = used_stays i (within i lt) (λ free. no_kind (sym free ∙ directory)) in
+        ap (λ (seen : Seen). seen.bytes) same ∙ g.directories i (within i lt) (ap (λ (seen : Seen). seen.kind) (sym same) ∙ directory);
     unused = λ i lt free. elim (freed_or i (within i lt)) as (λ _. IsUnused (next.seen i)) [
       | inl same ↦ subst IsUnused (sym same) (g.unused i (within i lt) (ap (λ (seen : Seen). seen.kind) (sym same) ∙ free))
       | inr freed ↦ freed.0

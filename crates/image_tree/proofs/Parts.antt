@@ -186,6 +186,7 @@ module _ (store : ℕ → List ℕ) (raws : ℕ → List ℕ) (count : ℕ) wher
         kinds = kinds_shown;
         sizes = size_shown;
         files = λ i lt file. ap (λ n. cond (nat_eq n (kind_byte Directory)) (flat_map slots_of (directory_blocks (parts i))) []) file;
+        directories = λ i lt directory. ap (λ n. cond (nat_eq n (kind_byte File)) (tabulate (inode_in (parts i)).size (Rattle.sfs_image.specs.Part.file_byte (parts i))) []) directory;
         unused = unused_shown;
       }
 

@@ -195,7 +195,7 @@ module _ (commit : Commit) (old new : TreeState) (image next : SeenInodes) (step
   taken_after : (x i : ℕ) → commit.after x ≡ Some i → taken (after_net x) ≤ 8 * BUCKET_ROWS
   taken_after x i is =
       let h = has_slots_after commit.before commit.after old new x (commit.nets x) (step.commits.nets x) (same_row commit old new image next step x) (seen_before commit image x).slots (slots_before commit old new image next step x) in
-      let rows = rows-le x new.rows (λ number lt. step.storable.full x i number is lt) in
+      let rows = rows-le x new.rows (λ number lt. step.storable.limits.buckets x number) in
       let few = taken-le (after_net x) (names_of x new.rows) (λ n. subst (λ (k : ℕ). k ≤ 1) (count_in_blocks n (after_net x)) (h.once n)) (λ row found. there row (sym (h.looked row.name) ∙ looked_in_blocks row.name (after_net x) ∙ found)) in
       omega arith
     where

@@ -223,7 +223,7 @@ module _ (num : Numbering) (tree : TreeState) (image : SeenInodes) (s : IsSound 
     once = λ i is n. let x = node_of_directory num tree image NOTHING_MADE s st i is in (st.each x.0 i x.1).once n;
     full = λ i number is lt.
         let x = node_of_directory num tree image NOTHING_MADE s st i is in
-        subst (λ (k : ℕ). k ≤ 4096) (sym (len_part (λ name. nat_eq (bucket name) number) x.0 i x.1)) (may.full x.0 i number x.1 lt);
+        subst (λ (k : ℕ). k ≤ 4096) (sym (len_part (λ name. nat_eq (bucket name) number) x.0 i x.1)) (may.limits.buckets x.0 number);
     children = λ i is. let x = node_of_directory num tree image NOTHING_MADE s st i is in stand (image.seen i).slots (each_found (MayName image) (image.seen i).slots (st.each x.0 i x.1).once (λ row found. may_name num tree image NOTHING_MADE s st x.0 i x.1 row found));
     named_once = λ i is. let x = node_of_directory num tree image NOTHING_MADE s st i is in subst (λ (k : ℕ). k ≤ 1) (sym (naming_renamed num tree (ruled_tree image) (shown_renamed num tree image NOTHING_MADE s st) x.0 i x.1)) (named_at_most_once num tree image NOTHING_MADE s st x.0 x.2);
     links = λ i lt used. let x = node_of_used num tree image NOTHING_MADE s st i lt used in (st.each x.0 i x.1).links ∙ sym (links_shown num tree image NOTHING_MADE s st may x.0 i x.1);

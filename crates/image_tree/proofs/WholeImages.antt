@@ -4,7 +4,7 @@ use borrow.Author.Tests.{ltb-true, ltb-false}
 use Rattle.std.specs.Prelude.{is_none}
 use Rattle.std.specs.FinMap.{get}
 use Rattle.sfs_tree.specs.Tree.{TreeState}
-use Rattle.sfs_tree.specs.Sound.{IsNumbered}
+use Rattle.sfs_tree.specs.Sound.{IsNumbered, IsWithinLimits}
 use Rattle.sfs_tree.specs.Laws.{IsSoundTree}
 use Rattle.sfs_image.specs.Super.{Layout}
 use Rattle.sfs_image.specs.Settled.{SlotFault, image_block, layout_of, settled, super_fault_of, journal_fault_of}
@@ -18,9 +18,9 @@ use Rattle.image_tree.specs.Rules.{TreeFault, tree_fault, breaks_rule, KeepsByte
 use Rattle.image_tree.specs.Mount.{ShowsByKind}
 use Rattle.image_tree.specs.Laws.{TreesOfImagesAreMounted, StandingImagesAreRead}
 use Rattle.sfs_base.proofs.BasicOptions.{none_some, some_same}
-use Rattle.image_tree.proofs.Images.{no_node_outside}
+use Rattle.image_tree.proofs.Images.{no_node_outside, directory_is_node}
 use Rattle.image_tree.proofs.Faults.{no_break, no_fault_is_rules_kept}
-use Rattle.image_tree.proofs.Mounted.{sound_shown, rules_make_standing}
+use Rattle.image_tree.proofs.Mounted.{sound_shown, limits_where, rules_make_standing}
 use Rattle.image_tree.proofs.Standing.{standing_images_show}
 use Rattle.image_tree.proofs.Parts.{shows_by_kind, holds_apart, root_shown}
 
@@ -114,6 +114,7 @@ trees_of_images_are_mounted image share tree is =
     let k = rules_kept image f.0 in
     record {
       sound = subst IsSoundTree f.1 (record { sound = sound_shown (image_inodes image) (making_at_mount image share) k; numbered = numbered image share });
+      limits = subst IsWithinLimits f.1 (limits_where (image_inodes image) (is_node (image_inodes image)) (directory_is_node (image_inodes image)) (making_at_mount image share) (shows image (good_bytes image f.0)).directories k);
       itself = rules_make_standing (image_inodes image) (making_at_mount image share) k (shows image (good_bytes image f.0));
     }
 

@@ -1,6 +1,7 @@
 -- The first fault of an image, and its tree where it has none.
 use Rattle.std.specs.Prelude.{◌≡◌, ℕ, ◌<◌, ◌≤◌, Bool, false, List, replicate, is_none, Option, Some, None, option_map, if◌then◌else◌}
 use Rattle.sfs_tree.specs.Tree.{TreeState}
+use Rattle.sfs_tree.specs.Sound.{IsWithinLimits}
 use Rattle.sfs_tree.specs.Laws.{IsSoundTree}
 use Rattle.sfs_tree.specs.Shape.{shape_of}
 use Rattle.sfs_image.specs.Part.{seen_of}
@@ -43,9 +44,10 @@ making_at_mount image share = record { first = (layout_of image).inodes; share =
 abbrev pub tree_of : List ℕ → ℕ → Option TreeState
 tree_of image share = if is_none (fault_of image) then Some (image_tree (image_inodes image) (making_at_mount image share)) else None
 
--- What stands once an image was mounted: its tree is sound, and it stands for it.
+-- What stands once an image was mounted: its tree is sound and within its limits, and it stands for it.
 pub record IsMounted (image : List ℕ) (share : ℕ) (tree : TreeState) : Type 0 where
   pub sound : IsSoundTree tree
+  pub limits : IsWithinLimits tree
   pub itself : StandsByItself (image_inodes image) (making_at_mount image share)
 
 -- No byte of the superblock, of a journal or of an inode breaks a rule.

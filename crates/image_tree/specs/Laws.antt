@@ -71,7 +71,7 @@ abbrev pub NetsGiveLinks : Type 0
 NetsGiveLinks = (old new : TreeState) (nets : ℕ → List NetRow) (members : List ℕ) (node : ℕ) → AreAllNets old new nets members
     → links_of new node + lost (linking new node) (net_changes nets members) ≡ links_of old node + gained (linking new node) (net_changes nets members)
 
--- An image that has a tree is mounted: its tree is sound, and it stands for it.
+-- An image that has a tree is mounted: its tree is sound and within its limits, and it stands for it.
 abbrev pub TreesOfImagesAreMounted : Type 0
 TreesOfImagesAreMounted = (image : List ℕ) (share : ℕ) (tree : TreeState) → tree_of image share ≡ Some tree → IsMounted image share tree
 
