@@ -1,23 +1,15 @@
 -- Facts on options, tests and lists of entries that the other files cite.
-use Rattle.std.proofs.Common.{◌≡◌, ◌≢◌, ℕ, Bool, true, false, cond, T, ◌&&◌, List, [], ◌∷◌, Option, Some, None, ◌⊎◌, inl, inr, refl, sym, ap, ◌∙◌, nat_eq}
+use Rattle.std.proofs.Common.{◌≡◌, ◌≢◌, ℕ, true, false, cond, T, List, [], ◌∷◌, Some, ◌⊎◌, inl, inr, refl, sym, ap, ◌∙◌, nat_eq}
 use borrow.Author.Tests.{eqb-true, eq-eqb, eqb-false}
 use Rattle.std.specs.List.{AllByRecursion}
 use Rattle.std.specs.Ordering.{eq_by_cmp}
+use Rattle.sfs_base.proofs.BasicOptions.{none_some, some_same}
 use Rattle.std.specs.Cmp.{IsTotalOrder}
 use Rattle.std.specs.FinMap.{FinMap, IsAntisymmetric, find, is_sorted}
 use Rattle.sfs_tree.proofs.Joined.{is_equal}
 use Rattle.sfs_tree.proofs.Search.{not_found, below_if_tied}
 use Rattle.sfs_base.proofs.BasicTruth.{both_second}
 use Rattle.sfs_base.proofs.BasicTruth.{both_first}
-
-pub none_some : {X : Type 0} {x : X} → ◌≡◌ {A = Option X} None (Some x) → ⊥
-none_some e = cc
-
-pub some_is : {X : Type 0} {x y : X} → ◌≡◌ {A = Option X} (Some x) (Some y) → x ≡ y
-some_is e = cc
-
-pub true_false : {b : Bool} → b ≡ true → b ≡ false → ⊥
-true_false t f = cc
 
 -- two tests of numbers that hold together are one
 pub same_test : (a b c d : ℕ) → (a ≡ b → c ≡ d) → (c ≡ d → a ≡ b) → nat_eq c d ≡ nat_eq a b
@@ -27,20 +19,12 @@ same_test a b c d to from =
       | false ↦ λ t. elim (nat_eq c d) as (λ u. nat_eq c d ≡ u → u ≡ false) [ true ↦ λ u. absurd (eqb-false _ _ t (from (eqb-true _ _ u))) | false ↦ λ _. refl ] refl
     ] refl
 
-pub both_true_first : (a b : Bool) → (a && b) ≡ true → a ≡ true
-both_true_first true b e = refl
-both_true_first false b e = e
-
-pub both_true_second : (a b : Bool) → (a && b) ≡ true → b ≡ true
-both_true_second true b e = e
-both_true_second false b e = absurd (cc)
-
 module _ {K X : Type 0} {R : K → K → Rattle.std.specs.declared.cmp.Ordering.Ordering} (o : IsTotalOrder R) (anti : IsAntisymmetric R) where
   -- what is found in entries is the first, or found behind it
   pub found_cases : (k : K) (x : X) (e : K × X) (es : List (K × X)) → find R k (e ∷ es) ≡ Some x → ((k ≡ e.0) × (x ≡ e.1)) ⊎ (find R k es ≡ Some x)
   found_cases k x e es is =
       elim (eq_by_cmp R k e.0) as (λ b. eq_by_cmp R k e.0 ≡ b → cond b (Some e.1) (find R k es) ≡ Some x → ((k ≡ e.0) × (x ≡ e.1)) ⊎ (find R k es ≡ Some x)) [
-        | true ↦ λ t f. inl (anti k e.0 (is_equal _ t), sym (some_is f))
+        | true ↦ λ t f. inl (anti k e.0 (is_equal _ t), sym (some_same f))
         | false ↦ λ t f. inr f
       ] refl is
 

@@ -8,7 +8,6 @@ use Rattle.sfs_base.specs.declared.numbers.NodeId.{NodeId}
 use Rattle.sfs_tree.specs.Order.{Key, key_cmp}
 use Rattle.sfs_tree.specs.NameRow.{number_of}
 use Rattle.sfs_tree.specs.Tree.{TreeState, row_of, is_directory, is_directory_kind, kind_of, count_of, links_of, names_it, names_of, holds_directory}
-use Rattle.sfs_tree.specs.Sound.{IsSound}
 use Rattle.sfs_tree.proofs.Names.{get-names_where}
 use Rattle.sfs_image.specs.Slot.{Row, kind_byte}
 use Rattle.sfs_image.specs.Seen.{Seen, SeenInodes, PLACES}
@@ -17,9 +16,10 @@ use Rattle.absorb.specs.Net.{IsNetRow, IsNet}
 use Rattle.image_tree.specs.Slots.{looked_up, name_count, in_blocks}
 use Rattle.image_tree.specs.Renamed.{Numbering}
 use Rattle.image_tree.specs.Stands.{row_on, ShowsNode, IsUnused, HoldsApart, StandsForTree}
-use Rattle.image_tree.specs.Commit.{row_in_net, brought_row, slot_after, new_rows, filled, slots_after, Commit, blank, seen_before, IsAside, HasBlock, hole, kept, fresh, ComesBy, had, enters, IsCommit, GivesNumbers, MayFollow}
+use Rattle.image_tree.specs.Commit.{row_in_net, brought_row, slot_after, new_rows, filled, slots_after, Commit, blank, seen_before, IsAside, HasBlock, hole, kept, fresh, ComesBy, had, enters, IsCommitStep, GivesNumbers}
 use Rattle.image_tree.specs.Laws.{CommitsKeepStanding}
-use Rattle.image_tree.proofs.Basics.{some_is, none_some, both_true_first}
+use Rattle.sfs_base.proofs.BasicTruth.{and_first}
+use Rattle.sfs_base.proofs.BasicOptions.{none_some, some_same}
 use Rattle.image_tree.proofs.Paired.{count_paired}
 use Rattle.image_tree.proofs.Renaming.{under_is}
 use Rattle.image_tree.proofs.Standing.{holder_number, kind_directory, not_used, standing_images_show}
@@ -48,7 +48,7 @@ module _ (num after : Numbering) (old new : TreeState) (x : ℕ) (net : List Net
   after_named row made is = by_child (number_of row.after) is
     where
       by_child : (o : Option ℕ) → option_map (row_on after new row.name) o ≡ Some made → made.name ≡ row.name
-      by_child (Some y) e = ap (λ (r : Row). r.name) (sym (some_is e))
+      by_child (Some y) e = ap (λ (r : Row). r.name) (sym (some_same e))
       by_child None e = absurd (none_some e)
 
   new_named : (row : NetRow) (made : Row) → new_row row ≡ Some made → made.name ≡ row.name
@@ -62,7 +62,7 @@ module _ (num after : Numbering) (old new : TreeState) (x : ℕ) (net : List Net
   slot_named row made is = by_net (row_in_net row.name net) refl is
     where
       by_net : (o : Option NetRow) → row_in_net row.name net ≡ o → option_map_or (brought_row after new) o (Some row) ≡ Some made → made.name ≡ row.name
-      by_net None e same = ap (λ (r : Row). r.name) (sym (some_is same))
+      by_net None e same = ap (λ (r : Row). r.name) (sym (some_same same))
       by_net (Some r) e same = after_named r made same ∙ (net_row_is (names_of x old.rows) (names_of x new.rows) net is_net row.name r e).0
 
   old_row : (n : List ℕ) → get (names_of x old.rows) n ≡ row_of old x n
@@ -185,9 +185,9 @@ module _ (old new : TreeState) (kinds : (x : ℕ) → kind_of new x ≡ kind_of 
 
   directories_alike : count_by (holds_directory old x) (entries old.rows) ≡ count_by (holds_directory new x) (entries new.rows)
   directories_alike = count_alike (holds_directory old x) (holds_directory new x) old.rows new.rows (λ k y is passes.
-      let here : k.0 ≡ x = eqb-true _ _ (both_true_first (nat_eq k.0 x) (is_directory old y) passes) in
+      let here : k.0 ≡ x = eqb-true _ _ (and_first (nat_eq k.0 x) (is_directory old y) passes) in
       (back_at new k y x here (rows k.1 ∙ at old k y x here is), ap (λ b. nat_eq k.0 x && b) (same_directory y) ∙ passes)) (λ k y is passes.
-      let here : k.0 ≡ x = eqb-true _ _ (both_true_first (nat_eq k.0 x) (is_directory new y) passes) in
+      let here : k.0 ≡ x = eqb-true _ _ (and_first (nat_eq k.0 x) (is_directory new y) passes) in
       (back_at old k y x here (sym (rows k.1) ∙ at new k y x here is), ap (λ b. nat_eq k.0 x && b) (sym (same_directory y)) ∙ passes))
 
   naming_alike : count_of old.rows x ≡ count_of new.rows x
@@ -224,21 +224,21 @@ module _ (commit : Commit) (old : TreeState) (image : SeenInodes) (st : StandsFo
       by_way (had p) = st.within x i p
       by_way (enters _ lt _) = lt
 
-module _ (commit : Commit) (old new : TreeState) (image next : SeenInodes) (st : StandsForTree commit.before old image) (s : IsSound old) (c : IsCommit commit old new image next) (m : MayFollow commit.after old new) where
+module _ (commit : Commit) (old new : TreeState) (image next : SeenInodes) (step : IsCommitStep commit old new image next) where
   -- a node with a number before and after keeps it
   keeps_number : (y i j : ℕ) → commit.before y ≡ Some i → commit.after y ≡ Some j → i ≡ j
-  keeps_number y i j a b = by_way (c.numbers.comes y j b)
+  keeps_number y i j a b = by_way (step.commits.numbers.comes y j b)
     where
       by_way : ComesBy commit image y j → i ≡ j
-      by_way (had is) = some_is (sym a ∙ is)
+      by_way (had is) = some_same (sym a ∙ is)
       by_way (enters none _ _) = absurd (none_some (sym none ∙ a))
 
   pub same_row : (d : ℕ) (n : List ℕ) (y : ℕ) → row_of old d n ≡ Some y → row_of new d n ≡ Some y → ◌≡◌ {A = Row} (row_on commit.before old n y) (row_on commit.after new n y)
   same_row d n y before now =
-      let a = st.named d n y before in
-      let b = m.named d n y now in
+      let a = step.stands.named d n y before in
+      let b = step.follows.named d n y now in
       let same = under_is commit.before y a.0 a.1 ∙ keeps_number y a.0 b.0 a.1 b.1 ∙ sym (under_is commit.after y b.0 b.1) in
-      let kinds = sym (m.kinds y) in
+      let kinds = sym (step.follows.kinds y) in
       λ i. record { inode = same i; kind = kinds i; name = n }
 
   -- the slots of a node before the commit
@@ -247,16 +247,16 @@ module _ (commit : Commit) (old new : TreeState) (image next : SeenInodes) (st :
     where
       none_of : commit.before x ≡ None → (n : List ℕ) (o : Option ℕ) → row_of old x n ≡ o → None ≡ option_map (row_on commit.before old n) o
       none_of e n None is = refl
-      none_of e n (Some y) is = absurd (let h = holder_number commit.before old image s st x n y is in none_some (sym e ∙ h.1))
+      none_of e n (Some y) is = absurd (let h = holder_number commit.before old image step.sound step.stands x n y is in none_some (sym e ∙ h.1))
 
       by_number : (o : Option ℕ) → commit.before x ≡ o → HasSlots commit.before old x (option_map_or image.seen o blank).slots
-      by_number (Some i) e = record { looked = (st.each x i e).slots; once = (st.each x i e).once }
+      by_number (Some i) e = record { looked = (step.stands.each x i e).slots; once = (step.stands.each x i e).once }
       by_number None e = record { looked = λ n. none_of e n (row_of old x n) refl; once = λ n. omega arith }
 
   shows_built : (x i : ℕ) → commit.after x ≡ Some i → commit.concerns x ≡ true → ShowsNode commit.after new x (next.seen i)
   shows_built x i is concerned =
-      let b = c.built x i is concerned in
-      let h = has_slots_after commit.before commit.after old new x (commit.nets x) (c.nets x) (same_row x) (seen_before commit image x).slots (slots_before x) in
+      let b = step.commits.built x i is concerned in
+      let h = has_slots_after commit.before commit.after old new x (commit.nets x) (step.commits.nets x) (same_row x) (seen_before commit image x).slots (slots_before x) in
       record {
         kind = b.kind;
         links = b.links;
@@ -268,10 +268,10 @@ module _ (commit : Commit) (old new : TreeState) (image next : SeenInodes) (st :
 
   shows_aside : (x i : ℕ) → commit.before x ≡ Some i → IsAside old new x → ShowsNode commit.after new x (image.seen i)
   shows_aside x i is a =
-      let e = st.each x i is in
+      let e = step.stands.each x i is in
       record {
-        kind = e.kind ∙ ap kind_byte (sym (m.kinds x));
-        links = e.links ∙ links_alike old new m.kinds x a.rows a.naming;
+        kind = e.kind ∙ ap kind_byte (sym (step.follows.kinds x));
+        links = e.links ∙ links_alike old new step.follows.kinds x a.rows a.naming;
         size = e.size;
         bytes = e.bytes ∙ sym a.bytes;
         slots = λ n. e.slots n ∙ by_child n (row_of old x n) refl ∙ ap (option_map (row_on commit.after new n)) (sym (a.rows n));
@@ -285,7 +285,7 @@ module _ (commit : Commit) (old new : TreeState) (image next : SeenInodes) (st :
   shows_each : (x i : ℕ) → commit.after x ≡ Some i → ShowsNode commit.after new x (next.seen i)
   shows_each x i is = elim (commit.concerns x) as (λ b. commit.concerns x ≡ b → ShowsNode commit.after new x (next.seen i)) [
     | true ↦ λ t. shows_built x i is t
-    | false ↦ λ t. let a = c.stays x i is t in subst (ShowsNode commit.after new x) (sym a.1) (shows_aside x i a.0 a.2)
+    | false ↦ λ t. let a = step.commits.stays x i is t in subst (ShowsNode commit.after new x) (sym a.1) (shows_aside x i a.0 a.2)
   ] refl
 
   -- a block that is held after the commit was held there, or is fresh
@@ -294,44 +294,44 @@ module _ (commit : Commit) (old new : TreeState) (image next : SeenInodes) (st :
     taken : commit.takes i p ≡ true → (next.seen i).blocks p ≡ commit.fresh i p → HeldBy i p
 
   held : (i p : ℕ) → i < next.count → p < PLACES → (next.seen i).blocks p ≢ 0 → HeldBy i p
-  held i p lt small some = elim (c.rest i lt) as (λ _. HeldBy i p) [
+  held i p lt small some = elim (step.commits.rest i lt) as (λ _. HeldBy i p) [
     | inr free ↦ absurd (some (free.blocks p small))
     | inl node ↦ elim (commit.concerns node.0) as (λ b. commit.concerns node.0 ≡ b → HeldBy i p) [
-      | false ↦ λ t. let a = c.stays node.0 i node.1 t in HeldBy.before (number_within commit old image st c.numbers node.0 i node.1) (ap (λ (seen : Seen). seen.blocks p) (sym a.1))
-      | true ↦ λ t. by_block node.0 node.1 (c.blocks.has node.0 i p small node.1 t)
+      | false ↦ λ t. let a = step.commits.stays node.0 i node.1 t in HeldBy.before (number_within commit old image step.stands step.commits.numbers node.0 i node.1) (ap (λ (seen : Seen). seen.blocks p) (sym a.1))
+      | true ↦ λ t. by_block node.0 node.1 (step.commits.blocks.has node.0 i p small node.1 t)
     ] refl
   ]
     where
       by_number : (x : ℕ) → commit.after x ≡ Some i → ComesBy commit image x i → (next.seen i).blocks p ≡ (seen_before commit image x).blocks p → HeldBy i p
-      by_number x is (had was) same = HeldBy.before (number_within commit old image st c.numbers x i is) (sym (same ∙ ap (λ (o : Option ℕ). (option_map_or image.seen o blank).blocks p) was))
+      by_number x is (had was) same = HeldBy.before (number_within commit old image step.stands step.commits.numbers x i is) (sym (same ∙ ap (λ (o : Option ℕ). (option_map_or image.seen o blank).blocks p) was))
       by_number x is (enters none _ _) same = absurd (some (same ∙ ap (λ (o : Option ℕ). (option_map_or image.seen o blank).blocks p) none))
 
       by_block : (x : ℕ) → commit.after x ≡ Some i → HasBlock commit i p (seen_before commit image x) (next.seen i) → HeldBy i p
       by_block x is (hole zero) = absurd (some zero)
-      by_block x is (kept same) = by_number x is (c.numbers.comes x i is) same
+      by_block x is (kept same) = by_number x is (step.commits.numbers.comes x i is) same
       by_block x is (fresh takes same) = HeldBy.taken takes same
 
   blocks_apart : HoldsApart next
   blocks_apart i p j q lt less small tiny some same = by_holders (held i p lt small some) (held j q less tiny (λ zero. some (same ∙ zero)))
     where
       by_holders : HeldBy i p → HeldBy j q → (i ≡ j) × (p ≡ q)
-      by_holders (before a e) (before b f) = st.apart i p j q a b small tiny (λ zero. some (sym e ∙ zero)) (e ∙ same ∙ sym f)
-      by_holders (before a e) (taken t f) = absurd (c.blocks.unheld j q i p t a small (e ∙ same ∙ f))
-      by_holders (taken t e) (before b f) = absurd (c.blocks.unheld i p j q t b tiny (f ∙ sym same ∙ e))
-      by_holders (taken t e) (taken u f) = c.blocks.once i p j q t u (sym e ∙ same ∙ f)
+      by_holders (before a e) (before b f) = step.stands.apart i p j q a b small tiny (λ zero. some (sym e ∙ zero)) (e ∙ same ∙ sym f)
+      by_holders (before a e) (taken t f) = absurd (step.commits.blocks.unheld j q i p t a small (e ∙ same ∙ f))
+      by_holders (taken t e) (before b f) = absurd (step.commits.blocks.unheld i p j q t b tiny (f ∙ sym same ∙ e))
+      by_holders (taken t e) (taken u f) = step.commits.blocks.once i p j q t u (sym e ∙ same ∙ f)
 
   pub stands_after : StandsForTree commit.after new next
   stands_after = record {
-    root = m.root;
-    once = number_once commit old image st c.numbers;
-    within = λ x i is. subst (λ (n : ℕ). i < n) (sym c.count) (number_within commit old image st c.numbers x i is);
-    named = m.named;
+    root = step.follows.root;
+    once = number_once commit old image step.stands step.commits.numbers;
+    within = λ x i is. subst (λ (n : ℕ). i < n) (sym step.commits.count) (number_within commit old image step.stands step.commits.numbers x i is);
+    named = step.follows.named;
     each = shows_each;
-    rest = c.rest;
+    rest = step.commits.rest;
     apart = blocks_apart;
   }
 
 pub commits_keep_standing : CommitsKeepStanding
-commits_keep_standing commit old new image next making st s c t m may =
-    let stands = stands_after commit old new image next st s c m in
-    record { stands = stands; shows = standing_images_show commit.after new next making t may stands }
+commits_keep_standing commit old new image next making step =
+    let stands = stands_after commit old new image next step in
+    record { stands = stands; shows = standing_images_show commit.after new next making step.next_sound step.storable stands }

@@ -5,7 +5,7 @@ use Rattle.std.specs.Prelude.{bytes_eq, filter_map, slice_get}
 use Rattle.std.specs.List.{range_with_len, list_any, find, cons_option, AllByRecursion}
 use Rattle.std.specs.Option.{option_map_or}
 use Rattle.std.specs.FinMap.{len}
-use Rattle.sfs_tree.specs.Tree.{TreeState, bucket_rows, walk_up, and_above, lies_below}
+use Rattle.sfs_tree.specs.Tree.{BUCKET_ROWS, TreeState, bucket_rows, walk_up, and_above, lies_below}
 use Rattle.sfs_tree.specs.Sound.{Above, at_root, below}
 use Rattle.sfs_tree.proofs.RowFacts.{holder_found}
 use Rattle.sfs_tree.proofs.Walks.{walk_is}
@@ -13,33 +13,19 @@ use Rattle.sfs_image.specs.Slot.{Row, kind_byte}
 use Rattle.sfs_image.specs.Seen.{SeenInodes}
 use Rattle.image_tree.specs.Slots.{name_count}
 use Rattle.image_tree.specs.ImageTree.{NOTHING_MADE, shows_directory, is_used, image_rows}
-use Rattle.sfs_tree.specs.Verdict.{BUCKET_ROWS}
-use Rattle.sfs_tree.specs.Verdict.{BUCKET_ROWS}
 use Rattle.image_tree.specs.Keeps.{ruled_tree, IsDirectoryInode, MayName, MayStand, KeepsRules}
 use Rattle.image_tree.specs.Rules.{has_name_twice, has_overfull_bucket, is_misplaced, has_misplaced_row, names_root, is_named_twice, has_wrong_links, is_unreached, breaks_tree_rule, BYTE_RULES, RULES, TreeFault, fault_by, first_fault, breaks_rule, KeepsByteRules}
 use Rattle.image_tree.specs.Laws.{NoFaultIsRulesKept}
-use Rattle.image_tree.proofs.Basics.{none_some, true_false}
+use Rattle.sfs_base.proofs.BasicNumbers.{not_below, not_same}
+use Rattle.sfs_base.proofs.BasicTruth.{or_first, or_second, or_true, not_false, then_false, not_both}
+use Rattle.sfs_base.proofs.BasicOptions.{none_some}
 use Rattle.image_tree.proofs.SlotRows.{bytes_are, count_slot}
 use Rattle.image_tree.proofs.Images.{directory_shown}
 use Rattle.image_tree.proofs.Mounted.{sound_shown}
 
-not_below : (a b : ℕ) → b ≤ a → nat_lt a b ≡ false
-not_below a b le = elim (nat_lt a b) as (λ t. nat_lt a b ≡ t → t ≡ false) [ true ↦ λ t. let lt = ltb-true _ _ t in absurd (omega arith) | false ↦ λ _. refl ] refl
-
-not_equal : (a b : ℕ) → a ≢ b → nat_eq a b ≡ false
-not_equal a b other = elim (nat_eq a b) as (λ t. nat_eq a b ≡ t → t ≡ false) [ true ↦ λ t. absurd (other (eqb-true _ _ t)) | false ↦ λ _. refl ] refl
-
-was_not : (b : Bool) → not b ≡ false → b ≡ true
-was_not true e = refl
-was_not false e = sym e
-
 only_if : (b p : Bool) → (b ≡ true → p ≡ false) → (b && p) ≡ false
 only_if true p h = h refl
 only_if false p h = refl
-
-then_not : (b p : Bool) → (b && p) ≡ false → b ≡ true → p ≡ false
-then_not true p e t = e
-then_not false p e t = absurd (true_false t refl)
 
 either_false : (b x y : Bool) → x ≡ false → y ≡ false → cond b x y ≡ false
 either_false true x y e f = e
@@ -70,7 +56,7 @@ module _ (p : ℕ → Bool) where
   none_any a zero e k le lt = absurd (omega arith)
   none_any a (suc n) e k le lt =
       elim (p a) as (λ b. p a ≡ b → (b || list_any p (range_with_len (a + 1) n)) ≡ false → p k ≡ false) [
-        | true ↦ λ t f. absurd (true_false refl f)
+        | true ↦ λ t f. absurd (not_both refl f)
         | false ↦ λ t f. elim (nat_eq a k) as (λ b. nat_eq a k ≡ b → p k ≡ false) [
           | true ↦ λ u. ap p (sym (eqb-true _ _ u)) ∙ t
           | false ↦ λ u. let other : a ≢ k = eqb-false _ _ u in none_any (a + 1) n f k (omega arith) (omega arith)
@@ -127,30 +113,18 @@ counted_row test n h (Some row ∷ slots) lt =
           let c : name_count n (Some row ∷ slots) ≡ 0 + name_count n slots = count_slot n (Some row) slots ∙ ap (λ b. cond b 1 0 + name_count n slots) t in
           ap (λ b. test row || b) (counted_row test n h slots (omega arith)) ∙ or_true (test row)
     ] refl
-  where
-    or_true : (b : Bool) → (b || true) ≡ true
-    or_true true = refl
-    or_true false = refl
 
 -- rows that are not misplaced and do not name the root may stand
 may_stand : (image : SeenInodes) (slots : List (Option Row)) → list_any (λ slot. option_map_or (is_misplaced image) slot false) slots ≡ false → list_any (λ slot. option_map_or (λ (row : Row). nat_eq row.inode 0) slot false) slots ≡ false → AllByRecursion (MayStand image) slots
 may_stand image [] a b = tt
 may_stand image (None ∷ slots) a b = (tt, may_stand image slots a b)
-may_stand image (Some row ∷ slots) a b = (here, may_stand image slots (second (is_misplaced image row) _ a) (second (nat_eq row.inode 0) _ b))
+may_stand image (Some row ∷ slots) a b = (here, may_stand image slots (or_second (is_misplaced image row) _ a) (or_second (nat_eq row.inode 0) _ b))
   where
-    first : (x y : Bool) → (x || y) ≡ false → x ≡ false
-    first true y e = e
-    first false y e = refl
-
-    second : (x y : Bool) → (x || y) ≡ false → y ≡ false
-    second true y e = absurd (true_false refl e)
-    second false y e = e
-
     here : MayName image row
     here = record {
-      within = ltb-true _ _ (was_not _ (first (not (nat_lt row.inode image.count)) _ (first (is_misplaced image row) _ a)));
-      kind = eqb-true _ _ (was_not _ (second (not (nat_lt row.inode image.count)) _ (first (is_misplaced image row) _ a)));
-      no_root = eqb-false _ _ (first (nat_eq row.inode 0) _ b);
+      within = ltb-true _ _ (not_false _ (or_first (not (nat_lt row.inode image.count)) _ (or_first (is_misplaced image row) _ a)));
+      kind = eqb-true _ _ (not_false _ (or_second (not (nat_lt row.inode image.count)) _ (or_first (is_misplaced image row) _ a)));
+      no_root = eqb-false _ _ (or_first (nat_eq row.inode 0) _ b);
     }
 
 placed : (image : SeenInodes) (slots : List (Option Row)) → AllByRecursion (MayStand image) slots → list_any (λ slot. option_map_or (is_misplaced image) slot false) slots ≡ false
@@ -164,13 +138,13 @@ placed image (Some row ∷ slots) h =
 no_root_named : (image : SeenInodes) (slots : List (Option Row)) → AllByRecursion (MayStand image) slots → list_any (λ slot. option_map_or (λ (row : Row). nat_eq row.inode 0) slot false) slots ≡ false
 no_root_named image [] h = refl
 no_root_named image (None ∷ slots) h = no_root_named image slots h.1
-no_root_named image (Some row ∷ slots) h = ap (λ b. b || list_any (λ slot. option_map_or (λ (row : Row). nat_eq row.inode 0) slot false) slots) (not_equal _ _ h.0.no_root) ∙ no_root_named image slots h.1
+no_root_named image (Some row ∷ slots) h = ap (λ b. b || list_any (λ slot. option_map_or (λ (row : Row). nat_eq row.inode 0) slot false) slots) (not_same _ _ h.0.no_root) ∙ no_root_named image slots h.1
 
 -- a walk up that meets the root gives the directories above
 walked : (tree : TreeState) (steps x : ℕ) → list_any (λ above. nat_eq above 0) (walk_up steps tree x) ≡ true → (l : List ℕ) × Above tree x l
-walked tree zero x e = absurd (true_false e refl)
+walked tree zero x e = absurd (not_both e refl)
 walked tree (suc steps) x e = elim (holder_found tree x) as (λ _. (l : List ℕ) × Above tree x l) [
-  | inr none ↦ absurd (true_false e (ap (λ o. list_any (λ above. nat_eq above 0) (and_above (walk_up steps tree) o)) none.0))
+  | inr none ↦ absurd (not_both e (ap (λ o. list_any (λ above. nat_eq above 0) (and_above (walk_up steps tree) o)) none.0))
   | inl f ↦
       let met : (nat_eq f.0 0 || list_any (λ above. nat_eq above 0) (walk_up steps tree f.0)) ≡ true = sym (ap (λ o. list_any (λ above. nat_eq above 0) (and_above (walk_up steps tree) o)) f.1) ∙ e in
       elim (nat_eq f.0 0) as (λ b. nat_eq f.0 0 ≡ b → (b || list_any (λ above. nat_eq above 0) (walk_up steps tree f.0)) ≡ true → (l : List ℕ) × Above tree x l) [
@@ -183,10 +157,6 @@ walked tree (suc steps) x e = elim (holder_found tree x) as (λ _. (l : List ℕ
 ends_at_root : {tree : TreeState} {x : ℕ} {l : List ℕ} → Above tree x l → (nat_eq x 0 || list_any (λ above. nat_eq above 0) l) ≡ true
 ends_at_root at_root = refl
 ends_at_root (below node holder name l row rest) = ap (λ b. nat_eq node 0 || b) (ends_at_root rest) ∙ or_true (nat_eq node 0)
-  where
-    or_true : (b : Bool) → (b || true) ≡ true
-    or_true true = refl
-    or_true false = refl
 
 module _ (image : SeenInodes) (breaks_byte_rule : ℕ → ℕ → Bool) (r : KeepsByteRules image) where
   abbrev slots : ℕ → List (Option Row)
@@ -194,7 +164,7 @@ module _ (image : SeenInodes) (breaks_byte_rule : ℕ → ℕ → Bool) (r : Kee
 
   module _ (none : (rule i : ℕ) → 1 ≤ rule → rule < 15 → i < image.count → breaks_rule breaks_byte_rule image rule i ≡ false) where
     directory_not : (i : ℕ) (p : Bool) → IsDirectoryInode image i → (shows_directory (image.seen i) && p) ≡ false → p ≡ false
-    directory_not i p is e = then_not (shows_directory (image.seen i)) p e (eq-eqb _ _ is.1)
+    directory_not i p is e = then_false (shows_directory (image.seen i)) p e (eq-eqb _ _ is.1)
 
     kept : KeepsRules image
     kept = record {
@@ -204,8 +174,8 @@ module _ (image : SeenInodes) (breaks_byte_rule : ℕ → ℕ → Bool) (r : Kee
       full = λ i number is lt. ltb-false _ _ (none_any (λ number. nat_lt BUCKET_ROWS (len (bucket_rows i number (image_rows image)))) 0 8 (directory_not i (has_overfull_bucket image i) is (none 9 i (omega arith) (omega arith) is.0)) number (omega arith) (omega arith));
       children = λ i is. may_stand image (slots i) (directory_not i (has_misplaced_row image i) is (none 10 i (omega arith) (omega arith) is.0)) (directory_not i (names_root image i) is (none 11 i (omega arith) (omega arith) is.0));
       named_once = λ i is. ltb-false _ _ (directory_not i (is_named_twice image i) is (none 12 i (omega arith) (omega arith) is.0));
-      links = λ i lt used. eqb-true _ _ (was_not _ (then_not (is_used image i) (has_wrong_links image i) (none 13 i (omega arith) (omega arith) lt) (ap not (not_equal _ _ used))));
-      reached = λ i is. reached i (was_not _ (directory_not i (is_unreached image i) is (none 14 i (omega arith) (omega arith) is.0)));
+      links = λ i lt used. eqb-true _ _ (not_false _ (then_false (is_used image i) (has_wrong_links image i) (none 13 i (omega arith) (omega arith) lt) (ap not (not_same _ _ used))));
+      reached = λ i is. reached i (not_false _ (directory_not i (is_unreached image i) is (none 14 i (omega arith) (omega arith) is.0)));
     }
       where
         once : (i : ℕ) (n : List ℕ) → has_name_twice image i ≡ false → name_count n (slots i) ≤ 1
@@ -213,7 +183,7 @@ module _ (image : SeenInodes) (breaks_byte_rule : ℕ → ℕ → Bool) (r : Kee
           | false ↦ λ t. ltb-false _ _ t
           | true ↦ λ t.
               let lt = ltb-true _ _ t in
-              absurd (true_false (counted_row (λ (row : Row). nat_lt 1 (name_count row.name (slots i))) n (λ row same. ap (λ m. nat_lt 1 (name_count m (slots i))) same ∙ t) (slots i) (omega arith)) e)
+              absurd (not_both (counted_row (λ (row : Row). nat_lt 1 (name_count row.name (slots i))) n (λ row same. ap (λ m. nat_lt 1 (name_count m (slots i))) same ∙ t) (slots i) (omega arith)) e)
         ] refl
 
         reached : (i : ℕ) → (nat_eq i 0 || lies_below (ruled_tree image) i 0) ≡ true → (l : List ℕ) × Above (ruled_tree image) i l
@@ -243,7 +213,7 @@ module _ (image : SeenInodes) (breaks_byte_rule : ℕ → ℕ → Bool) (r : Kee
         (either_false (nat_eq rule 14) _ _ (holds_of_directory i (is_unreached image i) lt (reached_test i)) refl))))))
       where
         used_some : (i : ℕ) → is_used image i ≡ true → (image.seen i).kind ≢ 0
-        used_some i used free = true_false used (ap not (eq-eqb _ _ free))
+        used_some i used free = not_both used (ap not (eq-eqb _ _ free))
 
     no_rule_broken : ((rule i : ℕ) → 1 ≤ rule → rule ≤ BYTE_RULES → i < image.count → breaks_byte_rule rule i ≡ false) → (rule i : ℕ) → 1 ≤ rule → i < image.count → breaks_rule breaks_byte_rule image rule i ≡ false
     no_rule_broken bytes rule i le lt = elim (nat_lt BYTE_RULES rule) as (λ b. nat_lt BYTE_RULES rule ≡ b → cond b (breaks_tree_rule image rule i) (breaks_byte_rule rule i) ≡ false) [

@@ -5,7 +5,7 @@ use Rattle.std.specs.Prelude.{filter_map, slice_get}
 use Rattle.std.specs.List.{range_with_len, find, cons_option}
 use Rattle.image_tree.specs.Rules.{RULES, TreeFault, fault_by, first_fault, IsFirstFault, FindsFault}
 use Rattle.image_tree.specs.Laws.{FirstFaultIsLeast}
-use Rattle.image_tree.proofs.Basics.{some_is, none_some}
+use Rattle.sfs_base.proofs.BasicOptions.{none_some, some_same}
 use Rattle.image_tree.proofs.Faults.{no_break, none_found}
 
 -- a number that is found passes, and none before it does
@@ -20,7 +20,7 @@ found_is p a zero k e = absurd (none_some e)
 found_is p a (suc n) k e =
     elim (p a) as (λ b. p a ≡ b → cond b (Some a) (find p (range_with_len (a + 1) n)) ≡ Some k → IsFound p a (suc n) k) [
       | true ↦ λ t f.
-          let same : a ≡ k = some_is f in
+          let same : a ≡ k = some_same f in
           record { low = omega arith; high = omega arith; passes = ap p (sym same) ∙ t; before = λ j le lt. absurd (omega arith) }
       | false ↦ λ t f.
           let rest = found_is p (a + 1) n k f in
@@ -73,7 +73,7 @@ module _ (breaks : ℕ → ℕ → Bool) (count : ℕ) where
       by_found : (o : Option ℕ) → find (breaks rule) (range_with_len 0 count) ≡ o → option_map (λ i. record { rule = rule; inode = i }) o ≡ Some fault → IsOfRule rule fault
       by_found None is e = absurd (none_some e)
       by_found (Some i) is e =
-          let made : (record { rule = rule; inode = i }) ≡ fault = some_is e in
+          let made : (record { rule = rule; inode = i }) ≡ fault = some_same e in
           record { same = ap (λ (f : TreeFault). f.rule) (sym made); found = is ∙ ap (λ (f : TreeFault). Some f.inode) made }
 
   unbroken : (rule : ℕ) → fault_by breaks count rule ≡ None → (i : ℕ) → i < count → breaks rule i ≡ false

@@ -17,11 +17,8 @@ use Rattle.sfs_image.specs.Slot.{Row, kind_byte, kind_of}
 use Rattle.sfs_image.specs.Seen.{SeenInodes}
 use Rattle.image_tree.specs.Slots.{looked_up}
 use Rattle.image_tree.specs.ImageTree.{Making, shows_directory, shows_file, slot_row, rows_in, image_rows, is_node, node_shown, node_in, nodes_where, tree_where, image_tree}
-use Rattle.image_tree.proofs.Basics.{some_is, none_some}
-
-or_none : {X : Type 0} (o : Option X) → option_or o None ≡ o
-or_none (Some x) = refl
-or_none None = refl
+use Rattle.sfs_base.proofs.BasicTruth.{or_true}
+use Rattle.sfs_base.proofs.BasicOptions.{or_none, none_some, some_same}
 
 -- entries that are gathered from numbers in turn, where those of other numbers have not the key that is looked for
 module _ {K X : Type 0} (R : K → K → Rattle.std.specs.declared.cmp.Ordering.Ordering) (f : ℕ → List (K × X)) (q : K) (j : ℕ) (others : (i : ℕ) → i ≢ j → find R q (f i) ≡ None) where
@@ -93,7 +90,7 @@ module _ (image : SeenInodes) where
       get-from_entries key_cmp_total (flat_map (rows_in image) (range_with_len 0 image.count)) (i, n)
       ∙ find_inside key_cmp (rows_in image) (i, n) i (λ k other. rows_apart i k n other) 0 image.count (omega arith) (omega arith)
 
-  no_rows_outside : (i : ℕ) (n : List ℕ) → image.count ≤ i → get (image_rows image) (i, n) ≡ None
+  pub no_rows_outside : (i : ℕ) (n : List ℕ) → image.count ≤ i → get (image_rows image) (i, n) ≡ None
   no_rows_outside i n le =
       get-from_entries key_cmp_total (flat_map (rows_in image) (range_with_len 0 image.count)) (i, n)
       ∙ find_outside key_cmp (rows_in image) (i, n) i (λ k other. rows_apart i k n other) 0 image.count (inr (omega arith))
@@ -119,7 +116,7 @@ module _ (image : SeenInodes) where
     pub child : row.inode ≡ j
 
   slot_at : (i : ℕ) (n : List ℕ) (j : ℕ) (o : Option Row) → i < image.count → (image.seen i).kind ≡ kind_byte Directory → looked_up n (image.seen i).slots ≡ o → option_map (λ (row : Row). row.inode) o ≡ Some j → SlotBack i n j
-  slot_at i n j (Some row) lt kind slot is = record { within = lt; kind = kind; row = row; slot = slot; child = some_is is }
+  slot_at i n j (Some row) lt kind slot is = record { within = lt; kind = kind; row = row; slot = slot; child = some_same is }
   slot_at i n j None lt kind slot is = absurd (none_some is)
 
   pub slot_back : (i : ℕ) (n : List ℕ) (j : ℕ) → get (image_rows image) (i, n) ≡ Some j → SlotBack i n j
@@ -188,10 +185,6 @@ module _ (image : SeenInodes) where
       none_there : (b : Bool) → nat_eq (count_of (image_rows image) i) 0 ≡ b → nat_eq (count_of (image_rows image) i) 0 ≡ false
       none_there true t = absurd (some (eqb-true _ _ t))
       none_there false t = t
-
-      or_true : (b : Bool) → (b || true) ≡ true
-      or_true true = refl
-      or_true false = refl
 
   -- the directories of the tree are those of the image
   pub directory_shown : (making : Making) (i : ℕ) → i < image.count → is_directory (image_tree image making) i ≡ shows_directory (image.seen i)

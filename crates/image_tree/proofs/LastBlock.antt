@@ -5,14 +5,14 @@ use Rattle.std.specs.Prelude.{is_none, slice_get, slice_index_or}
 use Rattle.sfs_image.specs.Slot.{Row}
 use Rattle.image_tree.specs.Slots.{rows_end}
 use Rattle.image_tree.specs.Laws.{BlocksEndWithRow}
-use Rattle.image_tree.proofs.Basics.{both_true_first, both_true_second}
+use Rattle.sfs_base.proofs.BasicTruth.{and_first, and_second}
 
 -- from the end of the rows on no slot has one
 none_behind : (slots : List (Option Row)) (k : ℕ) → rows_end slots ≤ k → slice_index_or slots k None ≡ None
 none_behind [] k le = refl
 none_behind (slot ∷ slots) k le =
     elim (is_none slot && nat_eq (rows_end slots) 0) as (λ b. (is_none slot && nat_eq (rows_end slots) 0) ≡ b → cond b 0 (suc (rows_end slots)) ≤ k → slice_index_or (slot ∷ slots) k None ≡ None) [
-      | true ↦ λ t _. by_place k (empty slot (both_true_first (is_none slot) _ t)) (λ j. none_behind slots j (let none = eqb-true _ _ (both_true_second (is_none slot) _ t) in omega arith))
+      | true ↦ λ t _. by_place k (empty slot (and_first (is_none slot) _ t)) (λ j. none_behind slots j (let none = eqb-true _ _ (and_second (is_none slot) _ t) in omega arith))
       | false ↦ λ t h. behind k h (λ j less. none_behind slots j less)
     ] refl le
   where

@@ -22,7 +22,8 @@ use Rattle.absorb.specs.Net.{IsNetRow, IsNet}
 use Rattle.image_tree.specs.Commit.{row_in_net}
 use Rattle.image_tree.specs.LinkChanges.{NetChange, net_changes, counted_row, gained, lost, AreAllNets}
 use Rattle.image_tree.specs.Laws.{NetsGiveLinks}
-use Rattle.image_tree.proofs.Basics.{none_some, true_false}
+use Rattle.sfs_base.proofs.BasicTruth.{not_both}
+use Rattle.sfs_base.proofs.BasicOptions.{none_some}
 use Rattle.image_tree.proofs.SlotRows.{bytes_same, bytes_are}
 use Rattle.image_tree.proofs.NetRows.{no_net_row, HasNamesOnce, once_ascending}
 use Rattle.image_tree.proofs.Standing.{kind_directory}
@@ -146,7 +147,7 @@ no_change d n [] none = tt
 no_change d n (row ∷ rows) none =
     elim (bytes_eq n row.name) as (λ b. bytes_eq n row.name ≡ b → cond b (Some row) (row_in_net n rows) ≡ None → NotAmong (d, n) (in_directory d (row ∷ rows))) [
       | true ↦ λ t e. absurd (none_some (sym e))
-      | false ↦ λ t e. (λ same. true_false (ap (bytes_eq n) (ap (λ (z : Key). z.1) same) ∙ bytes_same n) t, no_change d n rows e)
+      | false ↦ λ t e. (λ same. not_both (ap (bytes_eq n) (ap (λ (z : Key). z.1) same) ∙ bytes_same n) t, no_change d n rows e)
     ] refl none
 
 change_none : (d : ℕ) (n : List ℕ) (net : List NetRow) → NotAmong (d, n) (in_directory d net) → row_in_net n net ≡ None
@@ -200,7 +201,7 @@ module _ (old new : TreeState) (nets : ℕ → List NetRow) (each : (d : ℕ) �
 
   -- a key that no change is at has no change in its directory's net
   own_net : (k : Key) (members : List ℕ) → list_any (λ member. nat_eq member k.0) members ≡ true → NotAmong k (net_changes nets members) → NotAmong k (in_directory k.0 (nets k.0))
-  own_net k [] has apart = absurd (true_false has refl)
+  own_net k [] has apart = absurd (not_both has refl)
   own_net k (m ∷ members) has apart =
       elim (nat_eq m k.0) as (λ b. nat_eq m k.0 ≡ b → (b || list_any (λ member. nat_eq member k.0) members) ≡ true → NotAmong k (in_directory k.0 (nets k.0))) [
         | true ↦ λ t _. subst (λ (d : ℕ). NotAmong k (in_directory d (nets d))) (eqb-true _ _ t) (not_among_first k (in_directory m (nets m)) (net_changes nets members) apart)

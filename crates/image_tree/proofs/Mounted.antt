@@ -11,10 +11,11 @@ use Rattle.sfs_base.specs.Name.{bucket}
 use Rattle.sfs_base.specs.declared.numbers.Kind.{Kind}
 use Rattle.sfs_base.specs.declared.numbers.Kind.TheVariants.{File, Directory}
 use Rattle.sfs_tree.specs.Order.{name_cmp, Key}
-use Rattle.sfs_tree.specs.Tree.{TreeState, Node, row_of, is_directory, is_alive, kind_of, count_of, links_of, names_it, holds_directory, bucket_rows}
-use Rattle.sfs_tree.specs.Sound.{Above, at_root, below, IsSound}
+use Rattle.sfs_tree.specs.Tree.{BUCKET_ROWS, TreeState, Node, row_of, is_directory, is_alive, kind_of, bytes_of, count_of, links_of, names_it, holds_directory, bucket_rows}
+use Rattle.sfs_tree.specs.Sound.{Above, at_root, below, IsSound, IsWithinLimits}
 use Rattle.sfs_tree.proofs.Counting.{count_some, count_agree, only}
-use Rattle.sfs_tree.proofs.Joined.{name_cmp-IsAntisymmetric}
+use Rattle.sfs_tree.proofs.Joined.{name_cmp-IsAntisymmetric, bucket_small}
+use Rattle.sfs_base.proofs.BasicNumbers.{not_same}
 use Rattle.sfs_tree.proofs.Names.{get-names_where}
 use Rattle.sfs_tree.proofs.RowFacts.{root_alive, named_alive}
 use Rattle.sfs_image.specs.Slot.{Row, kind_byte}
@@ -24,13 +25,13 @@ use Rattle.image_tree.specs.Slots.{looked_up, name_count}
 use Rattle.image_tree.specs.ImageTree.{Making, NOTHING_MADE, shows_directory, image_rows, is_node, is_used, node_shown, nodes_where, tree_where, image_tree, tree_with_orphans}
 use Rattle.image_tree.specs.Renamed.{Numbering, IsMet, root, named}
 use Rattle.image_tree.specs.Stands.{inode_under, row_on, ShowsNode, IsUnused, StandsForTree, IsStorable}
-use Rattle.sfs_tree.specs.Verdict.{BUCKET_ROWS}
 use Rattle.image_tree.specs.Keeps.{ruled_tree, IsDirectoryInode, MayName, MayStand, KeepsRules}
 use Rattle.image_tree.specs.Mount.{own_numbers, ShowsByKind, HasNoOrphans}
 use Rattle.image_tree.specs.Laws.{RulesMakeStanding}
-use Rattle.image_tree.proofs.Basics.{some_is, none_some, true_false}
+use Rattle.sfs_base.proofs.BasicTruth.{not_both}
+use Rattle.sfs_base.proofs.BasicOptions.{none_some, some_same}
 use Rattle.image_tree.proofs.SlotRows.{looked_named}
-use Rattle.image_tree.proofs.Images.{row_shown, no_row_shown, slot_back, get_node, no_node_outside, node_is, directory_where, directory_shown, directory_is_node, file_is_node, kind_again}
+use Rattle.image_tree.proofs.Images.{row_shown, no_row_shown, no_rows_outside, slot_back, get_node, no_node_outside, node_is, directory_where, directory_shown, directory_is_node, file_is_node, kind_again}
 
 -- what may stand in each slot may be looked up
 pub looked_may : (image : SeenInodes) (n : List ℕ) (slots : List (Option Row)) (row : Row) → AllByRecursion (MayStand image) slots → looked_up n slots ≡ Some row → MayName image row
@@ -38,7 +39,7 @@ looked_may image n [] row all is = absurd (none_some is)
 looked_may image n (None ∷ slots) row all is = looked_may image n slots row all.1 is
 looked_may image n (Some held ∷ slots) row all is =
     elim (bytes_eq n held.name) as (λ b. cond b (Some held) (looked_up n slots) ≡ Some row → MayName image row) [
-      | true ↦ λ e. subst (MayName image) (some_is e) all.0
+      | true ↦ λ e. subst (MayName image) (some_same e) all.0
       | false ↦ λ e. looked_may image n slots row all.1 e
     ] is
 
@@ -113,6 +114,54 @@ module _ (image : SeenInodes) (k : KeepsRules image) (chosen : ℕ → Bool) (di
     climbs = λ d n x row kind. reached x (directory_inode x (row_is d n x row).within kind);
   }
 
+-- the tree of an image with chosen inodes as nodes is within its limits, where its directories have no bytes and no overfull bucket
+module _ (image : SeenInodes) (chosen : ℕ → Bool) (directories : (i : ℕ) → (image.seen i).kind ≡ kind_byte Directory → chosen i ≡ true) (making : Making) where
+  no_bucket : (d number : ℕ) → ((n : List ℕ) → cond (nat_eq (bucket n) number) (get (image_rows image) (d, n)) None ≡ None) → len (bucket_rows d number (image_rows image)) ≡ 0
+  no_bucket d number none =
+      ap len (same_map nat_list_cmp_total name_cmp-IsAntisymmetric (bucket_rows d number (image_rows image)) empty (λ n.
+      get-names_where d (λ name. nat_eq (bucket name) number) (image_rows image) n ∙ none n ∙ sym (get-empty name_cmp n)))
+      ∙ len-empty name_cmp ℕ
+
+  either_none : (b : Bool) → ◌≡◌ {A = Option ℕ} (cond b None None) None
+  either_none true = refl
+  either_none false = refl
+
+  abbrev Fits : ℕ → ℕ → Type 0
+  Fits d number = len (bucket_rows d number (image_rows image)) ≤ BUCKET_ROWS
+
+  empty_fits : (d number : ℕ) → ((n : List ℕ) → get (image_rows image) (d, n) ≡ None) → Fits d number
+  empty_fits d number none = subst (λ (c : ℕ). c ≤ BUCKET_ROWS) (sym (no_bucket d number (λ n. ap (λ o. cond (nat_eq (bucket n) number) o None) (none n) ∙ either_none (nat_eq (bucket n) number)))) (omega arith)
+
+  late_fits : (d number : ℕ) → 8 ≤ number → Fits d number
+  late_fits d number le = subst (λ (c : ℕ). c ≤ BUCKET_ROWS) (sym (no_bucket d number (λ n. ap (λ b. cond b (get (image_rows image) (d, n)) None) (not_same (bucket n) number (apart n))))) (omega arith)
+    where
+      apart : (n : List ℕ) → bucket n ≢ number
+      apart n same = let small = bucket_small n in omega arith
+
+  buckets_fit : KeepsRules image → (d number : ℕ) → Fits d number
+  buckets_fit k d number = elim (nat_lt number 8) as (λ b. nat_lt number 8 ≡ b → Fits d number) [
+    | false ↦ λ t. late_fits d number (ltb-false _ _ t)
+    | true ↦ λ t. elim (nat_lt d image.count) as (λ b. nat_lt d image.count ≡ b → Fits d number) [
+      | false ↦ λ u. empty_fits d number (λ n. no_rows_outside image d n (ltb-false _ _ u))
+      | true ↦ λ u. elim (shows_directory (image.seen d)) as (λ b. shows_directory (image.seen d) ≡ b → Fits d number) [
+        | true ↦ λ v. k.full d number (ltb-true _ _ u, eqb-true _ _ v) (ltb-true _ _ t)
+        | false ↦ λ v. empty_fits d number (λ n. no_row_shown image d n (ltb-true _ _ u) (eqb-false _ _ v))
+      ] refl
+    ] refl
+  ] refl
+
+  plain_where : ((i : ℕ) → i < image.count → (image.seen i).kind ≡ kind_byte Directory → (image.seen i).bytes ≡ []) → (x : ℕ) → is_directory (tree_where chosen image making) x ≡ true → bytes_of (tree_where chosen image making) x ≡ []
+  plain_where plain x is = elim (nat_lt x image.count) as (λ b. nat_lt x image.count ≡ b → bytes_of (tree_where chosen image making) x ≡ []) [
+    | false ↦ λ t. ap (λ (o : Option Node). option_map_or (λ n. n.bytes) o []) (no_node_outside image chosen x (ltb-false _ _ t))
+    | true ↦ λ t.
+        let lt = ltb-true _ _ t in
+        let kind = eqb-true _ _ (sym (directory_where image chosen making directories x lt) ∙ is) in
+        ap (λ (o : Option Node). option_map_or (λ n. n.bytes) o []) (node_is image chosen x lt (directories x kind)) ∙ plain x lt kind
+  ] refl
+
+  pub limits_where : ((i : ℕ) → i < image.count → (image.seen i).kind ≡ kind_byte Directory → (image.seen i).bytes ≡ []) → KeepsRules image → IsWithinLimits (tree_where chosen image making)
+  limits_where plain k = record { buckets = buckets_fit k; plain = plain_where plain }
+
 -- the tree of an image that keeps the rules is sound
 pub sound_shown : (image : SeenInodes) (making : Making) → KeepsRules image → IsSound (image_tree image making)
 sound_shown image making k = sound_where image k (is_node image) (directory_is_node image) (file_is_node image) making
@@ -151,12 +200,12 @@ module _ (image : SeenInodes) (making : Making) (k : KeepsRules image) (g : Show
     | false ↦ λ t e. absurd (none_some e)
     | true ↦ λ t e. elim (is_used image x) as (λ b. is_used image x ≡ b → cond b (Some x) None ≡ Some i → IsOwn x i) [
       | false ↦ λ u e. absurd (none_some e)
-      | true ↦ λ u e. record { is = some_is e; within = ltb-true _ _ t; used = u }
+      | true ↦ λ u e. record { is = some_same e; within = ltb-true _ _ t; used = u }
     ] refl e
   ] refl e
 
   used_not_free : (x : ℕ) → is_used image x ≡ true → (image.seen x).kind ≢ 0
-  used_not_free x u free = true_false u (ap (λ b. not (nat_eq b 0)) free)
+  used_not_free x u free = not_both u (ap (λ b. not (nat_eq b 0)) free)
 
   own_directory : (i : ℕ) → i < image.count → is_directory own i ≡ shows_directory (image.seen i)
   own_directory i lt = directory_where image (is_used image) making used_directory i lt
@@ -250,12 +299,7 @@ module _ (image : SeenInodes) (making : Making) (k : KeepsRules image) (g : Show
     placed = λ x i a kind.
         let p = own_is x i a in
         by_way x (reached_own x (p.within, eqb-true _ _ (sym (own_directory x p.within) ∙ kind)));
-    full = λ x i number a lt.
-        let p = own_is x i a in
-        elim (shows_directory (image.seen x)) as (λ b. shows_directory (image.seen x) ≡ b → len (bucket_rows x number (image_rows image)) ≤ BUCKET_ROWS) [
-          | true ↦ λ t. k.full x number (p.within, eqb-true _ _ t) lt
-          | false ↦ λ t. subst (λ (c : ℕ). c ≤ BUCKET_ROWS) (sym (no_rows_in x p.within number (eqb-false _ _ t))) (omega arith)
-        ] refl;
+    limits = limits_where image (is_used image) used_directory making g.directories k;
   }
     where
       reached_own : (x : ℕ) → IsDirectoryInode image x → (l : List ℕ) × Above (ruled_tree image) x l
@@ -267,19 +311,6 @@ module _ (image : SeenInodes) (making : Making) (k : KeepsRules image) (g : Show
           go : {x : ℕ} {l : List ℕ} → Above (ruled_tree image) x l → IsMet own x
           go at_root = root
           go (below node holder name l row rest) = named holder name node row
-
-      no_rows_in : (x : ℕ) → x < image.count → (number : ℕ) → (image.seen x).kind ≢ kind_byte Directory → len (bucket_rows x number (image_rows image)) ≡ 0
-      no_rows_in x lt number kind =
-          ap len (same_map nat_list_cmp_total name_cmp-IsAntisymmetric (bucket_rows x number (image_rows image)) empty (λ n.
-          get-names_where x (λ name. nat_eq (bucket name) number) (image_rows image) n
-          ∙ ap (λ o. cond (nat_eq (bucket n) number) o None) (no_row_shown image x n lt kind)
-          ∙ either (nat_eq (bucket n) number)
-          ∙ sym (get-empty name_cmp n)))
-          ∙ len-empty name_cmp ℕ
-        where
-          either : (b : Bool) → ◌≡◌ {A = Option ℕ} (cond b None None) None
-          either true = refl
-          either false = refl
 
   own_shown : HasNoOrphans image → own ≡ image_tree image making
   own_shown none =

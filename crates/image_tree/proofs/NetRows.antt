@@ -18,7 +18,8 @@ use Rattle.absorb.specs.declared.nets.NetRow.{NetRow}
 use Rattle.absorb.specs.Net.{net_name, IsNetRow, IsNet}
 use Rattle.image_tree.specs.Slots.{looked_up, name_count}
 use Rattle.image_tree.specs.Commit.{row_in_net}
-use Rattle.image_tree.proofs.Basics.{some_is, none_some, true_false}
+use Rattle.sfs_base.proofs.BasicTruth.{not_both}
+use Rattle.sfs_base.proofs.BasicOptions.{none_some, some_same}
 use Rattle.image_tree.proofs.SlotRows.{bytes_same, bytes_are, bytes_apart, count_slot}
 
 -- two numbers that may be there are one or not
@@ -28,7 +29,7 @@ same_option None (Some b) = inr (λ e. none_some e)
 same_option (Some a) None = inr (λ e. none_some (sym e))
 same_option (Some a) (Some b) = elim (nat_eq a b) as (λ t. nat_eq a b ≡ t → (Some a ≡ Some b) ⊎ (Some a ≢ Some b)) [
   | true ↦ λ t. inl (ap Some (eqb-true _ _ t))
-  | false ↦ λ t. inr (λ e. eqb-false _ _ t (some_is e))
+  | false ↦ λ t. inr (λ e. eqb-false _ _ t (some_same e))
 ] refl
 
 -- a row that is found under a name has it, and what all rows have
@@ -37,7 +38,7 @@ found_row P [] name row h is = absurd (none_some is)
 found_row P (first ∷ rows) name row h is =
     elim (bytes_eq name first.name) as (λ b. bytes_eq name first.name ≡ b → cond b (Some first) (row_in_net name rows) ≡ Some row → (row.name ≡ name) × P row) [
       | true ↦ λ t e.
-          let one : first ≡ row = some_is e in
+          let one : first ≡ row = some_same e in
           (ap net_name (sym one) ∙ sym (bytes_are name first.name t), subst P one (All-head P first rows h))
       | false ↦ λ _ e. found_row P rows name row (All-tail P first rows h) e
     ] refl is
@@ -48,7 +49,7 @@ not_among [] name is = All-nil (λ other. other ≢ name)
 not_among (row ∷ rows) name is =
     elim (bytes_eq name row.name) as (λ b. bytes_eq name row.name ≡ b → cond b (Some row) (row_in_net name rows) ≡ None → All (λ other. other ≢ name) (net_name row ∷ map net_name rows)) [
       | true ↦ λ t none. absurd (none_some (sym none))
-      | false ↦ λ t none. All-cons (λ other. other ≢ name) row.name (map net_name rows) (λ same. true_false (ap (bytes_eq name) same ∙ bytes_same name) t) (not_among rows name none)
+      | false ↦ λ t none. All-cons (λ other. other ≢ name) row.name (map net_name rows) (λ same. not_both (ap (bytes_eq name) same ∙ bytes_same name) t) (not_among rows name none)
     ] refl is
 
 module _ (earlier later : FinMap name_cmp ℕ) (net : List NetRow) (h : IsNet earlier later net) where

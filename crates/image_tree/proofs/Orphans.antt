@@ -1,17 +1,17 @@
 -- Freeing its orphans leaves an image its tree.
-use Rattle.std.proofs.Common.{◌≡◌, ◌≢◌, ℕ, zero, suc, ◌+◌, ◌<◌, ◌≤◌, Bool, true, false, cond, not, ◌||◌, ◌&&◌, List, [], ◌∷◌, ◌++◌, Option, Some, None, ◌⊎◌, inl, inr, refl, sym, ap, subst, ◌∙◌, arith, nat_eq}
+use Rattle.std.proofs.Common.{◌≡◌, ◌≢◌, ℕ, ◌<◌, ◌≤◌, Bool, true, false, cond, not, ◌||◌, ◌&&◌, List, [], ◌∷◌, Option, Some, None, ◌⊎◌, inl, inr, refl, sym, ap, subst, ◌∙◌, arith, nat_eq}
 use borrow.Author.Tests.{eqb-true, eq-eqb}
 use Rattle.std.specs.Prelude.{filter_map}
 use Rattle.std.specs.List.{range_with_len, flat_map, AllByRecursion}
 use Rattle.std.specs.FinMap.{FinMap, from_entries, get, len}
 use Rattle.sfs_base.specs.declared.numbers.Kind.TheVariants.{File, Directory}
 use Rattle.sfs_tree.specs.Order.{key_cmp}
-use Rattle.sfs_tree.specs.Tree.{TreeState, Node, count_of, names_it, bucket_rows, links_of}
+use Rattle.sfs_tree.specs.Tree.{BUCKET_ROWS, TreeState, Node, count_of, names_it, bucket_rows, links_of}
 use Rattle.sfs_tree.specs.Sound.{Above}
-use Rattle.sfs_tree.specs.Verdict.{BUCKET_ROWS}
 use Rattle.sfs_tree.proofs.Counting.{count_some}
 use Rattle.sfs_image.specs.Slot.{Row, kind_byte}
 use Rattle.sfs_image.specs.Seen.{Seen, SeenInodes}
+use Rattle.sfs_image.proofs.Basics.{pieces_same}
 use Rattle.image_tree.specs.Slots.{looked_up, name_count}
 use Rattle.image_tree.specs.ImageTree.{Making, NOTHING_MADE, shows_directory, shows_file, slot_row, rows_in, image_rows, is_node, node_shown, node_in, nodes_where, image_tree}
 use Rattle.image_tree.specs.Stands.{IsUnused, HoldsApart}
@@ -19,15 +19,10 @@ use Rattle.image_tree.specs.Keeps.{ruled_tree, IsDirectoryInode, MayName, MaySta
 use Rattle.image_tree.specs.Mount.{ShowsByKind, HasNoOrphans}
 use Rattle.image_tree.specs.Orphans.{is_orphan, FreesOrphans}
 use Rattle.image_tree.specs.Laws.{FreedOrphansKeepTheTree}
-use Rattle.image_tree.proofs.Basics.{both_true_first, both_true_second}
+use Rattle.sfs_base.proofs.BasicTruth.{and_first, and_second}
 use Rattle.image_tree.proofs.SlotRows.{OnRow, each_found}
 use Rattle.image_tree.proofs.Images.{row_shown}
 use Rattle.image_tree.proofs.Mounted.{looked_may}
-
--- lists that are gathered alike from numbers in turn
-gathered_alike : {X : Type 0} (f g : ℕ → List X) (a n : ℕ) → ((i : ℕ) → a ≤ i → i < a + n → f i ≡ g i) → flat_map f (range_with_len a n) ≡ flat_map g (range_with_len a n)
-gathered_alike f g a zero h = refl
-gathered_alike f g a (suc n) h = ap (λ l. l ++ flat_map f (range_with_len (a + 1) n)) (h a (omega arith) (omega arith)) ∙ ap (λ l. g a ++ l) (gathered_alike f g (a + 1) n (λ i le lt. h i (omega arith) (omega arith)))
 
 module _ (image next : SeenInodes) (k : KeepsRules image) (g : ShowsByKind image) (f : FreesOrphans image next) where
   no_directory_file : (n : ℕ) → n ≡ kind_byte Directory → nat_eq n (kind_byte File) ≡ false
@@ -47,10 +42,10 @@ module _ (image next : SeenInodes) (k : KeepsRules image) (g : ShowsByKind image
   ] refl
 
   orphan_file : (i : ℕ) → is_orphan image i ≡ true → (image.seen i).kind ≡ kind_byte File
-  orphan_file i e = eqb-true _ _ (both_true_first (shows_file (image.seen i)) _ e)
+  orphan_file i e = eqb-true _ _ (and_first (shows_file (image.seen i)) _ e)
 
   orphan_unnamed : (i : ℕ) → is_orphan image i ≡ true → count_of (image_rows image) i ≡ 0
-  orphan_unnamed i e = eqb-true _ _ (both_true_second (shows_file (image.seen i)) _ e)
+  orphan_unnamed i e = eqb-true _ _ (and_second (shows_file (image.seen i)) _ e)
 
   no_directory : (seen : Seen) (n : ℕ) → seen.kind ≡ n → nat_eq n (kind_byte Directory) ≡ false → shows_directory seen ≡ false
   no_directory seen n e t = ap (λ m. nat_eq m (kind_byte Directory)) e ∙ t
@@ -66,7 +61,7 @@ module _ (image next : SeenInodes) (k : KeepsRules image) (g : ShowsByKind image
   all_rows_same : image_rows next ≡ image_rows image
   all_rows_same =
       ap (λ n. from_entries (flat_map (rows_in next) (range_with_len 0 n))) f.count
-      ∙ ap from_entries (gathered_alike (rows_in next) (rows_in image) 0 image.count (λ i _ lt. rows_same i (omega arith)))
+      ∙ ap from_entries (pieces_same (rows_in next) (rows_in image) 0 image.count (λ i _ lt. rows_same i (omega arith)))
 
   count_same : (i : ℕ) → count_of (image_rows next) i ≡ count_of (image_rows image) i
   count_same i = ap (λ (rows : FinMap key_cmp ℕ). count_of rows i) all_rows_same
@@ -104,7 +99,7 @@ module _ (image next : SeenInodes) (k : KeepsRules image) (g : ShowsByKind image
   nodes_same : nodes_where (is_node next) next ≡ nodes_where (is_node image) image
   nodes_same =
       ap (λ n. from_entries (flat_map (node_in (is_node next) next) (range_with_len 0 n))) f.count
-      ∙ ap from_entries (gathered_alike (node_in (is_node next) next) (node_in (is_node image) image) 0 image.count (λ i _ lt. nodes_in_same i (omega arith)))
+      ∙ ap from_entries (pieces_same (node_in (is_node next) next) (node_in (is_node image) image) 0 image.count (λ i _ lt. nodes_in_same i (omega arith)))
 
   tree_same : (making : Making) → image_tree next making ≡ image_tree image making
   tree_same making = λ i. record { rows = all_rows_same i; nodes = nodes_same i; first = making.first; share = making.share; made = making.made }
@@ -196,6 +191,9 @@ module _ (image next : SeenInodes) (k : KeepsRules image) (g : ShowsByKind image
     reached = λ i is. let w = was_directory i is in let up = k.reached i w.inode in (up.0, above_same up.1);
   }
 
+  no_kind : 0 ≡ kind_byte Directory → ⊥
+  no_kind e = cc
+
   kinds_stay : ShowsByKind next
   kinds_stay = record {
     kinds = λ i lt used.
@@ -207,6 +205,9 @@ module _ (image next : SeenInodes) (k : KeepsRules image) (g : ShowsByKind image
     files = λ i lt file.
         let same = used_stays i (within i lt) (λ free. not_both (sym free ∙ file)) in
         subst (λ (seen : Seen). seen.slots ≡ []) (sym same) (g.files i (within i lt) (ap (λ (seen : Seen). seen.kind) (sym same) ∙ file));
+    directories = λ i lt directory.
+        let same = used_stays i (within i lt) (λ free. no_kind (sym free ∙ directory)) in
+        ap (λ (seen : Seen). seen.bytes) same ∙ g.directories i (within i lt) (ap (λ (seen : Seen). seen.kind) (sym same) ∙ directory);
     unused = λ i lt free. elim (freed_or i (within i lt)) as (λ _. IsUnused (next.seen i)) [
       | inl same ↦ subst IsUnused (sym same) (g.unused i (within i lt) (ap (λ (seen : Seen). seen.kind) (sym same) ∙ free))
       | inr freed ↦ freed.0

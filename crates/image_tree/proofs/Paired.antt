@@ -4,7 +4,9 @@ use Rattle.std.specs.FinMap.{FinMap, find, entries, get, remove, is_sorted, get-
 use Rattle.sfs_tree.specs.Order.{Key, key_cmp}
 use Rattle.sfs_tree.proofs.Joined.{key_cmp_total, key_cmp-IsAntisymmetric, count-cons}
 use Rattle.sfs_tree.proofs.Counting.{count-remove, count_none, stayed, get_other-remove}
-use Rattle.image_tree.proofs.Basics.{none_some, true_false, found_cases, found_first, found_behind, found_apart}
+use Rattle.sfs_base.proofs.BasicTruth.{not_both}
+use Rattle.sfs_base.proofs.BasicOptions.{none_some}
+use Rattle.image_tree.proofs.Basics.{found_cases, found_first, found_behind, found_apart}
 
 -- Entries that pass a test stand one to one with the rows of a map that pass another: each has its row, each row is an entry's, and no
 -- two entries have one row.
@@ -26,7 +28,7 @@ module _ (p q : Key × ℕ → Bool) (to : Key × ℕ → Key × ℕ) where
     back = λ l y is passes.
         let b = h.back l y is passes in
         elim (found_cases key_cmp_total key_cmp-IsAntisymmetric b.0 b.1 e es b.2) as (λ _. (k : Key) × (x : ℕ) × (found_in es k ≡ Some x) × (p (k, x) ≡ true) × ((to (k, x)).0 ≡ l)) [
-          | inl same ↦ absurd (true_false (ap p (sym (same_entry b.0 b.1 e same.0 same.1)) ∙ b.3) fails)
+          | inl same ↦ absurd (not_both (ap p (sym (same_entry b.0 b.1 e same.0 same.1)) ∙ b.3) fails)
           | inr found ↦ (b.0, b.1, found, b.3, b.4)
         ];
     once = λ k l x y a pa b pb. h.once k l x y (behind k x a) pa (behind l y b) pb;
@@ -69,10 +71,10 @@ module _ (p q : Key × ℕ → Bool) (to : Key × ℕ → Key × ℕ) where
       elim (p e) as (λ b. p e ≡ b → count_by p (e ∷ es) ≡ count_by q (entries rows)) [
         | true ↦ λ t.
             let f = h.forth e.0 e.1 (found_first key_cmp_total key_cmp-IsAntisymmetric e es) t in
-            let rest = paired_list es (Rattle.sfs_tree.proofs.Search.both_second _ _ s) (remove rows (to e).0) (without e es s t rows h) in
+            let rest = paired_list es (Rattle.sfs_base.proofs.BasicTruth.both_second _ _ s) (remove rows (to e).0) (without e es s t rows h) in
             let less = count-remove rows (to e).0 (to e).1 q f.0 in
             count-cons p e es ∙ ap (λ b. cond b 1 0 + count_by p es) t ∙ one_more _ _ _ (q (to e)) f.1 rest less
-        | false ↦ λ t. count-cons p e es ∙ ap (λ b. cond b 1 0 + count_by p es) t ∙ ap (λ n. 0 + n) (paired_list es (Rattle.sfs_tree.proofs.Search.both_second _ _ s) rows (fewer e es s t rows h)) ∙ none_more _
+        | false ↦ λ t. count-cons p e es ∙ ap (λ b. cond b 1 0 + count_by p es) t ∙ ap (λ n. 0 + n) (paired_list es (Rattle.sfs_base.proofs.BasicTruth.both_second _ _ s) rows (fewer e es s t rows h)) ∙ none_more _
       ] refl
     where
       one_more : (a b c : ℕ) (t : Bool) → t ≡ true → a ≡ b → c ≡ b + cond t 1 0 → 1 + a ≡ c

@@ -1,5 +1,5 @@
 -- What the settled parts of an image show, where no rule on bytes is broken.
-use Rattle.std.proofs.Common.{◌≡◌, ◌≢◌, ℕ, zero, suc, ◌+◌, ◌-◌, ◌*◌, ◌/◌, ◌%◌, ◌<◌, ◌≤◌, Bool, true, false, cond, not, ◌||◌, ◌&&◌, List, [], ◌∷◌, take, drop, map, length, slice_index, Option, Some, None, ◌⊎◌, inl, inr, refl, sym, ap, subst, ◌∙◌, arith, nat_eq, nat_lt}
+use Rattle.std.proofs.Common.{◌≡◌, ◌≢◌, ℕ, zero, suc, ◌+◌, ◌-◌, ◌*◌, ◌/◌, ◌%◌, ◌<◌, ◌≤◌, true, false, cond, not, ◌||◌, ◌&&◌, List, [], ◌∷◌, take, drop, map, length, slice_index, Option, Some, None, ◌⊎◌, inl, inr, refl, sym, ap, subst, ◌∙◌, arith, nat_eq, nat_lt}
 use borrow.Author.Tests.{eqb-true, eq-eqb, ltb-false}
 use Rattle.std.specs.Prelude.{is_some, position, slice_index_or}
 use Rattle.std.specs.List.{flat_map, range_with_len}
@@ -10,7 +10,7 @@ use Rattle.sfs_base.specs.declared.numbers.Kind.TheVariants.{File, Directory}
 use Rattle.sfs_image.specs.Bytes.{part, number_from, u32s_at, nonzero_in, is_nonzero}
 use Rattle.sfs_image.specs.Inode.{inode_of, inode_fault, pointers_of, table_of, entry_of}
 use Rattle.sfs_image.specs.Part.{Part, inode_in, part_of, block_pointer, pointer_at, seen_of, is_free_part, is_file_part, is_directory_part, directory_blocks, shown_bytes, shown_slots, tabulate}
-use Rattle.sfs_image.specs.Rules.{DIRECTORY_BLOCKS, breaks_record, breaks_root, breaks_size, breaks_apart}
+use Rattle.sfs_image.specs.Rules.{DIRECTORY_BLOCKS, HasBlockAt, breaks_record, breaks_root, breaks_size, breaks_apart}
 use Rattle.sfs_image.specs.Seen.{SeenInodes, FILE_BLOCKS, PLACES}
 use Rattle.sfs_image.specs.Slot.{kind_byte}
 use Rattle.sfs_image.specs.SlotBlock.{slots_of, slot_in}
@@ -22,7 +22,7 @@ use Rattle.sfs_image.proofs.PartLaws.{pointer_of_block, pointer_of_table, table_
 use Rattle.sfs_image.proofs.RuleLaws.{apart_from_rule}
 use Rattle.image_tree.specs.Stands.{own_size, IsUnused, HoldsApart}
 use Rattle.image_tree.specs.Mount.{ShowsByKind}
-use Rattle.image_tree.proofs.Basics.{true_false}
+use Rattle.sfs_base.proofs.BasicTruth.{or_first, or_second, not_false, not_both}
 
 -- bytes that are all zero, also past their end
 abbrev AllZero : List ℕ → Type 0
@@ -121,18 +121,6 @@ length_slots (block ∷ blocks) =
     let d = length-range_with_len 0 15 in
     omega arith
 
-first_none : (a b : Bool) → (a || b) ≡ false → a ≡ false
-first_none true b e = e
-first_none false b e = refl
-
-second_none : (a b : Bool) → (a || b) ≡ false → b ≡ false
-second_none true b e = absurd (true_false refl e)
-second_none false b e = e
-
-was_not : (b : Bool) → not b ≡ false → b ≡ true
-was_not true e = refl
-was_not false e = sym e
-
 -- the inodes that parts of a store show
 module _ (store : ℕ → List ℕ) (raws : ℕ → List ℕ) (count : ℕ) where
   abbrev parts : ℕ → Part
@@ -147,7 +135,7 @@ module _ (store : ℕ → List ℕ) (raws : ℕ → List ℕ) (count : ℕ) wher
       where
         none_of : (o : Option ℕ) → is_some o ≡ false → o ≡ None
         none_of None e = refl
-        none_of (Some at) e = absurd (true_false refl e)
+        none_of (Some at) e = absurd (not_both refl e)
 
     abbrev kind_at : ℕ → ℕ
     kind_at i = (inode_in (parts i)).kind
@@ -171,9 +159,9 @@ module _ (store : ℕ → List ℕ) (raws : ℕ → List ℕ) (count : ℕ) wher
       directory_size : (i : ℕ) → i < count → kind_at i ≡ kind_byte Directory → ((inode_in (parts i)).size % 4096 ≡ 0) × ((inode_in (parts i)).size ≤ 4096 * DIRECTORY_BLOCKS)
       directory_size i lt kind =
           let size = (inode_in (parts i)).size in
-          let here = second_none (is_file_part (parts i) && nat_lt (4096 * FILE_BLOCKS) (inode_in (parts i)).size) _ (sizes i lt) in
+          let here = or_second (is_file_part (parts i) && nat_lt (4096 * FILE_BLOCKS) (inode_in (parts i)).size) _ (sizes i lt) in
           let both : (not (nat_eq ((inode_in (parts i)).size % 4096) 0) || nat_lt (4096 * DIRECTORY_BLOCKS) (inode_in (parts i)).size) ≡ false = sym (ap (λ b. b && (not (nat_eq ((inode_in (parts i)).size % 4096) 0) || nat_lt (4096 * DIRECTORY_BLOCKS) (inode_in (parts i)).size)) (eq-eqb _ _ kind)) ∙ here in
-          (eqb-true _ _ (was_not _ (first_none (not (nat_eq ((inode_in (parts i)).size % 4096) 0)) _ both)), ltb-false _ _ (second_none (not (nat_eq ((inode_in (parts i)).size % 4096) 0)) _ both))
+          (eqb-true _ _ (not_false _ (or_first (not (nat_eq ((inode_in (parts i)).size % 4096) 0)) _ both)), ltb-false _ _ (or_second (not (nat_eq ((inode_in (parts i)).size % 4096) 0)) _ both))
 
       size_shown : (i : ℕ) → i < count → kind_at i ≢ 0 → (inode_in (parts i)).size ≡ own_size (seen_of (parts i))
       size_shown i lt used = elim (kinds_shown i lt used) [
@@ -198,12 +186,13 @@ module _ (store : ℕ → List ℕ) (raws : ℕ → List ℕ) (count : ℕ) wher
         kinds = kinds_shown;
         sizes = size_shown;
         files = λ i lt file. ap (λ n. cond (nat_eq n (kind_byte Directory)) (flat_map slots_of (directory_blocks (parts i))) []) file;
+        directories = λ i lt directory. ap (λ n. cond (nat_eq n (kind_byte File)) (tabulate (inode_in (parts i)).size (Rattle.sfs_image.specs.Part.file_byte (parts i))) []) directory;
         unused = unused_shown;
       }
 
     pub holds_apart : ((i : ℕ) → i < count → breaks_apart parts i ≡ false) → HoldsApart inodes
     holds_apart rule i p j q lt less small tiny some same =
-        apart_from_rule parts i j p q (rule i lt) (rule j less) (in_use i p lt small some) (in_use j q less tiny (λ none. some (same ∙ none))) small tiny some same
+        apart_from_rule parts i j p q (at i p lt small some) (at j q less tiny (λ none. some (same ∙ none))) same
       where
         in_use : (i p : ℕ) → i < count → p < PLACES → pointer_at (parts i) p ≢ 0 → is_free_part (parts i) ≡ false
         in_use i p lt small some = elim (is_free_part (parts i)) as (λ b. is_free_part (parts i) ≡ b → b ≡ false) [
@@ -211,6 +200,9 @@ module _ (store : ℕ → List ℕ) (raws : ℕ → List ℕ) (count : ℕ) wher
           | false ↦ λ _. refl
         ] refl
 
+        at : (i p : ℕ) → i < count → p < PLACES → pointer_at (parts i) p ≢ 0 → HasBlockAt parts i p
+        at i p lt small some = record { used = in_use i p lt small some; keeps = rule i lt; within = small; there = some }
+
   -- inode 0 is a directory where it breaks no rule
   pub root_shown : breaks_root (parts 0) 0 ≡ false → (seen_of (parts 0)).kind ≡ kind_byte Directory
-  root_shown e = eqb-true _ _ (was_not _ e)
+  root_shown e = eqb-true _ _ (not_false _ e)

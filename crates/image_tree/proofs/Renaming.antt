@@ -9,7 +9,8 @@ use Rattle.sfs_tree.proofs.Joined.{count-cons}
 use Rattle.sfs_tree.proofs.RowFacts.{alive_named, root_alive, named_alive}
 use Rattle.image_tree.specs.Renamed.{Numbering, HasNumber, IsMet, root, named, IsRenamed}
 use Rattle.image_tree.specs.Stands.{inode_under}
-use Rattle.image_tree.proofs.Basics.{some_is, none_some, same_test}
+use Rattle.sfs_base.proofs.BasicOptions.{none_some, some_same}
+use Rattle.image_tree.proofs.Basics.{same_test}
 use Rattle.image_tree.proofs.Paired.{count_paired}
 
 pub under_is : (num : Numbering) (node i : ℕ) → num node ≡ Some i → inode_under num node ≡ i
@@ -88,7 +89,7 @@ module _ (num : Numbering) (tree other : TreeState) (r : IsRenamed num tree othe
   -- two numbered nodes are one where their numbers are
   pub number_same : (x y i j : ℕ) → num x ≡ Some i → num y ≡ Some j → nat_eq j i ≡ nat_eq y x
   number_same x y i j a b =
-      same_test y x j i (λ (e : y ≡ x). some_is (sym b ∙ ap num e ∙ a)) (λ (e : j ≡ i). r.once y x j b (a ∙ ap Some (sym e)))
+      same_test y x j i (λ (e : y ≡ x). some_same (sym b ∙ ap num e ∙ a)) (λ (e : j ≡ i). r.once y x j b (a ∙ ap Some (sym e)))
 
   -- as many rows name a number as name its node
   pub naming_renamed : (x j : ℕ) → num x ≡ Some j → count_of other.rows j ≡ count_of tree.rows x
@@ -114,7 +115,7 @@ module _ (num : Numbering) (tree other : TreeState) (r : IsRenamed num tree othe
 
     alive_renamed : (d i : ℕ) (n : List ℕ) (x : ℕ) → num d ≡ Some i → row_of tree d n ≡ Some x → is_alive other i ≡ true
     alive_renamed d i n x from row = elim (alive_named tree d (s.holds d n x row).1) [
-      | inl is ↦ root_alive other i (some_is (sym from ∙ ap num is ∙ r.root))
+      | inl is ↦ root_alive other i (some_same (sym from ∙ ap num is ∙ r.root))
       | inr name ↦
           let h = r.holder name.directory name.name d name.row in
           named_alive other i (record { directory = h.0; name = name.name; row = row_forth name.directory h.0 d i name.name h.1 name.row from })
@@ -124,7 +125,7 @@ module _ (num : Numbering) (tree other : TreeState) (r : IsRenamed num tree othe
     above_renamed x j above is way = go x above way j is
       where
         go : (x : ℕ) (above : List ℕ) → Above tree x above → (j : ℕ) → num x ≡ Some j → (l : List ℕ) × Above other j l
-        go _ _ at_root j is = ([], subst (λ (k : ℕ). Above other k []) (some_is (sym r.root ∙ is)) at_root)
+        go _ _ at_root j is = ([], subst (λ (k : ℕ). Above other k []) (some_same (sym r.root ∙ is)) at_root)
         go _ _ (below node holder name above row rest) j is =
             let h = r.holder holder name node row in
             let up = go holder above rest h.0 h.1 in
@@ -141,7 +142,7 @@ module _ (num : Numbering) (tree other : TreeState) (r : IsRenamed num tree othe
           let c = row_back k j m twin in
           let same : c.child ≡ b.child = r.once c.child b.child j c.to b.to in
           let places = s.once b.directory c.directory n m b.child b.row (c.row ∙ ap Some same) (sym (directory_renamed b.child j b.to (named b.directory n b.child b.row)) ∙ kind) in
-          (some_is (sym b.from ∙ ap num places.0 ∙ c.from), places.1);
+          (some_same (sym b.from ∙ ap num places.0 ∙ c.from), places.1);
       holds = λ i n j row.
           let b = row_back i j n row in
           (directory_renamed b.directory i b.from (holder_met b.directory n b.child b.row) ∙ (s.holds b.directory n b.child b.row).0, alive_renamed b.directory i n b.child b.from b.row);

@@ -7,7 +7,7 @@ use Rattle.std.specs.Ordering.{eq_by_cmp, is_lt}
 use Rattle.std.specs.Cmp.Lexicographic.{nat_list_cmp_total}
 use Rattle.std.specs.FinMap.{FinMap, find, entries, get, len, from_sorted, is_sorted, get-from_sorted, entries-from_sorted, get-entries, entries_sorted, same_map}
 use Rattle.std.specs.FinMap.Entries.{below_all}
-use Rattle.std.proofs.lemmas.List.{length-map}
+use Rattle.std.proofs.lemmas.List.{length-map, map-append}
 use Rattle.sfs_tree.specs.Order.{name_cmp}
 use Rattle.sfs_tree.specs.Tree.{TreeState, row_of, is_directory, names_where, names_of}
 use Rattle.sfs_tree.specs.Shape.{Met, met_from, met, with_file, files_met, line_of, shape_of}
@@ -54,13 +54,9 @@ all_flat : {X Y : Type 0} (P : Y → Type 0) (Q : X → Type 0) (f : X → List 
 all_flat P Q f h [] a = tt
 all_flat P Q f h (x ∷ xs) a = all_append P (f x) (flat_map f xs) (h x a.0) (all_flat P Q f h xs a.1)
 
-map_append : {X Y : Type 0} (f : X → Y) (xs ys : List X) → map f (xs ++ ys) ≡ map f xs ++ map f ys
-map_append f [] ys = refl
-map_append f (x ∷ xs) ys = ap (λ l. f x ∷ l) (map_append f xs ys)
-
 flat_alike : {X Y : Type 0} (P : X → Type 0) (h : X → X) (ren : Y → Y) (f g : X → List Y) → ((x : X) → P x → g (h x) ≡ map ren (f x)) → (xs : List X) → AllByRecursion P xs → flat_map g (map h xs) ≡ map ren (flat_map f xs)
 flat_alike P h ren f g alike [] a = refl
-flat_alike P h ren f g alike (x ∷ xs) a = ap (λ l. l ++ flat_map g (map h xs)) (alike x a.0) ∙ ap (λ l. map ren (f x) ++ l) (flat_alike P h ren f g alike xs a.1) ∙ sym (map_append ren (f x) (flat_map f xs))
+flat_alike P h ren f g alike (x ∷ xs) a = ap (λ l. l ++ flat_map g (map h xs)) (alike x a.0) ∙ ap (λ l. map ren (f x) ++ l) (flat_alike P h ren f g alike xs a.1) ∙ sym (map-append ren (f x) (flat_map f xs))
 
 map_alike : {X Y : Type 0} (P : X → Type 0) (h : X → X) (f g : X → Y) → ((x : X) → P x → g (h x) ≡ f x) → (xs : List X) → AllByRecursion P xs → map g (map h xs) ≡ map f xs
 map_alike P h f g alike [] a = refl
@@ -163,7 +159,7 @@ module _ (num : Numbering) (tree other : TreeState) (r : IsRenamed num tree othe
     where
       by_test : (b : Bool) → cond b (map (inode_under num) files) (map (inode_under num) files ++ inode_under num x ∷ []) ≡ map (inode_under num) (cond b files (files ++ x ∷ []))
       by_test true = refl
-      by_test false = sym (map_append (inode_under num) files (x ∷ []))
+      by_test false = sym (map-append (inode_under num) files (x ∷ []))
 
   with_file_met : (x : ℕ) → IsMet tree x → (files : List ℕ) → AllByRecursion (IsMet tree) files → AllByRecursion (IsMet tree) (with_file files x)
   with_file_met x m files a = elim (list_any (λ b. nat_eq b x) files) as (λ b. AllByRecursion (IsMet tree) (cond b files (files ++ x ∷ []))) [ true ↦ a | false ↦ all_append (IsMet tree) files (x ∷ []) a (m, tt) ]

@@ -11,20 +11,18 @@ use Rattle.sfs_base.specs.Name.{bucket}
 use Rattle.sfs_base.specs.declared.numbers.Kind.TheVariants.{File, Directory}
 use Rattle.sfs_base.specs.declared.numbers.Kind.{Kind}
 use Rattle.sfs_tree.specs.Order.{name_cmp, Key, key_cmp}
-use Rattle.sfs_tree.specs.Tree.{TreeState, row_of, kind_of, name_row, names_of, bucket_rows}
-use Rattle.sfs_tree.specs.Verdict.{BUCKET_ROWS}
-use Rattle.sfs_tree.specs.Sound.{IsSound}
+use Rattle.sfs_tree.specs.Tree.{BUCKET_ROWS, TreeState, row_of, kind_of, name_row, names_of, bucket_rows}
 use Rattle.sfs_tree.proofs.Joined.{count-cons, bucket_small}
 use Rattle.sfs_tree.proofs.Names.{entries-names_where, get-names_where}
 use Rattle.sfs_image.specs.Rules.{DIRECTORY_BLOCKS}
 use Rattle.sfs_image.specs.Slot.{Row, kind_byte}
 use Rattle.sfs_image.specs.Seen.{Seen, SeenInodes}
 use Rattle.image_tree.specs.Slots.{BLOCK_SLOTS, looked_up, name_count, rows_end, in_blocks}
-use Rattle.image_tree.specs.Stands.{row_on, StandsForTree, IsStorable}
-use Rattle.image_tree.specs.Commit.{slot_after, new_rows, filled, slots_after, Commit, blank, seen_before, ComesBy, had, enters, IsCommit, MayFollow}
+use Rattle.image_tree.specs.Stands.{row_on}
+use Rattle.image_tree.specs.Commit.{slot_after, new_rows, filled, slots_after, Commit, blank, seen_before, ComesBy, had, enters, IsCommitStep}
 use Rattle.image_tree.specs.Sizes.{DirectoriesFit}
 use Rattle.image_tree.specs.Laws.{CommitsKeepDirectoriesFit}
-use Rattle.image_tree.proofs.Basics.{none_some}
+use Rattle.sfs_base.proofs.BasicOptions.{none_some}
 use Rattle.image_tree.proofs.SlotRows.{bytes_same, bytes_are, count_slot, looked_counts}
 use Rattle.image_tree.proofs.SlotsAfter.{looked_in_blocks, count_in_blocks, length_in_blocks}
 use Rattle.image_tree.proofs.Standing.{not_used}
@@ -182,22 +180,22 @@ module _ (d : ℕ) where
       at_most : (number : ℕ) → number < 8 → in_bucket (entries rows) number ≤ 4096
       at_most number lt = subst (λ (n : ℕ). n ≤ 4096) (len-entries _ ∙ ap length (entries-names_where d (λ name. nat_eq (bucket name) number) rows)) (full number lt)
 
-module _ (commit : Commit) (old new : TreeState) (image next : SeenInodes) (st : StandsForTree commit.before old image) (s : IsSound old) (c : IsCommit commit old new image next) (m : MayFollow commit.after old new) (may : IsStorable commit.after new) (fit : DirectoriesFit image) where
+module _ (commit : Commit) (old new : TreeState) (image next : SeenInodes) (step : IsCommitStep commit old new image next) (fit : DirectoriesFit image) where
   abbrev after_net : ℕ → List (Option Row)
   after_net x = slots_after commit.after new (commit.nets x) (seen_before commit image x).slots
 
   -- a concerned directory's slots before were within the limit
   before-le : (x i : ℕ) → commit.after x ≡ Some i → kind_of new x ≡ Directory → length (seen_before commit image x).slots ≤ BLOCK_SLOTS * DIRECTORY_BLOCKS
-  before-le x i is kind = by_way (c.numbers.comes x i is)
+  before-le x i is kind = by_way (step.commits.numbers.comes x i is)
     where
       by_way : ComesBy commit image x i → length (seen_before commit image x).slots ≤ BLOCK_SLOTS * DIRECTORY_BLOCKS
-      by_way (had was) = subst (λ (o : Option ℕ). length (option_map_or image.seen o blank).slots ≤ BLOCK_SLOTS * DIRECTORY_BLOCKS) (sym was) (fit i (st.within x i was, (st.each x i was).kind ∙ ap kind_byte (sym (m.kinds x) ∙ kind)))
+      by_way (had was) = subst (λ (o : Option ℕ). length (option_map_or image.seen o blank).slots ≤ BLOCK_SLOTS * DIRECTORY_BLOCKS) (sym was) (fit i (step.stands.within x i was, (step.stands.each x i was).kind ∙ ap kind_byte (sym (step.follows.kinds x) ∙ kind)))
       by_way (enters none _ _) = subst (λ (o : Option ℕ). length (option_map_or image.seen o blank).slots ≤ BLOCK_SLOTS * DIRECTORY_BLOCKS) (sym none) (omega arith)
 
   taken_after : (x i : ℕ) → commit.after x ≡ Some i → taken (after_net x) ≤ 8 * BUCKET_ROWS
   taken_after x i is =
-      let h = has_slots_after commit.before commit.after old new x (commit.nets x) (c.nets x) (same_row commit old new image next st s c m x) (seen_before commit image x).slots (slots_before commit old new image next st s c m x) in
-      let rows = rows-le x new.rows (λ number lt. may.full x i number is lt) in
+      let h = has_slots_after commit.before commit.after old new x (commit.nets x) (step.commits.nets x) (same_row commit old new image next step x) (seen_before commit image x).slots (slots_before commit old new image next step x) in
+      let rows = rows-le x new.rows (λ number lt. step.storable.limits.buckets x number) in
       let few = taken-le (after_net x) (names_of x new.rows) (λ n. subst (λ (k : ℕ). k ≤ 1) (count_in_blocks n (after_net x)) (h.once n)) (λ row found. there row (sym (h.looked row.name) ∙ looked_in_blocks row.name (after_net x) ∙ found)) in
       omega arith
     where
@@ -221,15 +219,15 @@ module _ (commit : Commit) (old new : TreeState) (image next : SeenInodes) (st :
       ]
 
   next_fit : DirectoriesFit next
-  next_fit i is = elim (c.rest i is.0) as (λ _. length (next.seen i).slots ≤ BLOCK_SLOTS * DIRECTORY_BLOCKS) [
+  next_fit i is = elim (step.commits.rest i is.0) as (λ _. length (next.seen i).slots ≤ BLOCK_SLOTS * DIRECTORY_BLOCKS) [
     | inr free ↦ absurd (not_used Directory (sym is.1 ∙ free.kind))
     | inl node ↦ elim (commit.concerns node.0) as (λ b. commit.concerns node.0 ≡ b → length (next.seen i).slots ≤ BLOCK_SLOTS * DIRECTORY_BLOCKS) [
       | true ↦ λ t.
-          let b = c.built node.0 i node.1 t in
+          let b = step.commits.built node.0 i node.1 t in
           subst (λ (slots : List (Option Row)). length slots ≤ BLOCK_SLOTS * DIRECTORY_BLOCKS) (sym b.slots) (built-le node.0 i node.1 (same_kind (kind_of new node.0) (sym b.kind ∙ is.1)))
       | false ↦ λ t.
-          let a = c.stays node.0 i node.1 t in
-          subst (λ (seen : Seen). length seen.slots ≤ BLOCK_SLOTS * DIRECTORY_BLOCKS) (sym a.1) (fit i (number_within commit old image st c.numbers node.0 i node.1, ap (λ (seen : Seen). seen.kind) (sym a.1) ∙ is.1))
+          let a = step.commits.stays node.0 i node.1 t in
+          subst (λ (seen : Seen). length seen.slots ≤ BLOCK_SLOTS * DIRECTORY_BLOCKS) (sym a.1) (fit i (number_within commit old image step.stands step.commits.numbers node.0 i node.1, ap (λ (seen : Seen). seen.kind) (sym a.1) ∙ is.1))
     ] refl
   ]
     where
@@ -238,4 +236,4 @@ module _ (commit : Commit) (old new : TreeState) (image next : SeenInodes) (st :
       same_kind File e = absurd (cc)
 
 pub commits_keep_directories_fit : CommitsKeepDirectoriesFit
-commits_keep_directories_fit commit old new image next st s c m may fit = next_fit commit old new image next st s c m may fit
+commits_keep_directories_fit = next_fit

@@ -9,7 +9,7 @@ use Rattle.std.specs.Cmp.Lexicographic.{nat_list_cmp_total}
 use Rattle.sfs_tree.proofs.Joined.{name_cmp-IsAntisymmetric, is_equal, count-cons}
 use Rattle.sfs_image.specs.Slot.{Row}
 use Rattle.image_tree.specs.Slots.{has_name, looked_up, name_count}
-use Rattle.image_tree.proofs.Basics.{some_is, none_some}
+use Rattle.sfs_base.proofs.BasicOptions.{none_some, some_same}
 
 -- bytes are told apart as names are
 pub bytes_same : (n : List ℕ) → bytes_eq n n ≡ true
@@ -31,7 +31,7 @@ looked_named n [] row is = absurd (none_some is)
 looked_named n (None ∷ slots) row is = looked_named n slots row is
 looked_named n (Some held ∷ slots) row is =
     elim (bytes_eq n held.name) as (λ b. bytes_eq n held.name ≡ b → cond b (Some held) (looked_up n slots) ≡ Some row → row.name ≡ n) [
-      | true ↦ λ t e. ap (λ (r : Row). r.name) (sym (some_is e)) ∙ sym (bytes_are n held.name t)
+      | true ↦ λ t e. ap (λ (r : Row). r.name) (sym (some_same e)) ∙ sym (bytes_are n held.name t)
       | false ↦ λ t e. looked_named n slots row e
     ] refl is
 

@@ -6,7 +6,7 @@ use Rattle.std.proofs.lemmas.List.{length-take-le, length-append, length-replica
 use Rattle.sfs_image.specs.Slot.{Row}
 use Rattle.image_tree.specs.Slots.{has_name, looked_up, name_count, rows_end, blocks_up_to_last, in_blocks, BLOCK_SLOTS}
 use Rattle.image_tree.specs.Commit.{filled}
-use Rattle.image_tree.proofs.Basics.{none_some}
+use Rattle.sfs_base.proofs.BasicOptions.{none_some}
 use Rattle.image_tree.proofs.SlotRows.{count_slot, none_looked}
 
 -- a name that is not found is counted nowhere

@@ -22,7 +22,8 @@ use Rattle.image_tree.specs.Renamed.{Numbering, HasNumber, IsMet, root, named, I
 use Rattle.image_tree.specs.Stands.{inode_under, row_on, StandsForTree, IsStorable}
 use Rattle.image_tree.specs.Laws.{StandingImagesShow}
 use Rattle.image_tree.specs.Keeps.{ruled_tree, IsDirectoryInode, MayName, MayStand, KeepsRules}
-use Rattle.image_tree.proofs.Basics.{some_is, none_some, true_false}
+use Rattle.sfs_base.proofs.BasicTruth.{not_both}
+use Rattle.sfs_base.proofs.BasicOptions.{none_some, some_same}
 use Rattle.image_tree.proofs.Renaming.{under_is, naming_renamed, links_renamed, sound_renamed, above_renamed}
 use Rattle.image_tree.proofs.Shapes.{part_renamed, shape_renamed, with_value}
 use Rattle.image_tree.proofs.SlotRows.{OnRow, each_found}
@@ -100,7 +101,7 @@ module _ (num : Numbering) (tree : TreeState) (image : SeenInodes) (making : Mak
             ∙ ap (option_map (λ (row : Row). row.inode)) ((st.each d i is).slots n)
             ∙ by_child (row_of tree d n) refl
         | false ↦ λ t.
-            no_row_shown image i n (st.within d i is) (λ kind. true_false (eq-eqb _ _ kind) (is_shown d i is ∙ t))
+            no_row_shown image i n (st.within d i is) (λ kind. not_both (eq-eqb _ _ kind) (is_shown d i is ∙ t))
             ∙ no_child t (row_of tree d n) refl
       ] refl
     where
@@ -110,7 +111,7 @@ module _ (num : Numbering) (tree : TreeState) (image : SeenInodes) (making : Mak
 
       no_child : is_directory tree d ≡ false → (o : Option ℕ) → row_of tree d n ≡ o → None ≡ option_and_then num o
       no_child t None e = refl
-      no_child t (Some x) e = absurd (true_false (s.holds d n x e).0 t)
+      no_child t (Some x) e = absurd (not_both (s.holds d n x e).0 t)
 
   node_shown_as : (x i : ℕ) → num x ≡ Some i → (o : Option Node) → get tree.nodes x ≡ o → IsSome o → is_node image i ≡ true → get shown.nodes i ≡ o
   node_shown_as x i is None e some node = absurd (none_is_some some)
@@ -175,10 +176,10 @@ module _ (num : Numbering) (tree : TreeState) (image : SeenInodes) (making : Mak
       by_row None e same = absurd (none_some same)
       by_row (Some y) e same =
           let h = st.named x row.name y e in
-          let inode : row.inode ≡ h.0 = ap (λ (r : Row). r.inode) (sym (some_is same)) ∙ under_is num y h.0 h.1 in
+          let inode : row.inode ≡ h.0 = ap (λ (r : Row). r.inode) (sym (some_same same)) ∙ under_is num y h.0 h.1 in
           record {
             within = subst (λ (j : ℕ). j < image.count) (sym inode) (st.within y h.0 h.1);
-            kind = ap (λ (j : ℕ). (image.seen j).kind) inode ∙ (st.each y h.0 h.1).kind ∙ ap (λ (r : Row). kind_byte r.kind) (some_is same);
+            kind = ap (λ (j : ℕ). (image.seen j).kind) inode ∙ (st.each y h.0 h.1).kind ∙ ap (λ (r : Row). kind_byte r.kind) (some_same same);
             no_root = λ zero. s.unnamed x row.name (e ∙ ap Some (st.once y 0 0 (h.1 ∙ ap Some (sym inode ∙ zero)) st.root));
           }
 
@@ -203,7 +204,7 @@ module _ (num : Numbering) (tree : TreeState) (image : SeenInodes) (making : Mak
     reached_shown x i is kind = by_met x (may.placed x i is kind) kind is
       where
         by_met : (x : ℕ) → IsMet tree x → is_directory tree x ≡ true → num x ≡ Some i → (above : List ℕ) × Above shown i above
-        by_met _ root kind is = ([], subst (λ (j : ℕ). Above shown j []) (some_is (sym st.root ∙ is)) at_root)
+        by_met _ root kind is = ([], subst (λ (j : ℕ). Above shown j []) (some_same (sym st.root ∙ is)) at_root)
         by_met _ (named d n x row) kind is = let way = s.climbs d n x row kind in above_renamed num tree shown shown_renamed s x i way.0 is way.1
 
   -- its tree is sound and has the tree's shape
@@ -222,7 +223,7 @@ module _ (num : Numbering) (tree : TreeState) (image : SeenInodes) (s : IsSound 
     once = λ i is n. let x = node_of_directory num tree image NOTHING_MADE s st i is in (st.each x.0 i x.1).once n;
     full = λ i number is lt.
         let x = node_of_directory num tree image NOTHING_MADE s st i is in
-        subst (λ (k : ℕ). k ≤ 4096) (sym (len_part (λ name. nat_eq (bucket name) number) x.0 i x.1)) (may.full x.0 i number x.1 lt);
+        subst (λ (k : ℕ). k ≤ 4096) (sym (len_part (λ name. nat_eq (bucket name) number) x.0 i x.1)) (may.limits.buckets x.0 number);
     children = λ i is. let x = node_of_directory num tree image NOTHING_MADE s st i is in stand (image.seen i).slots (each_found (MayName image) (image.seen i).slots (st.each x.0 i x.1).once (λ row found. may_name num tree image NOTHING_MADE s st x.0 i x.1 row found));
     named_once = λ i is. let x = node_of_directory num tree image NOTHING_MADE s st i is in subst (λ (k : ℕ). k ≤ 1) (sym (naming_renamed num tree (ruled_tree image) (shown_renamed num tree image NOTHING_MADE s st) x.0 i x.1)) (named_at_most_once num tree image NOTHING_MADE s st x.0 x.2);
     links = λ i lt used. let x = node_of_used num tree image NOTHING_MADE s st i lt used in (st.each x.0 i x.1).links ∙ sym (links_shown num tree image NOTHING_MADE s st may x.0 i x.1);

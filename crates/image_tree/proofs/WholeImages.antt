@@ -1,33 +1,28 @@
 -- Images without a fault: their trees are sound and they stand for them; and which images have none.
-use Rattle.std.proofs.Common.{◌≡◌, ℕ, zero, suc, ◌/◌, ◌<◌, ◌≤◌, true, false, cond, List, length, slice_index, replicate, Option, Some, None, IsSome, inl, refl, sym, ap, subst, arith, nat_lt}
+use Rattle.std.proofs.Common.{◌≡◌, ℕ, ◌/◌, ◌<◌, ◌≤◌, true, false, cond, List, length, Option, Some, None, IsSome, inl, refl, sym, ap, subst, arith, nat_lt}
 use borrow.Author.Tests.{ltb-true, ltb-false}
 use Rattle.std.specs.Prelude.{is_none}
 use Rattle.std.specs.FinMap.{get}
 use Rattle.sfs_tree.specs.Tree.{TreeState}
-use Rattle.sfs_tree.specs.Sound.{IsNumbered}
+use Rattle.sfs_tree.specs.Sound.{IsNumbered, IsWithinLimits}
 use Rattle.sfs_tree.specs.Laws.{IsSoundTree}
 use Rattle.sfs_image.specs.Super.{Layout}
 use Rattle.sfs_image.specs.Settled.{SlotFault, image_block, layout_of, settled, super_fault_of, journal_fault_of}
 use Rattle.sfs_image.specs.Seen.{SeenInodes}
 use Rattle.sfs_image.proofs.SuperLaws.{super_facts}
+use Rattle.sfs_base.proofs.BasicLists.{zeros_read}
 use Rattle.image_tree.specs.ImageTree.{is_node, image_tree}
 use Rattle.image_tree.specs.Image.{image_inodes, breaks_bytes_of, ImageFault, first_of_faults, fault_of, making_at_mount, HasGoodBytes}
 use Rattle.image_tree.specs.Keeps.{KeepsRules}
 use Rattle.image_tree.specs.Rules.{TreeFault, tree_fault, breaks_rule, KeepsByteRules}
 use Rattle.image_tree.specs.Mount.{ShowsByKind}
 use Rattle.image_tree.specs.Laws.{TreesOfImagesAreMounted, StandingImagesAreRead}
-use Rattle.image_tree.proofs.Basics.{some_is, none_some}
-use Rattle.image_tree.proofs.Images.{no_node_outside}
+use Rattle.sfs_base.proofs.BasicOptions.{none_some, some_same}
+use Rattle.image_tree.proofs.Images.{no_node_outside, directory_is_node}
 use Rattle.image_tree.proofs.Faults.{no_break, no_fault_is_rules_kept}
-use Rattle.image_tree.proofs.Mounted.{sound_shown, rules_make_standing}
+use Rattle.image_tree.proofs.Mounted.{sound_shown, limits_where, rules_make_standing}
 use Rattle.image_tree.proofs.Standing.{standing_images_show}
 use Rattle.image_tree.proofs.Parts.{shows_by_kind, holds_apart, root_shown}
-
-zeros_read : (n k : ℕ) → slice_index (replicate n 0) k ≡ 0
-zeros_read zero zero = refl
-zeros_read zero (suc k) = refl
-zeros_read (suc n) zero = refl
-zeros_read (suc n) (suc k) = zeros_read n k
 
 module _ (image : List ℕ) where
   abbrev inodes : SeenInodes
@@ -110,7 +105,7 @@ module _ (image : List ℕ) where
           nothing o none some = cc
 
   no_fault : (share : ℕ) (tree : TreeState) (o : Option ImageFault) → fault_of image ≡ o → cond (is_none o) (Some (image_tree inodes (making_at_mount image share))) None ≡ Some tree → (fault_of image ≡ None) × (image_tree inodes (making_at_mount image share) ≡ tree)
-  no_fault share tree None e is = (e, some_is is)
+  no_fault share tree None e is = (e, some_same is)
   no_fault share tree (Some fault) e is = absurd (none_some is)
 
 pub trees_of_images_are_mounted : TreesOfImagesAreMounted
@@ -119,6 +114,7 @@ trees_of_images_are_mounted image share tree is =
     let k = rules_kept image f.0 in
     record {
       sound = subst IsSoundTree f.1 (record { sound = sound_shown (image_inodes image) (making_at_mount image share) k; numbered = numbered image share });
+      limits = subst IsWithinLimits f.1 (limits_where (image_inodes image) (is_node (image_inodes image)) (directory_is_node (image_inodes image)) (making_at_mount image share) (shows image (good_bytes image f.0)).directories k);
       itself = rules_make_standing (image_inodes image) (making_at_mount image share) k (shows image (good_bytes image f.0));
     }
 

@@ -4,13 +4,14 @@ use Rattle.std.specs.List.{find}
 use Rattle.std.specs.Option.{option_map_or}
 use Rattle.sfs_tree.specs.NameRow.{number_of}
 use Rattle.sfs_tree.specs.Tree.{TreeState, row_of, kind_of, bytes_of, links_of, names_of}
+use Rattle.sfs_tree.specs.Sound.{IsSound}
 use Rattle.absorb.specs.declared.nets.NetRow.{NetRow}
 use Rattle.absorb.specs.Net.{IsNet}
 use Rattle.sfs_image.specs.Slot.{Row, kind_byte}
 use Rattle.sfs_image.specs.Seen.{Seen, SeenInodes, PLACES}
 use Rattle.image_tree.specs.Slots.{in_blocks}
 use Rattle.image_tree.specs.Renamed.{Numbering, HasNumber}
-use Rattle.image_tree.specs.Stands.{row_on, own_size, IsUnused}
+use Rattle.image_tree.specs.Stands.{StandsForTree, IsStorable, row_on, own_size, IsUnused}
 
 -- the row of a net that has this name, where there is one
 abbrev pub row_in_net : List ℕ → List NetRow → Option NetRow
@@ -90,9 +91,11 @@ pub record GivesNumbers (commit : Commit) (image : SeenInodes) : Type 0 where
 
 -- The blocks that a commit takes: each place of a concerned node has one of the three, and a fresh block is held by no inode before and taken once.
 pub record TakesBlocks (commit : Commit) (image next : SeenInodes) : Type 0 where
-  pub has : (node i place : ℕ) → place < PLACES → commit.after node ≡ Some i → commit.concerns node ≡ true → HasBlock commit i place (seen_before commit image node) (next.seen i)
+  pub has : (node i place : ℕ) → place < PLACES → commit.after node ≡ Some i → commit.concerns node ≡ true
+      → HasBlock commit i place (seen_before commit image node) (next.seen i)
   pub unheld : (i place j other : ℕ) → commit.takes i place ≡ true → j < image.count → other < PLACES → (image.seen j).blocks other ≢ commit.fresh i place
-  pub once : (i place j other : ℕ) → commit.takes i place ≡ true → commit.takes j other ≡ true → commit.fresh i place ≡ commit.fresh j other → (i ≡ j) × (place ≡ other)
+  pub once : (i place j other : ℕ) → commit.takes i place ≡ true → commit.takes j other ≡ true → commit.fresh i place ≡ commit.fresh j other
+      → (i ≡ j) × (place ≡ other)
 
 -- A commit changes the inodes of an image from those of an old tree to those of a new one.
 pub record IsCommit (commit : Commit) (old new : TreeState) (image next : SeenInodes) : Type 0 where
@@ -101,8 +104,10 @@ pub record IsCommit (commit : Commit) (old new : TreeState) (image next : SeenIn
   pub nets : (node : ℕ) → IsNet (names_of node old.rows) (names_of node new.rows) (commit.nets node)
   pub numbers : GivesNumbers commit image
   -- a concerned node is built anew, another one stays as it is, and what is no node's is free
-  pub built : (node i : ℕ) → commit.after node ≡ Some i → commit.concerns node ≡ true → IsBuiltAnew commit new node (seen_before commit image node) (next.seen i)
-  pub stays : (node i : ℕ) → commit.after node ≡ Some i → commit.concerns node ≡ false → (commit.before node ≡ Some i) × (next.seen i ≡ image.seen i) × IsAside old new node
+  pub built : (node i : ℕ) → commit.after node ≡ Some i → commit.concerns node ≡ true
+      → IsBuiltAnew commit new node (seen_before commit image node) (next.seen i)
+  pub stays : (node i : ℕ) → commit.after node ≡ Some i → commit.concerns node ≡ false
+      → (commit.before node ≡ Some i) × (next.seen i ≡ image.seen i) × IsAside old new node
   pub rest : (i : ℕ) → i < next.count → ((node : ℕ) × (commit.after node ≡ Some i)) ⊎ IsUnused (next.seen i)
   pub blocks : TakesBlocks commit image next
 
@@ -111,3 +116,13 @@ pub record MayFollow (num : Numbering) (old new : TreeState) : Type 0 where
   pub kinds : (node : ℕ) → kind_of new node ≡ kind_of old node
   pub root : num 0 ≡ Some 0
   pub named : (directory : ℕ) (name : List ℕ) (child : ℕ) → row_of new directory name ≡ Some child → HasNumber num child
+
+-- A commit's step: an image stands for a sound tree, and the commit changes its inodes to those of a next tree, which is sound, may
+-- follow the first, and is such that an image may stand for it.
+pub record IsCommitStep (commit : Commit) (old new : TreeState) (image next : SeenInodes) : Type 0 where
+  pub stands : StandsForTree commit.before old image
+  pub sound : IsSound old
+  pub commits : IsCommit commit old new image next
+  pub next_sound : IsSound new
+  pub follows : MayFollow commit.after old new
+  pub storable : IsStorable commit.after new

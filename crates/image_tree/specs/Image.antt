@@ -1,6 +1,7 @@
 -- The first fault of an image, and its tree where it has none.
 use Rattle.std.specs.Prelude.{◌≡◌, ℕ, ◌<◌, ◌≤◌, Bool, false, List, replicate, is_none, Option, Some, None, option_map, if◌then◌else◌}
 use Rattle.sfs_tree.specs.Tree.{TreeState}
+use Rattle.sfs_tree.specs.Sound.{IsWithinLimits}
 use Rattle.sfs_tree.specs.Laws.{IsSoundTree}
 use Rattle.sfs_tree.specs.Shape.{shape_of}
 use Rattle.sfs_image.specs.Part.{seen_of}
@@ -8,7 +9,7 @@ use Rattle.sfs_image.specs.Rules.{breaks_bytes_rule}
 use Rattle.sfs_image.specs.Settled.{SlotFault, layout_of, parts_of, super_fault_of, journal_fault_of}
 use Rattle.sfs_image.specs.Seen.{SeenInodes}
 use Rattle.image_tree.specs.ImageTree.{Making, image_tree}
-use Rattle.image_tree.specs.Rules.{TreeFault, tree_fault}
+use Rattle.image_tree.specs.Rules.{BYTE_RULES, TreeFault, tree_fault}
 use Rattle.image_tree.specs.Mount.{StandsByItself}
 
 -- the inodes of an image, by their settled parts
@@ -43,16 +44,17 @@ making_at_mount image share = record { first = (layout_of image).inodes; share =
 abbrev pub tree_of : List ℕ → ℕ → Option TreeState
 tree_of image share = if is_none (fault_of image) then Some (image_tree (image_inodes image) (making_at_mount image share)) else None
 
--- What stands once an image was mounted: its tree is sound, and it stands for it.
+-- What stands once an image was mounted: its tree is sound and within its limits, and it stands for it.
 pub record IsMounted (image : List ℕ) (share : ℕ) (tree : TreeState) : Type 0 where
   pub sound : IsSoundTree tree
+  pub limits : IsWithinLimits tree
   pub itself : StandsByItself (image_inodes image) (making_at_mount image share)
 
 -- No byte of the superblock, of a journal or of an inode breaks a rule.
 pub record HasGoodBytes (image : List ℕ) : Type 0 where
   pub super : super_fault_of image ≡ None
   pub journals : journal_fault_of (layout_of image) image ≡ None
-  pub inodes : (rule i : ℕ) → 1 ≤ rule → rule ≤ 7 → i < (layout_of image).inodes → breaks_bytes_of image rule i ≡ false
+  pub inodes : (rule i : ℕ) → 1 ≤ rule → rule ≤ BYTE_RULES → i < (layout_of image).inodes → breaks_bytes_of image rule i ≡ false
 
 -- What is read of an image: nothing wrong, and a tree of a given tree's shape.
 pub record IsReadAsTree (image : List ℕ) (share : ℕ) (tree : TreeState) : Type 0 where

@@ -3,14 +3,13 @@ use Rattle.std.specs.Prelude.{◌≡◌, ◌≢◌, ℕ, ◌<◌, ◌≤◌, Lis
 use Rattle.std.specs.List.{AllByRecursion}
 use Rattle.std.specs.FinMap.{len}
 use Rattle.sfs_base.specs.declared.numbers.Kind.TheVariants.{Directory}
-use Rattle.sfs_tree.specs.Tree.{TreeState, count_of, links_of, bucket_rows}
+use Rattle.sfs_tree.specs.Tree.{BUCKET_ROWS, TreeState, count_of, links_of, bucket_rows}
 use Rattle.sfs_tree.specs.Sound.{Above}
 use Rattle.sfs_image.specs.Slot.{Row, kind_byte}
 use Rattle.sfs_image.specs.Seen.{SeenInodes}
 use Rattle.image_tree.specs.Slots.{name_count}
 use Rattle.image_tree.specs.ImageTree.{NOTHING_MADE, image_rows, image_tree}
 use Rattle.image_tree.specs.Stands.{HoldsApart}
-use Rattle.sfs_tree.specs.Verdict.{BUCKET_ROWS}
 
 -- an inode of an image is a directory
 abbrev pub IsDirectoryInode : SeenInodes → ℕ → Type 0

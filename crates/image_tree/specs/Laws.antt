@@ -8,21 +8,23 @@ use Rattle.image_tree.specs.ImageTree.{Making, image_tree}
 use Rattle.image_tree.specs.Renamed.{Numbering, IsRenamed}
 use Rattle.image_tree.specs.Stands.{StandsForTree, IsStorable}
 use Rattle.image_tree.specs.Keeps.{KeepsRules}
-use Rattle.image_tree.specs.Elsewhere.{Elsewhere, commit_there, ConcernsItsChanges, AgreesBefore, FollowsThere}
+use Rattle.image_tree.specs.Elsewhere.{Elsewhere, commit_there, IsPlanned, Suits}
 use Rattle.absorb.specs.declared.nets.NetRow.{NetRow}
 use Rattle.image_tree.specs.LinkChanges.{gained, lost, linking, net_changes, AreAllNets}
 use Rattle.image_tree.specs.Image.{image_inodes, tree_of, IsMounted, HasGoodBytes, IsReadAsTree}
 use Rattle.sfs_image.specs.Slot.{Row}
 use Rattle.image_tree.specs.Slots.{EndsWithRow}
+use Rattle.image_tree.specs.Need.{Rewrite, RanksServe, GrantServes, TakesByRank}
 use Rattle.image_tree.specs.Sizes.{DirectoriesFit}
 use Rattle.image_tree.specs.Mount.{ShowsByKind, StandsByItself}
 use Rattle.image_tree.specs.Orphans.{FreesOrphans, IsFreed}
 use Rattle.image_tree.specs.Rules.{first_fault, FindsFault, BYTE_RULES, KeepsByteRules, tree_fault}
-use Rattle.image_tree.specs.Commit.{Commit, IsCommit, MayFollow}
+use Rattle.image_tree.specs.Commit.{Commit, TakesBlocks, IsCommit, IsCommitStep}
 
 -- A tree under other numbers is sound where the first is, and has its shape.
 abbrev pub RenamedTreesHaveOneShape : Type 0
-RenamedTreesHaveOneShape = (num : Numbering) (tree other : TreeState) → IsSound tree → IsRenamed num tree other → IsSound other × (shape_of other ≡ shape_of tree)
+RenamedTreesHaveOneShape =
+    (num : Numbering) (tree other : TreeState) → IsSound tree → IsRenamed num tree other → IsSound other × (shape_of other ≡ shape_of tree)
 
 -- What an image shows that stands for a tree: it keeps the rules, and its own tree is sound and has the tree's shape.
 pub record ShowsTree (tree : TreeState) (image : SeenInodes) (making : Making) : Type 0 where
@@ -32,7 +34,9 @@ pub record ShowsTree (tree : TreeState) (image : SeenInodes) (making : Making) :
 
 -- An image that stands for a sound tree shows it.
 abbrev pub StandingImagesShow : Type 0
-StandingImagesShow = (num : Numbering) (tree : TreeState) (image : SeenInodes) (making : Making) → IsSound tree → IsStorable num tree → StandsForTree num tree image → ShowsTree tree image making
+StandingImagesShow =
+    (num : Numbering) (tree : TreeState) (image : SeenInodes) (making : Making) → IsSound tree → IsStorable num tree → StandsForTree num tree image
+    → ShowsTree tree image making
 
 -- what a commit leaves where an image stood for a tree: it stands for the next tree, and shows it
 pub record LeavesTree (commit : Commit) (new : TreeState) (next : SeenInodes) (making : Making) : Type 0 where
@@ -41,7 +45,9 @@ pub record LeavesTree (commit : Commit) (new : TreeState) (next : SeenInodes) (m
 
 -- A commit makes of an image that stands for a sound tree one that stands for the next tree, and so keeps the rules.
 abbrev pub CommitsKeepStanding : Type 0
-CommitsKeepStanding = (commit : Commit) (old new : TreeState) (image next : SeenInodes) (making : Making) → StandsForTree commit.before old image → IsSound old → IsCommit commit old new image next → IsSound new → MayFollow commit.after old new → IsStorable commit.after new → LeavesTree commit new next making
+CommitsKeepStanding =
+    (commit : Commit) (old new : TreeState) (image next : SeenInodes) (making : Making) → IsCommitStep commit old new image next
+    → LeavesTree commit new next making
 
 -- An image that keeps the rules stands for its own tree.
 abbrev pub RulesMakeStanding : Type 0
@@ -49,25 +55,31 @@ RulesMakeStanding = (image : SeenInodes) (making : Making) → KeepsRules image 
 
 -- The first fault is none exactly where the rules hold, those on bytes being given.
 abbrev pub NoFaultIsRulesKept : Type 0
-NoFaultIsRulesKept = (image : SeenInodes) (breaks_byte_rule : ℕ → ℕ → Bool) → KeepsByteRules image → ((rule i : ℕ) → 1 ≤ rule → rule ≤ BYTE_RULES → i < image.count → breaks_byte_rule rule i ≡ false) → (tree_fault breaks_byte_rule image ≡ None) ↔ KeepsRules image
+NoFaultIsRulesKept =
+    (image : SeenInodes) (breaks_byte_rule : ℕ → ℕ → Bool) → KeepsByteRules image
+    → ((rule i : ℕ) → 1 ≤ rule → rule ≤ BYTE_RULES → i < image.count → breaks_byte_rule rule i ≡ false)
+    → (tree_fault breaks_byte_rule image ≡ None) ↔ KeepsRules image
 
 -- A commit that was planned in one state is one in each other state that agrees with it on what it concerns.
 abbrev pub PlannedCommitsHoldElsewhere : Type 0
-PlannedCommitsHoldElsewhere = (commit : Commit) (old new : TreeState) (image next : SeenInodes) (there : Elsewhere) → StandsForTree commit.before old image → IsCommit commit old new image next → ConcernsItsChanges commit old new
-    → StandsForTree there.before there.old there.image → AgreesBefore commit old image there → FollowsThere commit new next there → IsCommit (commit_there commit there) there.old there.new there.image there.next
+PlannedCommitsHoldElsewhere =
+    (commit : Commit) (old new : TreeState) (image next : SeenInodes) (there : Elsewhere) → IsPlanned commit old new image next
+    → Suits commit old new image next there → IsCommit (commit_there commit there) there.old there.new there.image there.next
 
 -- A node's link count in the later tree, with the rows that went, is that in the earlier one with the rows that came.
 abbrev pub NetsGiveLinks : Type 0
 NetsGiveLinks = (old new : TreeState) (nets : ℕ → List NetRow) (members : List ℕ) (node : ℕ) → AreAllNets old new nets members
     → links_of new node + lost (linking new node) (net_changes nets members) ≡ links_of old node + gained (linking new node) (net_changes nets members)
 
--- An image that has a tree is mounted: its tree is sound, and it stands for it.
+-- An image that has a tree is mounted: its tree is sound and within its limits, and it stands for it.
 abbrev pub TreesOfImagesAreMounted : Type 0
 TreesOfImagesAreMounted = (image : List ℕ) (share : ℕ) (tree : TreeState) → tree_of image share ≡ Some tree → IsMounted image share tree
 
 -- An image with good bytes whose inodes stand for a sound tree has no fault, and a tree of that shape.
 abbrev pub StandingImagesAreRead : Type 0
-StandingImagesAreRead = (image : List ℕ) (share : ℕ) (num : Numbering) (tree : TreeState) → HasGoodBytes image → IsSound tree → IsStorable num tree → StandsForTree num tree (image_inodes image) → IsReadAsTree image share tree
+StandingImagesAreRead =
+    (image : List ℕ) (share : ℕ) (num : Numbering) (tree : TreeState) → HasGoodBytes image → IsSound tree → IsStorable num tree
+    → StandsForTree num tree (image_inodes image) → IsReadAsTree image share tree
 
 -- The first fault is that of the least rule that an inode breaks, and of that the least inode.
 abbrev pub FirstFaultIsLeast : Type 0
@@ -75,12 +87,25 @@ FirstFaultIsLeast = (breaks : ℕ → ℕ → Bool) (count : ℕ) → FindsFault
 
 -- Freeing its orphans leaves an image its tree.
 abbrev pub FreedOrphansKeepTheTree : Type 0
-FreedOrphansKeepTheTree = (image next : SeenInodes) (making : Making) → KeepsRules image → ShowsByKind image → FreesOrphans image next → IsFreed image next making
+FreedOrphansKeepTheTree =
+    (image next : SeenInodes) (making : Making) → KeepsRules image → ShowsByKind image → FreesOrphans image next → IsFreed image next making
 
 -- A commit keeps directories within the blocks that one may have: no slot behind the last is taken before all are full.
 abbrev pub CommitsKeepDirectoriesFit : Type 0
-CommitsKeepDirectoriesFit = (commit : Commit) (old new : TreeState) (image next : SeenInodes) → StandsForTree commit.before old image → IsSound old → IsCommit commit old new image next → MayFollow commit.after old new → IsStorable commit.after new → DirectoriesFit image → DirectoriesFit next
+CommitsKeepDirectoriesFit =
+    (commit : Commit) (old new : TreeState) (image next : SeenInodes) → IsCommitStep commit old new image next → DirectoriesFit image
+    → DirectoriesFit next
 
 -- The blocks that a directory has after a commit end with the last one that has a row.
 abbrev pub BlocksEndWithRow : Type 0
 BlocksEndWithRow = (slots : List (Option Row)) → EndsWithRow slots
+
+-- The ranks of the places that take a block serve to hand out a grant.
+abbrev pub RanksServeGrants : Type 0
+RanksServeGrants = (takes : ℕ → Bool) → RanksServe takes
+
+-- A commit that takes its blocks from a serving grant by their ranks takes free blocks, each once.
+abbrev pub RanksTakeFreeBlocks : Type 0
+RanksTakeFreeBlocks =
+    (commit : Commit) (image next : SeenInodes) (inodes : List ℕ) (rewrites : List Rewrite) (grant : List ℕ) → GrantServes image rewrites grant
+    → TakesByRank commit image next inodes rewrites grant → TakesBlocks commit image next

@@ -6,6 +6,7 @@ pub mod Keeps
 pub mod Laws
 pub mod LinkChanges
 pub mod Mount
+pub mod Need
 pub mod Orphans
 pub mod Renamed
 pub mod Rules

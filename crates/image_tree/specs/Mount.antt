@@ -13,12 +13,13 @@ use Rattle.image_tree.specs.Stands.{own_size, IsUnused, IsStorable, StandsForTre
 abbrev pub own_numbers : SeenInodes → Numbering
 own_numbers image i = if nat_lt i image.count && is_used image i then Some i else None
 
--- Each inode shows what its kind has: one in use is a file or a directory and of the size of what it has, a file has no slots, and a
--- free one holds no block.
+-- Each inode shows what its kind has: one in use is a file or a directory and of the size of what it has, a file has no slots, a
+-- directory has no bytes, and a free one holds no block.
 pub record ShowsByKind (image : SeenInodes) : Type 0 where
   pub kinds : (i : ℕ) → i < image.count → (image.seen i).kind ≢ 0 → ((image.seen i).kind ≡ kind_byte File) ⊎ ((image.seen i).kind ≡ kind_byte Directory)
   pub sizes : (i : ℕ) → i < image.count → (image.seen i).kind ≢ 0 → (image.seen i).size ≡ own_size (image.seen i)
   pub files : (i : ℕ) → i < image.count → (image.seen i).kind ≡ kind_byte File → (image.seen i).slots ≡ []
+  pub directories : (i : ℕ) → i < image.count → (image.seen i).kind ≡ kind_byte Directory → (image.seen i).bytes ≡ []
   pub unused : (i : ℕ) → i < image.count → (image.seen i).kind ≡ 0 → IsUnused (image.seen i)
 
 -- a row names each file

@@ -25,7 +25,8 @@ pub record IsRenamed (num : Numbering) (tree other : TreeState) : Type 0 where
   pub holder : (directory : ℕ) (name : List ℕ) (child : ℕ) → row_of tree directory name ≡ Some child → HasNumber num directory
   pub child : (directory : ℕ) (name : List ℕ) (child : ℕ) → row_of tree directory name ≡ Some child → HasNumber num child
   -- the rows of a directory are those of its number, which name the numbers of its children
-  pub rows : (directory number : ℕ) → num directory ≡ Some number → (name : List ℕ) → row_of other number name ≡ option_and_then num (row_of tree directory name)
+  pub rows : (directory number : ℕ) → num directory ≡ Some number → (name : List ℕ)
+      → row_of other number name ≡ option_and_then num (row_of tree directory name)
   -- no other number has rows
   pub only : (number : ℕ) (name : List ℕ) (child : ℕ) → row_of other number name ≡ Some child → (directory : ℕ) × (num directory ≡ Some number)
   -- a node that a walk may meet is the node of its number

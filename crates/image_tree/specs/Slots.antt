@@ -40,4 +40,6 @@ in_blocks slots = at_length (BLOCK_SLOTS * blocks_up_to_last slots) slots
 -- A directory's blocks end with the last one that has a row: no slot behind them has one, and one of the last block's slots has.
 pub record EndsWithRow (slots : List (Option Row)) : Type 0 where
   pub rest : (place : ℕ) → BLOCK_SLOTS * blocks_up_to_last slots ≤ place → slice_index_or slots place None ≡ None
-  pub last : blocks_up_to_last slots ≢ 0 → (place : ℕ) × (row : Row) × (place < BLOCK_SLOTS * blocks_up_to_last slots) × (BLOCK_SLOTS * blocks_up_to_last slots ≤ place + BLOCK_SLOTS) × (slice_get slots place ≡ Some (Some row))
+  pub last : blocks_up_to_last slots ≢ 0
+      → (place : ℕ) × (row : Row) × (place < BLOCK_SLOTS * blocks_up_to_last slots) × (BLOCK_SLOTS * blocks_up_to_last slots ≤ place + BLOCK_SLOTS)
+      × (slice_get slots place ≡ Some (Some row))

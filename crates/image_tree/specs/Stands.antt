@@ -1,11 +1,10 @@
 -- When the inodes of an image stand for a tree: each numbered node is shown by the inode of its number, and nothing else is.
 use Rattle.std.specs.Prelude.{◌≡◌, ◌≢◌, ◌⊎◌, ℕ, ◌*◌, ◌/◌, ◌<◌, ◌≤◌, true, List, length, Some, option_map, if◌then◌else◌}
-use Rattle.std.specs.FinMap.{len}
 use Rattle.std.specs.Option.{unwrap_or}
-use Rattle.sfs_tree.specs.Tree.{TreeState, row_of, kind_of, bytes_of, links_of, is_directory, bucket_rows}
+use Rattle.sfs_tree.specs.Tree.{TreeState, row_of, kind_of, bytes_of, links_of, is_directory}
+use Rattle.sfs_tree.specs.Sound.{IsWithinLimits}
 use Rattle.sfs_image.specs.Slot.{Row, kind_byte}
 use Rattle.sfs_image.specs.Seen.{Seen, SeenInodes, PLACES}
-use Rattle.sfs_tree.specs.Verdict.{BUCKET_ROWS}
 use Rattle.image_tree.specs.Slots.{BLOCK_SLOTS, looked_up, name_count}
 use Rattle.image_tree.specs.ImageTree.{shows_directory}
 use Rattle.image_tree.specs.Renamed.{Numbering, HasNumber, IsMet}
@@ -43,7 +42,9 @@ pub record IsUnused (seen : Seen) : Type 0 where
 
 -- no block is held at two places
 abbrev pub HoldsApart : SeenInodes → Type 0
-HoldsApart image = (i place j other : ℕ) → i < image.count → j < image.count → place < PLACES → other < PLACES → (image.seen i).blocks place ≢ 0 → (image.seen i).blocks place ≡ (image.seen j).blocks other → (i ≡ j) × (place ≡ other)
+HoldsApart image =
+    (i place j other : ℕ) → i < image.count → j < image.count → place < PLACES → other < PLACES → (image.seen i).blocks place ≢ 0
+    → (image.seen i).blocks place ≡ (image.seen j).blocks other → (i ≡ j) × (place ≡ other)
 
 -- The inodes of an image stand for a tree under a numbering: the root is inode 0, no two nodes have one inode, each child of a row
 -- has one, each inode shows its node, all others are free, and no block is held twice.
@@ -56,8 +57,8 @@ pub record StandsForTree (num : Numbering) (tree : TreeState) (image : SeenInode
   pub rest : (i : ℕ) → i < image.count → ((node : ℕ) × (num node ≡ Some i)) ⊎ IsUnused (image.seen i)
   pub apart : HoldsApart image
 
--- A tree is such that an image may stand for it under a numbering: a directory with a number is the root or is named, and no bucket of
--- it is overfull.
+-- A tree is such that an image may stand for it under a numbering: a directory with a number is the root or is named, and the tree is
+-- within its limits.
 pub record IsStorable (num : Numbering) (tree : TreeState) : Type 0 where
   pub placed : (node i : ℕ) → num node ≡ Some i → is_directory tree node ≡ true → IsMet tree node
-  pub full : (node i number : ℕ) → num node ≡ Some i → number < 8 → len (bucket_rows node number tree.rows) ≤ BUCKET_ROWS
+  pub limits : IsWithinLimits tree

@@ -2,7 +2,7 @@
 ghost use Rattle.image_tree.specs.Laws.{RenamedTreesHaveOneShape, StandingImagesShow, CommitsKeepStanding};
 ghost use Rattle.image_tree.specs.Laws.{RulesMakeStanding, NoFaultIsRulesKept, PlannedCommitsHoldElsewhere, NetsGiveLinks};
 ghost use Rattle.image_tree.specs.Laws.{TreesOfImagesAreMounted, StandingImagesAreRead, FirstFaultIsLeast, FreedOrphansKeepTheTree};
-ghost use Rattle.image_tree.specs.Laws.{CommitsKeepDirectoriesFit, BlocksEndWithRow};
+ghost use Rattle.image_tree.specs.Laws.{CommitsKeepDirectoriesFit, BlocksEndWithRow, RanksServeGrants, RanksTakeFreeBlocks};
 
 /// A tree under other numbers is sound where the first is, and has its shape.
 pub fn renamed_trees_have_one_shape()
@@ -67,4 +67,14 @@ pub fn commits_keep_directories_fit()
 /// A directory's blocks after a commit end with the last one that has a row.
 pub fn blocks_end_with_row()
     ensures { BlocksEndWithRow }
+{}
+
+/// The ranks of the places that take a block serve to hand out a grant.
+pub fn ranks_serve_grants()
+    ensures { RanksServeGrants }
+{}
+
+/// A commit that takes its blocks from a serving grant by their ranks takes free blocks, each once.
+pub fn ranks_take_free_blocks()
+    ensures { RanksTakeFreeBlocks }
 {}

@@ -1,0 +1,164 @@
+-- Ranks of the places that take a block, by which a grant is handed out.
+use Rattle.std.proofs.Common.{◌≡◌, ℕ, zero, suc, ◌+◌, ◌-◌, ◌*◌, ◌/◌, ◌%◌, ◌<◌, ◌≤◌, Bool, true, false, cond, not, ◌&&◌, List, [], ◌∷◌, length, Option, Some, inl, inr, refl, sym, ap, subst, ◌∙◌, arith, count_by, nat_lt, slice_index}
+use Rattle.std.specs.Prelude.{slice_get}
+use Rattle.std.specs.List.{range_with_len}
+use Rattle.std.specs.Option.{option_map_or}
+use Rattle.std.proofs.lemmas.Bool.{cases_lt}
+use Rattle.sfs_tree.proofs.Joined.{count-cons}
+use Rattle.sfs_image.specs.Seen.{SeenInodes, FILE_BLOCKS, PLACES}
+use Rattle.image_tree.specs.Commit.{Commit, seen_before, HasBlock, hole, kept, fresh, TakesBlocks}
+use Rattle.image_tree.specs.Need.{Rewrite, rewrites_table, table_has_pointer, takes_place, pointer_after, place_in_row, takes_in_row, rank, RanksServe, GrantServes, IsListed, TakesByRank}
+use Rattle.image_tree.specs.Laws.{RanksServeGrants, RanksTakeFreeBlocks}
+use Rattle.sfs_base.proofs.BasicOptions.{none_some, some_same}
+
+module _ (takes : ℕ → Bool) where
+  count_more : (a n : ℕ) → count_by takes (range_with_len a (suc n)) ≡ count_by takes (range_with_len a n) + cond (takes (a + n)) 1 0
+  count_more a zero = count-cons takes a (range_with_len (a + 1) 0) ∙ ap (λ m. cond (takes m) 1 0 + 0) (same a) ∙ swap _
+    where
+      same : (a : ℕ) → a ≡ a + 0
+      same a = omega arith
+
+      swap : (x : ℕ) → x + 0 ≡ 0 + x
+      swap x = omega arith
+  count_more a (suc n) =
+      let first = count-cons takes a (range_with_len (a + 1) (suc n)) in
+      let rest = count_more (a + 1) n in
+      let again = count-cons takes a (range_with_len (a + 1) n) in
+      let last : cond {A = ℕ} (takes (a + 1 + n)) 1 0 ≡ cond (takes (a + suc n)) 1 0 = ap (λ m. cond {A = ℕ} (takes m) 1 0) (moved a n) in
+      omega arith
+    where
+      moved : (a n : ℕ) → a + 1 + n ≡ a + suc n
+      moved a n = omega arith
+
+  rank_more : (p : ℕ) → rank takes (suc p) ≡ rank takes p + cond (takes p) 1 0
+  unfolding rank
+  rank_more p = count_more 0 p ∙ ap (λ m. count_by takes (range_with_len 0 p) + cond (takes m) 1 0) (same p)
+    where
+      same : (p : ℕ) → 0 + p ≡ p
+      same p = omega arith
+
+  rank_up : (p more : ℕ) → rank takes p ≤ rank takes (p + more)
+  rank_up p zero = let e = ap (rank takes) (same p) in omega arith
+    where
+      same : (p : ℕ) → p + 0 ≡ p
+      same p = omega arith
+  rank_up p (suc more) =
+      let rest = rank_up p more in
+      let step = rank_more (p + more) in
+      let e = ap (rank takes) (next p more) in
+      omega arith
+    where
+      next : (p more : ℕ) → p + suc more ≡ suc (p + more)
+      next p more = omega arith
+
+  rank_below : (p n : ℕ) → takes p ≡ true → p < n → rank takes p < rank takes n
+  rank_below p n t lt =
+      let own : rank takes (suc p) ≡ rank takes p + 1 = rank_more p ∙ ap (λ b. rank takes p + cond b 1 0) t in
+      let up = rank_up (suc p) (n - suc p) in
+      let e = ap (rank takes) (whole p n lt) in
+      omega arith
+    where
+      whole : (p n : ℕ) → p < n → suc p + (n - suc p) ≡ n
+      whole p n lt = omega arith
+
+  pub ranks_serve : RanksServe takes
+  ranks_serve = record {
+    below = rank_below;
+    once = λ p q t u same. elim (cases_lt p q) [
+      | inl lt ↦ absurd (let less = rank_below p q t lt in omega arith)
+      | inr le ↦ elim (cases_lt q p) [
+        | inl lt ↦ absurd (let less = rank_below q p u lt in omega arith)
+        | inr ge ↦ omega arith
+      ]
+    ];
+  }
+
+pub ranks_serve_grants : RanksServeGrants
+ranks_serve_grants takes = ranks_serve takes
+
+listed_below : {A : Type 0} (xs : List A) (m : ℕ) (x : A) → slice_get xs m ≡ Some x → m < length xs
+listed_below [] m x e = absurd (none_some e)
+listed_below (y ∷ ys) zero x e = omega arith
+listed_below (y ∷ ys) (suc m) x e = let lt = listed_below ys m x e in omega arith
+
+module _ (commit : Commit) (image next : SeenInodes) (inodes : List ℕ) (rewrites : List Rewrite) (grant : List ℕ) (g : GrantServes image rewrites grant) (t : TakesByRank commit image next inodes rewrites grant) where
+  -- a place that takes a block does so in the row, at its rank
+  record InRow (i place : ℕ) : Type 0 where
+    number : ℕ
+    inode : slice_get inodes number ≡ Some i
+    small : place < PLACES
+    takes : takes_in_row rewrites (place_in_row number place) ≡ true
+    within : rank (takes_in_row rewrites) (place_in_row number place) < length grant
+    block : commit.fresh i place ≡ slice_index grant (rank (takes_in_row rewrites) (place_in_row number place))
+
+  in_row : (i place : ℕ) → commit.takes i place ≡ true → InRow i place
+  in_row i place taken =
+      let found = t.only i place taken in
+      let takes = row_takes found.0 found.1 found.2 found.3 in
+      let less = listed_below rewrites found.0 found.1 found.2.rewritten in
+      record {
+        number = found.0;
+        inode = found.2.inode;
+        small = found.3;
+        takes = takes;
+        within = subst (λ (n : ℕ). rank (takes_in_row rewrites) (place_in_row found.0 place) < n) (sym g.enough) ((ranks_serve (takes_in_row rewrites)).below (place_in_row found.0 place) (PLACES * length rewrites) takes (row_below found.0 less found.3));
+        block = t.fresh i found.0 place found.2.inode;
+      }
+    where
+      row_below : (m : ℕ) → m < length rewrites → place < PLACES → PLACES * m + place < PLACES * length rewrites
+      row_below m less small = omega arith
+
+      row_takes : (m : ℕ) (rewrite : Rewrite) → IsListed inodes rewrites i m rewrite → place < PLACES → takes_in_row rewrites (place_in_row m place) ≡ true
+      row_takes m rewrite is small =
+          let quotient : (PLACES * m + place) / PLACES ≡ m = omega arith in
+          let remainder : (PLACES * m + place) % PLACES ≡ place = omega arith in
+          ap (λ n. option_map_or (λ (r : Rewrite). takes_place r ((PLACES * m + place) % PLACES)) (slice_get rewrites n) false) quotient
+          ∙ ap (λ (o : Option Rewrite). option_map_or (λ (r : Rewrite). takes_place r ((PLACES * m + place) % PLACES)) o false) is.rewritten
+          ∙ ap (takes_place rewrite) remainder
+          ∙ sym (t.takes i m place rewrite is small)
+          ∙ taken
+
+  has_block : (node i place : ℕ) → place < PLACES → commit.after node ≡ Some i → commit.concerns node ≡ true → HasBlock commit i place (seen_before commit image node) (next.seen i)
+  has_block node i place small is concerned =
+      let l = t.listed node i is concerned in
+      by_place l.0 l.1 l.2 (t.after i l.0 place l.1 l.2 small) (t.takes i l.0 place l.1 l.2 small) (t.before node i l.0 place l.1 is l.2)
+    where
+      at_block : (rewritten empty : Bool) (old new fresh_block : ℕ) → new ≡ (next.seen i).blocks place → old ≡ (seen_before commit image node).blocks place → fresh_block ≡ commit.fresh i place → new ≡ cond rewritten (cond empty 0 fresh_block) old → commit.takes i place ≡ (rewritten && not empty) → HasBlock commit i place (seen_before commit image node) (next.seen i)
+      at_block true true old new fresh_block n o f e k = hole (sym n ∙ e)
+      at_block true false old new fresh_block n o f e k = fresh k (sym n ∙ e ∙ f)
+      at_block false empty old new fresh_block n o f e k = kept (sym n ∙ e ∙ o)
+
+      at_table : (rewritten some : Bool) (old new fresh_block : ℕ) → new ≡ (next.seen i).blocks place → old ≡ (seen_before commit image node).blocks place → fresh_block ≡ commit.fresh i place → new ≡ cond rewritten (cond some fresh_block 0) old → commit.takes i place ≡ (rewritten && some) → HasBlock commit i place (seen_before commit image node) (next.seen i)
+      at_table true true old new fresh_block n o f e k = fresh k (sym n ∙ e ∙ f)
+      at_table true false old new fresh_block n o f e k = hole (sym n ∙ e)
+      at_table false some old new fresh_block n o f e k = kept (sym n ∙ e ∙ o)
+
+      by_place : (m : ℕ) (r : Rewrite) → IsListed inodes rewrites i m r → (next.seen i).blocks place ≡ pointer_after r (commit.fresh i) place → commit.takes i place ≡ takes_place r place → r.pointers place ≡ (seen_before commit image node).blocks place → HasBlock commit i place (seen_before commit image node) (next.seen i)
+      by_place m r listed after takes before =
+          elim (nat_lt place FILE_BLOCKS) as (λ b. (next.seen i).blocks place ≡ cond b (cond (r.is_rewritten place) (cond (r.is_zero place) 0 (commit.fresh i place)) (r.pointers place)) (cond (rewrites_table r (place - FILE_BLOCKS)) (cond (table_has_pointer r (place - FILE_BLOCKS)) (commit.fresh i place) 0) (r.pointers place)) → commit.takes i place ≡ cond b (r.is_rewritten place && not (r.is_zero place)) (rewrites_table r (place - FILE_BLOCKS) && table_has_pointer r (place - FILE_BLOCKS)) → HasBlock commit i place (seen_before commit image node) (next.seen i)) [
+            | true ↦ λ a k. at_block (r.is_rewritten place) (r.is_zero place) (r.pointers place) ((next.seen i).blocks place) (commit.fresh i place) refl before refl a k
+            | false ↦ λ a k. at_table (rewrites_table r (place - FILE_BLOCKS)) (table_has_pointer r (place - FILE_BLOCKS)) (r.pointers place) ((next.seen i).blocks place) (commit.fresh i place) refl before refl a k
+          ] after takes
+
+  pub taken_by_rank : TakesBlocks commit image next
+  taken_by_rank = record {
+    has = has_block;
+    unheld = λ i place j other taken lt small same.
+        let r = in_row i place taken in
+        g.free (rank (takes_in_row rewrites) (place_in_row r.number place)) j other r.within lt small (same ∙ r.block);
+    once = λ i place j other taken also same.
+        let r = in_row i place taken in
+        let q = in_row j other also in
+        let ranks = g.once (rank (takes_in_row rewrites) (place_in_row r.number place)) (rank (takes_in_row rewrites) (place_in_row q.number other)) r.within q.within (sym r.block ∙ same ∙ q.block) in
+        let rows = (ranks_serve (takes_in_row rewrites)).once (place_in_row r.number place) (place_in_row q.number other) r.takes q.takes ranks in
+        let numbers = same_number r.number q.number place other r.small q.small rows in
+        (some_same (sym r.inode ∙ ap (slice_get inodes) numbers.0 ∙ q.inode), numbers.1);
+  }
+    where
+      same_number : (m l place other : ℕ) → place < PLACES → other < PLACES → PLACES * m + place ≡ PLACES * l + other → (m ≡ l) × (place ≡ other)
+      same_number m l place other small tiny same =
+          let numbers : m ≡ l = omega arith in
+          (numbers, omega arith)
+
+pub ranks_take_free_blocks : RanksTakeFreeBlocks
+ranks_take_free_blocks commit image next inodes rewrites grant g t = taken_by_rank commit image next inodes rewrites grant g t
