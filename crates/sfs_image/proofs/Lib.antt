@@ -1,3 +1,4 @@
+pub mod AcceptedLaws
 pub mod Basics
 pub mod BytesLaws
 pub mod EntriesLaws

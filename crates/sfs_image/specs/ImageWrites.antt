@@ -62,6 +62,12 @@ pub record WritesBody (layout : Layout) (opened : ℕ → Option Transaction) (k
   pub behind : 1 ≤ from
   pub shut : opened k ≡ None
 
+-- A write of one byte at the gate of slot k leaves the gate what it was, as a torn one may.
+pub record LeavesGate (layout : Layout) (k : ℕ) (old new : List ℕ) : Type 0 where
+  pub within : k < slot_count layout
+  pub written : AgreesOutside (slot_byte layout k) 1 old new
+  pub gate : (head_of (part 0 4096 (journal_slot layout new k))).gate ≡ (head_of (part 0 4096 (journal_slot layout old k))).gate
+
 -- A write of one byte at the gate of slot k, which is closed and has the whole body of a transaction, opens it.
 pub record OpensGate (layout : Layout) (opened : ℕ → Option Transaction) (k : ℕ) (one : Transaction) (old new : List ℕ) : Type 0 where
   pub within : k < slot_count layout

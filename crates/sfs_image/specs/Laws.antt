@@ -1,15 +1,11 @@
 -- The laws of images, each of which a function of the module laws proves.
-use Rattle.std.specs.Prelude.{◌≡◌, ◌≢◌, ◌↔◌, All, length, slice_index_or, [], ℕ, ◌+◌, ◌*◌, ◌/◌, ◌%◌, ◌<◌, ◌≤◌, ◌^◌, false, true, List, Option, None, Some, slice_index, if◌then◌else◌}
+use Rattle.std.specs.Prelude.{◌≡◌, ◌≢◌, ℕ, ◌+◌, ◌*◌, ◌/◌, ◌%◌, ◌<◌, ◌≤◌, ◌^◌, List, Option, None, Some, if◌then◌else◌}
 use Rattle.sfs_image.specs.Bytes.{part}
-use Rattle.sfs_image.specs.ImageOf.{Transaction, with_opened, with_slot, IsImageOf, FreshBlock, StandIn, TurnsInto}
-use Rattle.sfs_image.specs.ImageWrites.{WritesData, WritesRecord, WritesBody, OpensGate, ShutsGate}
+use Rattle.sfs_image.specs.ImageOf.{MayBeSlotOf, opened_among, IsSlotOf, IsAccepted, transaction_in, table_parts, Transaction, with_opened, with_slot, IsImageOf, FreshBlock, StandIn, TurnsInto}
+use Rattle.sfs_image.specs.ImageWrites.{LeavesGate, WritesData, WritesRecord, WritesBody, OpensGate, ShutsGate}
 use Rattle.sfs_image.specs.Journal.{Entry, head_of, entries_of, numbers_of, numbers_fault, number_byte, record_byte, records_start, AreEntries, HasEntries}
-use Rattle.sfs_image.specs.Part.{Part, IsGathered, inode_in, part_of, seen_of, pointer_at, file_byte, directory_blocks, is_free_part, is_file_part, is_directory_part}
-use Rattle.sfs_image.specs.Rules.{DIRECTORY_BLOCKS, HasBlockAt, first_covered, breaks_size, breaks_pointers, breaks_tail, breaks_slots, breaks_bytes_rule}
-use Rattle.sfs_image.specs.Seen.{FILE_BLOCKS, PLACES}
+use Rattle.sfs_image.specs.Part.{Part, IsGathered}
 use Rattle.sfs_image.specs.Settled.{SlotFault, slot_fault_of, image_block, Stamped, body_in, record_in, journal_slot, slot_byte, slot_count, table_byte, table_record, settled, parts_of, super_fault_of, journal_fault_of}
-use Rattle.sfs_image.specs.Slot.{Row}
-use Rattle.sfs_image.specs.SlotBlock.{slot_in, slots_fault}
 use Rattle.sfs_image.specs.Super.{Layout, slot_blocks, slot_start, table_start, data_start}
 
 -- The parts of a disk lie one behind another: within a slot the numbers of all inodes behind the head's block, and their records
@@ -86,6 +82,15 @@ abbrev pub ImagesStandForParts : Type 0
 ImagesStandForParts = (layout : Layout) (opened : ℕ → Option Transaction) (parts : ℕ → Part) (image : List ℕ) → IsImageOf layout opened parts image
     → IsReadAs layout opened parts image
 
+-- Where each slot may be that of a transaction, each is, of those whose gates are open.
+abbrev pub GatesSayWhichAreOpen : Type 0
+GatesSayWhichAreOpen = (layout : Layout) (may : ℕ → Option Transaction) (image : List ℕ) (k : ℕ) → MayBeSlotOf layout.inodes (may k) (journal_slot layout image k)
+    → IsSlotOf layout.inodes (opened_among layout may image k) (journal_slot layout image k)
+
+-- An image in which nothing is wrong up to where its pointers point stands for the parts of its table, with its open slots open.
+abbrev pub AcceptedImagesStand : Type 0
+AcceptedImagesStand = (layout : Layout) (image : List ℕ) → IsAccepted layout image → IsImageOf layout (transaction_in layout image) (table_parts layout image) image
+
 -- A write to the data area, whole or torn, apart from the blocks of all parts keeps what an image stands for.
 abbrev pub DataWritesKeep : Type 0
 DataWritesKeep = (layout : Layout) (opened : ℕ → Option Transaction) (parts : ℕ → Part) (old new : List ℕ) → IsImageOf layout opened parts old
@@ -100,6 +105,11 @@ TableWritesKeep = (layout : Layout) (opened : ℕ → Option Transaction) (parts
 abbrev pub BodyWritesKeep : Type 0
 BodyWritesKeep = (layout : Layout) (opened : ℕ → Option Transaction) (parts : ℕ → Part) (k : ℕ) (old new : List ℕ) → IsImageOf layout opened parts old
     → WritesBody layout opened k old new → IsImageOf layout opened parts new
+
+-- A write at a gate that leaves the gate what it was keeps what an image stands for.
+abbrev pub LeftGatesKeep : Type 0
+LeftGatesKeep = (layout : Layout) (opened : ℕ → Option Transaction) (parts : ℕ → Part) (k : ℕ) (old new : List ℕ) → IsImageOf layout opened parts old
+    → LeavesGate layout k old new → IsImageOf layout opened parts new
 
 -- Where fresh blocks stand in an image that turn the part of an inode into a new one, the image has all that the new part reaches.
 abbrev pub FreshBlocksMakeParts : Type 0

@@ -2,7 +2,7 @@ ghost use Rattle.std.specs.Prelude.{◌≡◌, ℕ, None, false};
 ghost use Rattle.sfs_image.specs.Format.{IsFormat};
 ghost use Rattle.sfs_image.specs.Inode.{IsInode, inode_of, inode_fault, inode_bytes, ArePointers, pointers_of, pointers_bytes};
 ghost use Rattle.sfs_image.specs.Journal.{Head, IsHead, head_of, head_bytes};
-ghost use Rattle.sfs_image.specs.Laws.{JournalFaultsAreFirst, FreshBlocksMakeParts, LayoutsDivide, SlotsAreNumbered, EntriesAreReadAgain, SettledIsNewest, SettledIsTables, ImagesStandForParts, DataWritesKeep, TableWritesKeep, BodyWritesKeep, OpenedGatesAdd, ShutGatesKeep};
+ghost use Rattle.sfs_image.specs.Laws.{AcceptedImagesStand, LeftGatesKeep, GatesSayWhichAreOpen, JournalFaultsAreFirst, FreshBlocksMakeParts, LayoutsDivide, SlotsAreNumbered, EntriesAreReadAgain, SettledIsNewest, SettledIsTables, ImagesStandForParts, DataWritesKeep, TableWritesKeep, BodyWritesKeep, OpenedGatesAdd, ShutGatesKeep};
 ghost use Rattle.sfs_image.specs.LawsOfParts.{BytesAreShown, SlotsAreShown, SizesSay, PointersSay, TailsSay, SlotsSay, HolesAreZeros, BytesAreTheBlocks, PartsAreWhatTheyReach, FreeInodesBreakNone, BlocksHaveOnePlace};
 ghost use Rattle.sfs_image.specs.Slot.{IsSlot, slot_of, slot_fault, slot_bytes};
 ghost use Rattle.sfs_image.specs.SlotBlock.{AreSlots, slots_of, slots_fault, slots_bytes};
@@ -144,4 +144,19 @@ pub fn rules_say()
     ensures pointers { PointersSay }
     ensures tails { TailsSay }
     ensures slots { SlotsSay }
+{}
+
+/// An image in which nothing is wrong stands for the parts of its table, with its open slots open.
+pub fn accepted_images_stand()
+    ensures { AcceptedImagesStand }
+{}
+
+/// A write at a gate that leaves the gate what it was keeps what an image stands for.
+pub fn left_gates_keep()
+    ensures { LeftGatesKeep }
+{}
+
+/// Where each slot may be that of a transaction, each is, of those whose gates are open.
+pub fn gates_say_which_are_open()
+    ensures { GatesSayWhichAreOpen }
 {}
