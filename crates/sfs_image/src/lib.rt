@@ -1,4 +1,5 @@
-//! What the bytes on the disk mean: each format by its value, its first fault and its one spelling.
+//! What the bytes on the disk mean: each format by its value, its first fault and its one spelling, and
+//! an image by the parts of its inodes.
 #![tactic(auto)]
 
 mod bad;
