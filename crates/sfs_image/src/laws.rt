@@ -1,9 +1,16 @@
+// What is proved of the definitions: each function's contract is a law.
 ghost use Rattle.std.specs.Prelude.{◌≡◌, ℕ, None, false};
 ghost use Rattle.sfs_image.specs.Format.{IsFormat};
 ghost use Rattle.sfs_image.specs.Inode.{IsInode, inode_of, inode_fault, inode_bytes, ArePointers, pointers_of, pointers_bytes};
 ghost use Rattle.sfs_image.specs.Journal.{Head, IsHead, head_of, head_bytes};
-ghost use Rattle.sfs_image.specs.Laws.{AcceptedImagesStand, LeftGatesKeep, GatesSayWhichAreOpen, JournalFaultsAreFirst, FreshBlocksMakeParts, LayoutsDivide, SlotsAreNumbered, EntriesAreReadAgain, SettledIsNewest, SettledIsTables, ImagesStandForParts, DataWritesKeep, TableWritesKeep, BodyWritesKeep, OpenedGatesAdd, ShutGatesKeep};
-ghost use Rattle.sfs_image.specs.LawsOfParts.{BytesAreShown, SlotsAreShown, SizesSay, PointersSay, TailsSay, SlotsSay, HolesAreZeros, BytesAreTheBlocks, PartsAreWhatTheyReach, FreeInodesBreakNone, BlocksHaveOnePlace};
+ghost use Rattle.sfs_image.specs.Laws.{AcceptedImagesStand, LeftGatesKeep, GatesSayWhichAreOpen};
+ghost use Rattle.sfs_image.specs.Laws.{JournalFaultsAreFirst, FreshBlocksMakeParts, LayoutsDivide};
+ghost use Rattle.sfs_image.specs.Laws.{SlotsAreNumbered, EntriesAreReadAgain, SettledIsNewest};
+ghost use Rattle.sfs_image.specs.Laws.{SettledIsTables, ImagesStandForParts, DataWritesKeep, TableWritesKeep};
+ghost use Rattle.sfs_image.specs.Laws.{BodyWritesKeep, OpenedGatesAdd, ShutGatesKeep};
+ghost use Rattle.sfs_image.specs.LawsOfParts.{BytesAreShown, SlotsAreShown, SizesSay, PointersSay, TailsSay};
+ghost use Rattle.sfs_image.specs.LawsOfParts.{SlotsSay, HolesAreZeros, BytesAreTheBlocks};
+ghost use Rattle.sfs_image.specs.LawsOfParts.{PartsAreWhatTheyReach, FreeInodesBreakNone, BlocksHaveOnePlace};
 ghost use Rattle.sfs_image.specs.Slot.{IsSlot, slot_of, slot_fault, slot_bytes};
 ghost use Rattle.sfs_image.specs.SlotBlock.{AreSlots, slots_of, slots_fault, slots_bytes};
 ghost use Rattle.sfs_image.specs.Super.{IsLayout, super_of, super_fault, super_bytes};
