@@ -7,7 +7,7 @@ ghost use Rattle.sfs_image.specs.Laws.{AcceptedImagesStand, LeftGatesKeep, Gates
 ghost use Rattle.sfs_image.specs.Laws.{JournalFaultsAreFirst, FreshBlocksMakeParts, LayoutsDivide};
 ghost use Rattle.sfs_image.specs.Laws.{SlotsAreNumbered, EntriesAreReadAgain, SettledIsNewest};
 ghost use Rattle.sfs_image.specs.Laws.{SettledIsTables, ImagesStandForParts, DataWritesKeep, TableWritesKeep};
-ghost use Rattle.sfs_image.specs.Laws.{BodyWritesKeep, OpenedGatesAdd, ShutGatesKeep};
+ghost use Rattle.sfs_image.specs.Laws.{OldestMayShut, TablesStayFull, BodyWritesKeep, OpenedGatesAdd, ShutGatesKeep};
 ghost use Rattle.sfs_image.specs.LawsOfParts.{BytesAreShown, SlotsAreShown, SizesSay, PointersSay, TailsSay};
 ghost use Rattle.sfs_image.specs.LawsOfParts.{SlotsSay, HolesAreZeros, BytesAreTheBlocks};
 ghost use Rattle.sfs_image.specs.LawsOfParts.{PartsAreWhatTheyReach, FreeInodesBreakNone, BlocksHaveOnePlace};
@@ -166,4 +166,14 @@ pub fn left_gates_keep()
 /// Where each slot may be that of a transaction, each is, of those whose gates are open.
 pub fn gates_say_which_are_open()
     ensures { GatesSayWhichAreOpen }
+{}
+
+/// The open slot with the least commit stamp may be closed where the table has the records of all parts, or those of its own.
+pub fn oldest_may_shut()
+    ensures { OldestMayShut }
+{}
+
+/// A table that has the records of all parts has them once a gate has shut.
+pub fn tables_stay_full()
+    ensures { TablesStayFull }
 {}
