@@ -1,18 +1,17 @@
 -- An image in which nothing is wrong stands for its own settled parts.
-use Rattle.std.proofs.Common.{◌≡◌, ◌≢◌, ℕ, zero, suc, ◌+◌, ◌<◌, ◌≤◌, Bool, true, false, cond, eqb, ltb, List, [], ◌∷◌, ◌++◌, map, All, Option, None, Some, option_map, refl, sym, ap, ◌∙◌, subst, arith, inl, inr}
+use Rattle.std.proofs.Common.{◌≡◌, ℕ, zero, suc, ◌+◌, ◌<◌, ◌≤◌, Bool, true, false, eqb, ltb, List, [], ◌∷◌, map, All, Option, None, Some, refl, sym, ap, ◌∙◌, subst, arith, inl, inr}
 use Rattle.std.specs.Prelude.{unwrap_or}
 use Rattle.std.specs.List.{range_with_len, flat_map, list_any}
-use Rattle.std.specs.Option.{option_or}
 use Rattle.std.proofs.lemmas.Bool.{cases_Bool, cases_eq, cases_order, cond-true, cond-false, eq-eqb, ltb-false, or_left, or_right, both_ways}
 use Rattle.std.proofs.lemmas.Option.{cond_some}
 use Rattle.std.proofs.lemmas.List.{map-append}
 use Rattle.std.proofs.lemmas.List.Elements.{All-nil, All-cons}
 use Rattle.std.proofs.lemmas.List.Folds.{list_any-append}
 use Rattle.sfs_image.specs.Bytes.{part, fault_at}
-use Rattle.sfs_image.specs.ImageOf.{InodePart, Transaction, transaction_body, transaction_in, table_parts, part_given, given, with_opened, HasBody, IsSlotOf, HaveOwnStamps, IsImageOf, IsAccepted, PointsToData}
+use Rattle.sfs_image.specs.ImageOf.{InodePart, Transaction, transaction_in, table_parts, part_given, given, with_opened, IsSlotOf, HaveOwnStamps, IsImageOf, IsAccepted, PointsToData}
 use Rattle.sfs_image.specs.Journal.{Entry, head_of, head_fault, numbers_of, numbers_fault, journal_fault}
 use Rattle.sfs_image.specs.Part.{Part, part_of, IsGathered}
-use Rattle.sfs_image.specs.Settled.{Body, Stamped, newest, body_in, open_body, open_below, open_bodies, held, table_record, settled, parts_of, journal_slot, slot_count, image_block, slot_fault_of}
+use Rattle.sfs_image.specs.Settled.{Body, Stamped, newest, body_in, open_body, open_below, table_record, parts_of, journal_slot, slot_count, image_block, slot_fault_of}
 use Rattle.sfs_image.specs.Super.{Layout}
 use Rattle.sfs_image.proofs.BytesLaws.{option_or-None, false_from_fault, None-option_map, option_map-Some}
 use Rattle.sfs_image.proofs.GivenLaws.{given_by, given_has}

@@ -1,5 +1,5 @@
 -- Writes to the data, the table and the slots of an image that stands for parts.
-use Rattle.std.proofs.Common.{◌≡◌, ℕ, ◌+◌, ◌*◌, ◌<◌, ◌≤◌, List, Option, sym, ap, ◌∙◌, subst, arith, inl, inr}
+use Rattle.std.proofs.Common.{◌≡◌, None, Some, ℕ, ◌+◌, ◌*◌, ◌<◌, ◌≤◌, List, Option, sym, ap, ◌∙◌, subst, arith, inl, inr}
 use Rattle.std.proofs.lemmas.Bool.{cases_eq}
 use Rattle.sfs_image.specs.ImageOf.{Transaction, given, with_opened, IsShut, IsSlotOf, IsImageOf}
 use Rattle.sfs_image.specs.ImageWrites.{LeavesGate, WritesData, WritesRecord, WritesBody, AgreesOutside, LiesApart}

@@ -1,15 +1,11 @@
 -- The laws of images, each of which a function of the module laws proves.
-use Rattle.std.specs.Prelude.{◌≡◌, ◌≢◌, ◌↔◌, All, length, slice_index_or, [], ℕ, ◌+◌, ◌*◌, ◌/◌, ◌%◌, ◌<◌, ◌≤◌, ◌^◌, false, true, List, Option, None, Some, slice_index, if◌then◌else◌}
+use Rattle.std.specs.Prelude.{◌≡◌, ◌≢◌, ◌⊎◌, ℕ, ◌+◌, ◌*◌, ◌/◌, ◌%◌, ◌<◌, ◌≤◌, ◌^◌, List, Option, None, Some, if◌then◌else◌}
 use Rattle.sfs_image.specs.Bytes.{part}
 use Rattle.sfs_image.specs.ImageOf.{MayBeSlotOf, opened_among, IsSlotOf, IsAccepted, transaction_in, table_parts, Transaction, with_opened, with_slot, IsImageOf, FreshBlock, StandIn, TurnsInto}
-use Rattle.sfs_image.specs.ImageWrites.{LeavesGate, WritesData, WritesRecord, WritesBody, OpensGate, ShutsGate}
+use Rattle.sfs_image.specs.ImageWrites.{IsFullTable, HasRecordsOf, IsOldest, MayShut, LeavesGate, WritesData, WritesRecord, WritesBody, OpensGate, ShutsGate}
 use Rattle.sfs_image.specs.Journal.{Entry, head_of, entries_of, numbers_of, numbers_fault, number_byte, record_byte, records_start, AreEntries, HasEntries}
-use Rattle.sfs_image.specs.Part.{Part, IsGathered, inode_in, part_of, seen_of, pointer_at, file_byte, directory_blocks, is_free_part, is_file_part, is_directory_part}
-use Rattle.sfs_image.specs.Rules.{DIRECTORY_BLOCKS, HasBlockAt, first_covered, breaks_size, breaks_pointers, breaks_tail, breaks_slots, breaks_bytes_rule}
-use Rattle.sfs_image.specs.Seen.{FILE_BLOCKS, PLACES}
+use Rattle.sfs_image.specs.Part.{Part, IsGathered}
 use Rattle.sfs_image.specs.Settled.{SlotFault, slot_fault_of, image_block, Stamped, body_in, record_in, journal_slot, slot_byte, slot_count, table_byte, table_record, settled, parts_of, super_fault_of, journal_fault_of}
-use Rattle.sfs_image.specs.Slot.{Row}
-use Rattle.sfs_image.specs.SlotBlock.{slot_in, slots_fault}
 use Rattle.sfs_image.specs.Super.{Layout, slot_blocks, slot_start, table_start, data_start}
 
 -- The parts of a disk lie one behind another: within a slot the numbers of all inodes behind the head's block, and their records
@@ -137,3 +133,13 @@ abbrev pub ShutGatesKeep : Type 0
 ShutGatesKeep = (layout : Layout) (opened : ℕ → Option Transaction) (parts : ℕ → Part) (k : ℕ) (old new : List ℕ) → IsImageOf layout opened parts old
     → ShutsGate layout opened k old new
     → IsShutAfter layout opened parts k new
+
+-- The slot with the least commit stamp may be closed where the table has the records of all parts, or those of its own.
+abbrev pub OldestMayShut : Type 0
+OldestMayShut = (layout : Layout) (opened : ℕ → Option Transaction) (parts : ℕ → Part) (k : ℕ) (one : Transaction) (image : List ℕ) → k < slot_count layout
+    → opened k ≡ Some one → IsOldest layout opened k one → (IsFullTable layout opened parts image) ⊎ (HasRecordsOf layout one image) → MayShut layout opened k image
+
+-- A table that has the records of all parts has them once a gate has shut.
+abbrev pub TablesStayFull : Type 0
+TablesStayFull = (layout : Layout) (opened : ℕ → Option Transaction) (parts : ℕ → Part) (k : ℕ) (old new : List ℕ) → IsImageOf layout opened parts old
+    → ShutsGate layout opened k old new → IsFullTable layout opened parts old → IsFullTable layout (with_slot opened k None) (with_opened layout opened parts) new

@@ -1,9 +1,16 @@
+// What is proved of the definitions: each function's contract is a law.
 ghost use Rattle.std.specs.Prelude.{◌≡◌, ℕ, None, false};
 ghost use Rattle.sfs_image.specs.Format.{IsFormat};
 ghost use Rattle.sfs_image.specs.Inode.{IsInode, inode_of, inode_fault, inode_bytes, ArePointers, pointers_of, pointers_bytes};
 ghost use Rattle.sfs_image.specs.Journal.{Head, IsHead, head_of, head_bytes};
-ghost use Rattle.sfs_image.specs.Laws.{AcceptedImagesStand, LeftGatesKeep, GatesSayWhichAreOpen, JournalFaultsAreFirst, FreshBlocksMakeParts, LayoutsDivide, SlotsAreNumbered, EntriesAreReadAgain, SettledIsNewest, SettledIsTables, ImagesStandForParts, DataWritesKeep, TableWritesKeep, BodyWritesKeep, OpenedGatesAdd, ShutGatesKeep};
-ghost use Rattle.sfs_image.specs.LawsOfParts.{BytesAreShown, SlotsAreShown, SizesSay, PointersSay, TailsSay, SlotsSay, HolesAreZeros, BytesAreTheBlocks, PartsAreWhatTheyReach, FreeInodesBreakNone, BlocksHaveOnePlace};
+ghost use Rattle.sfs_image.specs.Laws.{AcceptedImagesStand, LeftGatesKeep, GatesSayWhichAreOpen};
+ghost use Rattle.sfs_image.specs.Laws.{JournalFaultsAreFirst, FreshBlocksMakeParts, LayoutsDivide};
+ghost use Rattle.sfs_image.specs.Laws.{SlotsAreNumbered, EntriesAreReadAgain, SettledIsNewest};
+ghost use Rattle.sfs_image.specs.Laws.{SettledIsTables, ImagesStandForParts, DataWritesKeep, TableWritesKeep};
+ghost use Rattle.sfs_image.specs.Laws.{OldestMayShut, TablesStayFull, BodyWritesKeep, OpenedGatesAdd, ShutGatesKeep};
+ghost use Rattle.sfs_image.specs.LawsOfParts.{BytesAreShown, SlotsAreShown, SizesSay, PointersSay, TailsSay};
+ghost use Rattle.sfs_image.specs.LawsOfParts.{SlotsSay, HolesAreZeros, BytesAreTheBlocks};
+ghost use Rattle.sfs_image.specs.LawsOfParts.{PartsAreWhatTheyReach, FreeInodesBreakNone, BlocksHaveOnePlace};
 ghost use Rattle.sfs_image.specs.Slot.{IsSlot, slot_of, slot_fault, slot_bytes};
 ghost use Rattle.sfs_image.specs.SlotBlock.{AreSlots, slots_of, slots_fault, slots_bytes};
 ghost use Rattle.sfs_image.specs.Super.{IsLayout, super_of, super_fault, super_bytes};
@@ -159,4 +166,14 @@ pub fn left_gates_keep()
 /// Where each slot may be that of a transaction, each is, of those whose gates are open.
 pub fn gates_say_which_are_open()
     ensures { GatesSayWhichAreOpen }
+{}
+
+/// The open slot with the least commit stamp may be closed where the table has the records of all parts, or those of its own.
+pub fn oldest_may_shut()
+    ensures { OldestMayShut }
+{}
+
+/// A table that has the records of all parts has them once a gate has shut.
+pub fn tables_stay_full()
+    ensures { TablesStayFull }
 {}
