@@ -33,6 +33,7 @@ pub mod RowFacts
 pub mod RowsByName
 pub mod RowsRemoved
 pub mod Search
+pub mod ShapeWorked
 pub mod SoundOnce
 pub mod SoundTree
 pub mod SoundTrees

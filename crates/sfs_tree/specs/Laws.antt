@@ -1,4 +1,6 @@
 -- The laws of the tree of one thread, each of which a function of the module laws proves.
+use Rattle.sfs_tree.specs.Shape.{shape_of}
+use Rattle.sfs_tree.specs.ShapeWorked.{THREE_NAMES, THREE_NAMES_SHAPE}
 use Rattle.std.specs.Prelude.{◌≡◌, ℕ, Bool, ◌+◌, ◌*◌, ◌<◌, ◌≤◌, ◌==◌, ◌||◌, ◌&&◌, true, false, is_some, ◌^◌, List, length, take, filter, slice_get, Option, Some, None, Vec}
 use Rattle.std.specs.FinMap.{get, len}
 use Rattle.sfs_tree.specs.declared.call.Call.{Call}
@@ -177,3 +179,7 @@ pub record TouchesOne (tree : TreeState) (core : ℕ) (c : Call) : Type 0 where
 
 abbrev pub CallsTouchOne : Type 0
 CallsTouchOne = (tree : TreeState) (core : ℕ) (c : Call) → TouchesOne tree core c
+
+-- The shape of a tree whose file has three names is the one that was worked out by hand.
+abbrev pub ShapeIsAsWorked : Type 0
+ShapeIsAsWorked = shape_of THREE_NAMES ≡ THREE_NAMES_SHAPE

@@ -22,6 +22,7 @@ pub mod Parts
 pub mod Readings
 pub mod RowsState
 pub mod Shape
+pub mod ShapeWorked
 pub mod Sound
 pub mod Step
 pub mod Store

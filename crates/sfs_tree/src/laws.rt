@@ -8,6 +8,7 @@ ghost use Rattle.sfs_tree.specs.Laws.{ReadHoldersStay, ReadHoldersAreAbove, Stan
 ghost use Rattle.sfs_tree.specs.Laws.{LogsErase, HistoriesStayWithin};
 ghost use Rattle.sfs_tree.specs.Laws.{TreesAgreeWithThemselves, OwnEntriesAreCores, TouchesAreNamed, CallsTouchOne};
 ghost use Rattle.sfs_tree.specs.Laws.{RowsAreTheTrees, BytesAreTheTrees, CoresMakeTheHistory};
+ghost use Rattle.sfs_tree.specs.Laws.{ShapeIsAsWorked};
 
 /// The root alone is a sound tree.
 pub fn root_alone_is_sound()
@@ -167,4 +168,9 @@ pub fn touches_are_named()
 /// A call touches the bytes of one file and the links of one node at most.
 pub fn calls_touch_one()
     ensures { CallsTouchOne }
+{}
+
+/// The shape of a tree whose file has three names is the one that was worked out by hand.
+pub fn shape_is_as_worked()
+    ensures { ShapeIsAsWorked }
 {}

@@ -28,8 +28,8 @@ fn assert_granted(rt: &impl Abort, grant: &Grant, inodes: &[u32], blocks: &[u32]
 
 // A need that is met.
 fn reserve(rt: &impl Abort, map: &mut SpaceMap, inodes: u32, blocks: u32) -> Grant
-    ensures inodes { AllGranted map.new.inodes result.inodes.items }
-    ensures blocks { AllGranted map.new.blocks result.blocks.items }
+    ensures inodes { AllGranted map.new.inodes result.inodes }
+    ensures blocks { AllGranted map.new.blocks result.blocks }
 {
     match map.reserve(Need { inodes, blocks }) {
         Ok(grant) => grant,
