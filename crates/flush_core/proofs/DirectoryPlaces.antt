@@ -46,11 +46,14 @@ module _ (tree : TreeState) (core t : ℕ) (s : IsSound tree) where
         let places = s.once p d n name x (f.row ∙ ap Some moved) row kind in
         elim (sides tree t p n q m c y one) [
           | inl at ↦ inl (at ∙ places.0)
-          | inr at ↦ inr (record {
-            to_directory = q;
-            to_name = m;
-            moves = ap (λ (z : ℕ). Moves z n q m c) places.0 ∙ ap (λ (z : List ℕ). Moves d z q m c) places.1 ∙ ap (Moves d name q m) moved;
-          }, at)
+          | inr at ↦ inr (
+            record {
+              to_directory = q;
+              to_name = m;
+              moves = ap (λ (z : ℕ). Moves z n q m c) places.0 ∙ ap (λ (z : List ℕ). Moves d z q m c) places.1 ∙ ap (Moves d name q m) moved;
+            },
+            at,
+          )
         ]
   ]
   names_placed (Removes e k c) (Some mk) f files d name x kind row y one child = absurd f

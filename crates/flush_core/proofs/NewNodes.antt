@@ -6,16 +6,19 @@ use Rattle.sfs_tree.specs.declared.history.Entry.{Entry}
 use Rattle.sfs_tree.specs.Tree.{TreeState, Node, next_number}
 use Rattle.sfs_tree.specs.Effect.{Effect, Stays, Adds, Removes, Moves, Edits, edited, with_edit, tree_with}
 use Rattle.sfs_tree.specs.Verdict.{Verdict, verdict}
+use Rattle.sfs_tree.specs.Changes.{added}
 use Rattle.sfs_tree.specs.Fits.{Fits}
 use Rattle.sfs_tree.specs.History.{tree_after, tree_after_entry, IsLegalFrom, IsLegal}
 use Rattle.sfs_tree.specs.Laws.{IsSoundTree}
 use Rattle.sfs_tree.proofs.KeepsNodes.{node_cases}
+use Rattle.sfs_tree.proofs.RowFacts.{alive_named}
 use Rattle.sfs_tree.proofs.SoundTrees.{calls_keep_sound, calls_fit}
 use Rattle.flush_core.specs.Rules.{IsOneOf, Birth, births_by, births_of}
-use Rattle.flush_core.specs.LawsInodes.{BirthsAreNewNodes}
+use Rattle.flush_core.specs.LawsInodes.{BirthsAreNewNodes, IsNeverNamed, InodesAreNamed}
 use Rattle.flush_core.proofs.Basics.{in_left, in_right}
-use Rattle.flush_core.proofs.Along.{node_first, run_of, nodes_at}
+use Rattle.flush_core.proofs.Along.{node_first, run_of, nodes_at, change_in}
 use Rattle.flush_core.proofs.Commit.{birth_at}
+use Rattle.flush_core.proofs.Lists.{lists_keep}
 use Rattle.flush_core.proofs.Lives.{no_node_yet, is_node_now}
 
 -- a birth of a node among some
@@ -81,3 +84,21 @@ is_new first history node is legal found =
 
 pub births_are_new_nodes : BirthsAreNewNodes
 births_are_new_nodes first history node is legal = (is_new first history node is legal, λ both. born_in first history 0 node is legal both.1 both.0)
+
+-- a node that is made is named by the change that makes it
+made_named : (first : TreeState) (history : List Entry) (node : ℕ) → IsLegal first history → HasBirthIn (births_of first history) node → IsNeverNamed first history node → ⊥
+made_named first history node legal found never =
+    let birth = found.0 in
+    let born = birth_at first history birth legal found.1 in
+    let naming = added birth.stamp birth.directory born.name birth.node None in
+    never.changes naming (change_in first history birth.stamp naming legal (rw born.adds (inl refl))) found.2
+
+pub inodes_are_named : InodesAreNamed
+inodes_are_named first history flushes cut inodes node is legal alive flushed has never =
+    elim (get first.nodes node) as (λ o. get first.nodes node ≡ o → node ≡ 0) [
+      | None ↦ λ lacks. absurd (made_named first history node legal (born_in first history 0 node is legal lacks ((lists_keep first history flushes cut inodes is legal flushed).nodes node has)) never)
+      | Some n ↦ λ there. elim (alive_named first node (alive node (rw there refl))) [
+        | inl root ↦ root
+        | inr named ↦ absurd (never.rows (record { directory = named.directory; name = named.name; row = named.row }))
+      ]
+    ] refl

@@ -51,8 +51,8 @@ module _ (first : TreeState) (history : List Entry) (n : ℕ) (is : IsSoundTree 
       let low_before = cuts_stay_low first (take n history) every_entry n was low old.low in
       let held_before = flushes_hold first history n is legal within was low old.low old.live held in
       let alike = alike_on first flush (view_by (take n history) every_entry before inodes_before) (view_by history (below n) before inodes_before) (view_by history every_entry before inodes_before)
-          (prefixes_count first history n flush before inodes_before is legal within (are.low flush own) (are.live flush own))
-          (recounts first history n (below n) every_entry flush before inodes_before is legal (λ t lt. lt-ltb t n lt) (λ t lt. refl) low_before (are.low flush own) (are.live flush own) held_before) in
+      (prefixes_count first history n flush before inodes_before is legal within (are.low flush own) (are.live flush own))
+      (recounts first history n (below n) every_entry flush before inodes_before is legal (λ t lt. lt-ltb t n lt) (λ t lt. refl) low_before (are.low flush own) (are.live flush own) held_before) in
       one_more flushes flush before raised inodes_before after (raised_whole was old low held) ((alike.raises raised).0 raise) (inodes_alike first flush _ _ raised after alike raise sets)
 
 pub flushes_grow : FlushesGrow

@@ -2,7 +2,7 @@
 use Rattle.std.specs.Prelude.{◌≡◌, ◌⊎◌, ◌↔◌, ℕ, Bool, true, false, List, [], Some, None, IsSome}
 use Rattle.std.specs.FinMap.{get}
 use Rattle.sfs_tree.specs.declared.history.Entry.{Entry}
-use Rattle.sfs_tree.specs.Tree.{TreeState, is_directory, bytes_of}
+use Rattle.sfs_tree.specs.Tree.{TreeState, is_alive, is_directory, bytes_of}
 use Rattle.sfs_tree.specs.Changes.{RowChange}
 use Rattle.sfs_tree.specs.History.{tree_after, IsLegal}
 use Rattle.sfs_tree.specs.Laws.{IsSoundTree}
@@ -58,6 +58,17 @@ DirectoriesAreNamed = (first : TreeState) (history : List Entry) (flushes : List
     → AreFlushed first history every_entry flushes cut inodes → inodes node ≡ true
     → is_directory (tree_after first history) node ≡ true
     → (node ≡ 0) ⊎ IsNamedIn (rows_at_cut first history cut) node ⊎ IsNeverNamed first history node
+
+-- Each node of a tree is alive.
+abbrev pub AreAllAlive : TreeState → Type 0
+AreAllAlive tree = (node : ℕ) → IsSome (get tree.nodes node) → is_alive tree node ≡ true
+
+-- Where each node of the first tree is alive, the root is the only node with an inode, after a list of fsyncs, that nothing ever names.
+abbrev pub InodesAreNamed : Type 0
+InodesAreNamed = (first : TreeState) (history : List Entry) (flushes : List Flush) (cut : Cut) (inodes : ℕ → Bool) (node : ℕ) → IsSoundTree first → IsLegal first history
+    → AreAllAlive first
+    → AreFlushed first history every_entry flushes cut inodes → inodes node ≡ true
+    → IsNeverNamed first history node → node ≡ 0
 
 -- An fsync leaves a directory named that a row at the cut names and that keeps its inode.
 abbrev pub DirectoriesStayNamed : Type 0

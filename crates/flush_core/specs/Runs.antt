@@ -81,8 +81,7 @@ pub record IsOneCommit (first : TreeState) (flush : Flush) (view other : CommitV
   pub concerned : (node : ℕ) → Concerns first flush view node ↔ Concerns first flush other node
   pub stamps : (raised other_raised : Cut) → Raises first flush view raised → Raises first flush other other_raised → (node : ℕ) → Concerns first flush view node → cut_of raised node ≡ cut_of other_raised node
   pub rows : (raised other_raised : Cut) → Raises first flush view raised → Raises first flush other other_raised → (node directory : ℕ) (name : List ℕ) → Concerns first flush view node
-     
-    → (get (counted_rows_at_cut first view.history view.counts raised) (directory, name) ≡ Some node) ↔ (get (counted_rows_at_cut first other.history other.counts other_raised) (directory, name) ≡ Some node)
+      → (get (counted_rows_at_cut first view.history view.counts raised) (directory, name) ≡ Some node) ↔ (get (counted_rows_at_cut first other.history other.counts other_raised) (directory, name) ≡ Some node)
   pub enters : (raised other_raised : Cut) → Raises first flush view raised → Raises first flush other other_raised → (node : ℕ) → Enters first flush view raised node ↔ Enters first flush other other_raised node
   pub leaves : (raised other_raised : Cut) → Raises first flush view raised → Raises first flush other other_raised → (node : ℕ) → Leaves first flush view raised node ↔ Leaves first flush other other_raised node
 

@@ -10,7 +10,8 @@ pub use fsyncs::{fsyncs_cover, fsyncs_keep, histories_are_covered, lists_cover, 
 pub use growth::{cut_trees_grow, entries_may_come, flushes_grow, stamps_are_once};
 pub use inodes::{
     births_are_new_nodes, directories_are_named, directories_stay_named, files_enter_blank,
-    files_flush_themselves, files_keep_inodes, files_settle, members_are_directories, none_is_dead, others_stay,
+    files_flush_themselves, files_keep_inodes, files_settle, inodes_are_named,
+    members_are_directories, none_is_dead, others_stay,
 };
 pub use runs::{
     all_are_tied, calls_are_a_run, commits_are_accepted, commits_are_tied, durables_are_covered,

@@ -1,5 +1,5 @@
 // Laws of members, and of which nodes have an inode.
-ghost use Rattle.flush_core.specs.LawsInodes.{BirthsAreNewNodes, FilesEnterBlank, FilesSettle, NoneIsDead};
+ghost use Rattle.flush_core.specs.LawsInodes.{BirthsAreNewNodes, FilesEnterBlank, FilesSettle, InodesAreNamed, NoneIsDead};
 ghost use Rattle.flush_core.specs.LawsInodes.{DirectoriesAreNamed, DirectoriesStayNamed};
 ghost use Rattle.flush_core.specs.LawsInodes.{FilesFlushThemselves, FilesKeepInodes, MembersAreDirectories, OthersStay};
 
@@ -31,6 +31,11 @@ pub fn none_is_dead()
 /// Each directory with an inode is the root or is named at the cut, but for one that nothing ever names.
 pub fn directories_are_named()
     ensures { DirectoriesAreNamed }
+{}
+
+/// Where each node of the first tree is alive, the root is the only node with an inode that nothing ever names.
+pub fn inodes_are_named()
+    ensures { InodesAreNamed }
 {}
 
 /// An fsync leaves a directory named that keeps its inode.
