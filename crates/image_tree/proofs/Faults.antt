@@ -13,9 +13,15 @@ use Rattle.sfs_image.specs.Slot.{Row, kind_byte}
 use Rattle.sfs_image.specs.Seen.{SeenInodes}
 use Rattle.image_tree.specs.Slots.{name_count}
 use Rattle.image_tree.specs.ImageTree.{NOTHING_MADE, shows_directory, is_used, image_rows}
+use Rattle.std.proofs.Common.{count_by}
+use Rattle.std.specs.FinMap.{entries}
+use Rattle.sfs_tree.specs.Tree.{holds_directory, links_of, count_of}
+use Rattle.sfs_base.specs.declared.numbers.Kind.TheVariants.{File, Directory}
+use Rattle.image_tree.specs.ImageTree.{shows_file}
+use Rattle.sfs_base.proofs.BasicTruth.{and_first, and_second, and_false}
 use Rattle.image_tree.specs.Keeps.{ruled_tree, IsDirectoryInode, MayName, MayStand, KeepsRules}
 use Rattle.image_tree.specs.Rules.{has_name_twice, has_overfull_bucket, is_misplaced, has_misplaced_row, names_root, is_named_twice, has_wrong_links, is_unreached, breaks_tree_rule, BYTE_RULES, RULES, TreeFault, fault_by, first_fault, breaks_rule, KeepsByteRules}
-use Rattle.image_tree.specs.Laws.{NoFaultIsRulesKept}
+use Rattle.image_tree.specs.Laws.{NoFaultIsRulesKept, FreeInodesBreakNoTreeRule, OrphansBreakNoTreeRule}
 use Rattle.sfs_base.proofs.BasicNumbers.{not_below, not_same}
 use Rattle.sfs_base.proofs.BasicTruth.{or_first, or_second, or_true, not_false, then_false, not_both}
 use Rattle.sfs_base.proofs.BasicOptions.{none_some}
@@ -226,3 +232,36 @@ no_fault_is_rules_kept image breaks_byte_rule r bytes = (
   λ none. kept image breaks_byte_rule r (no_break (breaks_rule breaks_byte_rule image) image.count none),
   λ k. no_fault (breaks_rule breaks_byte_rule image) image.count (no_rule_broken image breaks_byte_rule r k bytes),
 )
+
+-- only what an inode in use has can break a rule across inodes
+breaks_nothing : (image : SeenInodes) (rule i : ℕ) → shows_directory (image.seen i) ≡ false → (is_used image i && has_wrong_links image i) ≡ false → breaks_tree_rule image rule i ≡ false
+breaks_nothing image rule i other links =
+    either_false (nat_eq rule 8) _ _ (no_directory (has_name_twice image i))
+    (either_false (nat_eq rule 9) _ _ (no_directory (has_overfull_bucket image i))
+    (either_false (nat_eq rule 10) _ _ (no_directory (has_misplaced_row image i))
+    (either_false (nat_eq rule 11) _ _ (no_directory (names_root image i))
+    (either_false (nat_eq rule 12) _ _ (no_directory (is_named_twice image i))
+    (either_false (nat_eq rule 13) _ _ links
+    (either_false (nat_eq rule 14) _ _ (no_directory (is_unreached image i)) refl))))))
+  where
+    no_directory : (p : Bool) → (shows_directory (image.seen i) && p) ≡ false
+    no_directory p = ap (λ b. b && p) other
+
+pub free_inodes_break_no_tree_rule : FreeInodesBreakNoTreeRule
+free_inodes_break_no_tree_rule image rule i free =
+    breaks_nothing image rule i (ap (λ n. nat_eq n (kind_byte Directory)) free) (ap (λ n. not (nat_eq n 0) && has_wrong_links image i) free)
+
+pub orphans_break_no_tree_rule : OrphansBreakNoTreeRule
+orphans_break_no_tree_rule image rule i lt orphan none =
+    breaks_nothing image rule i other (ap (λ b. is_used image i && not b) (eq-eqb _ _ (none ∙ sym links)) ∙ and_false (is_used image i))
+  where
+    file : (image.seen i).kind ≡ kind_byte File
+    file = eqb-true _ _ (and_first (shows_file (image.seen i)) _ orphan)
+
+    other : shows_directory (image.seen i) ≡ false
+    other = ap (λ n. nat_eq n (kind_byte Directory)) file
+
+    links : links_of (ruled_tree image) i ≡ 0
+    links =
+        ap (λ b. cond b (2 + count_by (holds_directory (ruled_tree image) i) (entries (image_rows image))) (count_of (image_rows image) i)) (directory_shown image NOTHING_MADE i lt ∙ other)
+        ∙ eqb-true _ _ (and_second (shows_file (image.seen i)) _ orphan)

@@ -11,6 +11,7 @@ pub mod NetRows
 pub mod Orphans
 pub mod Paired
 pub mod Parts
+pub mod Places
 pub mod Ranks
 pub mod Renaming
 pub mod Shapes

@@ -8,7 +8,7 @@ use Rattle.sfs_tree.proofs.Joined.{count-cons}
 use Rattle.sfs_image.specs.Seen.{SeenInodes, FILE_BLOCKS, PLACES}
 use Rattle.image_tree.specs.Commit.{Commit, seen_before, HasBlock, hole, kept, fresh, TakesBlocks}
 use Rattle.image_tree.specs.Need.{Rewrite, rewrites_table, table_has_pointer, takes_place, pointer_after, place_in_row, takes_in_row, rank, RanksServe, GrantServes, IsListed, TakesByRank}
-use Rattle.image_tree.specs.Laws.{RanksServeGrants, RanksTakeFreeBlocks}
+use Rattle.image_tree.specs.Laws.{RanksServeGrants, RanksTakeFreeBlocks, RanksGoOn}
 use Rattle.sfs_base.proofs.BasicOptions.{none_some, some_same}
 
 module _ (takes : ℕ → Bool) where
@@ -76,6 +76,34 @@ module _ (takes : ℕ → Bool) where
 pub ranks_serve_grants : RanksServeGrants
 ranks_serve_grants takes = ranks_serve takes
 
+rank_none : (takes : ℕ → Bool) → rank takes 0 ≡ 0
+unfolding rank
+rank_none takes = refl
+
+-- a place in the row is that of its inode
+place_takes : (rewrites : List Rewrite) (m place : ℕ) (rewrite : Rewrite) → slice_get rewrites m ≡ Some rewrite → place < PLACES → takes_in_row rewrites (place_in_row m place) ≡ takes_place rewrite place
+place_takes rewrites m place rewrite is small =
+    let quotient : (PLACES * m + place) / PLACES ≡ m = omega arith in
+    let remainder : (PLACES * m + place) % PLACES ≡ place = omega arith in
+    ap (λ n. option_map_or (λ (r : Rewrite). takes_place r ((PLACES * m + place) % PLACES)) (slice_get rewrites n) false) quotient
+    ∙ ap (λ (o : Option Rewrite). option_map_or (λ (r : Rewrite). takes_place r ((PLACES * m + place) % PLACES)) o false) is
+    ∙ ap (takes_place rewrite) remainder
+
+pub ranks_go_on : RanksGoOn
+ranks_go_on rewrites m place rewrite is le = go place le
+  where
+    next : (place : ℕ) → PLACES * m + suc place ≡ suc (PLACES * m + place)
+    next place = omega arith
+
+    go : (place : ℕ) → place ≤ PLACES → rank (takes_in_row rewrites) (place_in_row m place) ≡ rank (takes_in_row rewrites) (place_in_row m 0) + rank (takes_place rewrite) place
+    go zero le = let a = rank_none (takes_place rewrite) in omega arith
+    go (suc place) le =
+        let rest = go place (omega arith) in
+        let more = ap (rank (takes_in_row rewrites)) (next place) ∙ rank_more (takes_in_row rewrites) (PLACES * m + place) in
+        let own = rank_more (takes_place rewrite) place in
+        let same : cond {A = ℕ} (takes_in_row rewrites (place_in_row m place)) 1 0 ≡ cond {A = ℕ} (takes_place rewrite place) 1 0 = ap (λ b. cond {A = ℕ} b 1 0) (place_takes rewrites m place rewrite is (omega arith)) in
+        omega arith
+
 listed_below : {A : Type 0} (xs : List A) (m : ℕ) (x : A) → slice_get xs m ≡ Some x → m < length xs
 listed_below [] m x e = absurd (none_some e)
 listed_below (y ∷ ys) zero x e = omega arith
@@ -110,11 +138,7 @@ module _ (commit : Commit) (image next : SeenInodes) (inodes : List ℕ) (rewrit
 
       row_takes : (m : ℕ) (rewrite : Rewrite) → IsListed inodes rewrites i m rewrite → place < PLACES → takes_in_row rewrites (place_in_row m place) ≡ true
       row_takes m rewrite is small =
-          let quotient : (PLACES * m + place) / PLACES ≡ m = omega arith in
-          let remainder : (PLACES * m + place) % PLACES ≡ place = omega arith in
-          ap (λ n. option_map_or (λ (r : Rewrite). takes_place r ((PLACES * m + place) % PLACES)) (slice_get rewrites n) false) quotient
-          ∙ ap (λ (o : Option Rewrite). option_map_or (λ (r : Rewrite). takes_place r ((PLACES * m + place) % PLACES)) o false) is.rewritten
-          ∙ ap (takes_place rewrite) remainder
+          place_takes rewrites m place rewrite is.rewritten small
           ∙ sym (t.takes i m place rewrite is small)
           ∙ taken
 

@@ -1,5 +1,5 @@
 -- A commit: what it makes of the inodes of an image, so that they stand for another tree.
-use Rattle.std.specs.Prelude.{◌≡◌, ◌≢◌, ◌⊎◌, ◌↔◌, ℕ, ◌<◌, Bool, true, false, is_none, List, [], ◌∷◌, map, Option, Some, None, option_map, filter_map, bytes_eq, if◌then◌else◌}
+use Rattle.std.specs.Prelude.{◌≡◌, ◌≢◌, ◌⊎◌, ◌↔◌, ℕ, ◌<◌, Bool, true, false, is_none, List, [], ◌∷◌, map, Option, Some, None, option_map, filter_map, bytes_eq, if◌then◌else◌, slice_get}
 use Rattle.std.specs.List.{find}
 use Rattle.std.specs.Option.{option_map_or}
 use Rattle.sfs_tree.specs.NameRow.{number_of}
@@ -40,6 +40,16 @@ filled (Some held ∷ slots) (row ∷ rows) = Some held ∷ filled slots (row �
 -- the slots of a directory after a net: changed names first, then the new ones in the lowest empty slots
 abbrev pub slots_after : Numbering → TreeState → List NetRow → List (Option Row) → List (Option Row)
 slots_after num tree net slots = filled (map (slot_after num tree net) slots) (new_rows num tree net)
+
+-- Where a net leaves each row: a row whose name the net has not stays in its slot, one whose name gets another child is changed in its
+-- slot, and no slot before that of a further row stays empty.
+pub record KeepsPlaces (num : Numbering) (tree : TreeState) (net : List NetRow) (slots : List (Option Row)) : Type 0 where
+  pub stays : (place : ℕ) (row : Row) → slice_get slots place ≡ Some (Some row) → row_in_net row.name net ≡ None
+      → slice_get (slots_after num tree net slots) place ≡ Some (Some row)
+  pub changes : (place : ℕ) (row brought : Row) (change : NetRow) → slice_get slots place ≡ Some (Some row) → row_in_net row.name net ≡ Some change
+      → brought_row num tree change ≡ Some brought → slice_get (slots_after num tree net slots) place ≡ Some (Some brought)
+  pub lowest : (place later : ℕ) → slice_get (slots_after num tree net slots) place ≡ Some None → place < later
+      → slice_get (slots_after num tree net slots) later ≡ slice_get (map (slot_after num tree net) slots) later
 
 -- A commit of some nodes: the numbering before and after, the nodes that it concerns, the net of each directory, and the fresh
 -- blocks by inode and place, with the places that take one.

@@ -1,9 +1,9 @@
 -- The laws of what an image stands for, each of which a function of the module laws proves.
-use Rattle.std.specs.Prelude.{◌≡◌, ◌↔◌, ℕ, ◌+◌, ◌<◌, ◌≤◌, Bool, false, List, Option, Some, None}
+use Rattle.std.specs.Prelude.{◌≡◌, ◌↔◌, ℕ, ◌+◌, ◌<◌, ◌≤◌, Bool, false, List, Option, Some, None, true, slice_get}
 use Rattle.sfs_tree.specs.Tree.{TreeState, links_of}
 use Rattle.sfs_tree.specs.Sound.{IsSound}
 use Rattle.sfs_tree.specs.Shape.{shape_of}
-use Rattle.sfs_image.specs.Seen.{SeenInodes}
+use Rattle.sfs_image.specs.Seen.{Seen, SeenInodes, PLACES}
 use Rattle.image_tree.specs.ImageTree.{Making, image_tree}
 use Rattle.image_tree.specs.Renamed.{Numbering, IsRenamed}
 use Rattle.image_tree.specs.Stands.{StandsForTree, IsStorable}
@@ -14,12 +14,12 @@ use Rattle.image_tree.specs.LinkChanges.{gained, lost, linking, net_changes, Are
 use Rattle.image_tree.specs.Image.{image_inodes, tree_of, IsMounted, HasGoodBytes, IsReadAsTree}
 use Rattle.sfs_image.specs.Slot.{Row}
 use Rattle.image_tree.specs.Slots.{EndsWithRow}
-use Rattle.image_tree.specs.Need.{Rewrite, RanksServe, GrantServes, TakesByRank}
+use Rattle.image_tree.specs.Need.{Rewrite, takes_place, place_in_row, takes_in_row, rank, rewrites_slots, KeepsBlock, RanksServe, GrantServes, TakesByRank}
 use Rattle.image_tree.specs.Sizes.{DirectoriesFit}
 use Rattle.image_tree.specs.Mount.{ShowsByKind, StandsByItself}
-use Rattle.image_tree.specs.Orphans.{FreesOrphans, IsFreed}
-use Rattle.image_tree.specs.Rules.{first_fault, FindsFault, BYTE_RULES, KeepsByteRules, tree_fault}
-use Rattle.image_tree.specs.Commit.{Commit, TakesBlocks, IsCommit, IsCommitStep}
+use Rattle.image_tree.specs.Orphans.{is_orphan, FreesOrphans, IsFreed}
+use Rattle.image_tree.specs.Rules.{breaks_tree_rule, first_fault, FindsFault, BYTE_RULES, KeepsByteRules, tree_fault}
+use Rattle.image_tree.specs.Commit.{KeepsPlaces, Commit, TakesBlocks, IsCommit, IsCommitStep}
 
 -- A tree under other numbers is sound where the first is, and has its shape.
 abbrev pub RenamedTreesHaveOneShape : Type 0
@@ -109,3 +109,24 @@ abbrev pub RanksTakeFreeBlocks : Type 0
 RanksTakeFreeBlocks =
     (commit : Commit) (image next : SeenInodes) (inodes : List ℕ) (rewrites : List Rewrite) (grant : List ℕ) → GrantServes image rewrites grant
     → TakesByRank commit image next inodes rewrites grant → TakesBlocks commit image next
+
+-- Nets keep rows in their places, and new rows take the lowest empty slots.
+abbrev pub NetsKeepPlaces : Type 0
+NetsKeepPlaces = (num : Numbering) (tree : TreeState) (net : List NetRow) (slots : List (Option Row)) → KeepsPlaces num tree net slots
+
+-- A block of a directory is rewritten exactly where it does not keep its slots, or is there behind the last block with a row.
+abbrev pub BlocksAreKeptOrRewritten : Type 0
+BlocksAreKeptOrRewritten = (old : Seen) (slots : List (Option Row)) (n : ℕ) → (rewrites_slots old slots n ≡ false) ↔ KeepsBlock old slots n
+
+-- The ranks of an inode's places are a slice: they go on from the rank of its first place.
+abbrev pub RanksGoOn : Type 0
+RanksGoOn = (rewrites : List Rewrite) (m place : ℕ) (rewrite : Rewrite) → slice_get rewrites m ≡ Some rewrite → place ≤ PLACES
+    → rank (takes_in_row rewrites) (place_in_row m place) ≡ rank (takes_in_row rewrites) (place_in_row m 0) + rank (takes_place rewrite) place
+
+-- A free inode breaks no rule across inodes.
+abbrev pub FreeInodesBreakNoTreeRule : Type 0
+FreeInodesBreakNoTreeRule = (image : SeenInodes) (rule i : ℕ) → (image.seen i).kind ≡ 0 → breaks_tree_rule image rule i ≡ false
+
+-- Nor does an orphan of link count 0.
+abbrev pub OrphansBreakNoTreeRule : Type 0
+OrphansBreakNoTreeRule = (image : SeenInodes) (rule i : ℕ) → i < image.count → is_orphan image i ≡ true → (image.seen i).links ≡ 0 → breaks_tree_rule image rule i ≡ false

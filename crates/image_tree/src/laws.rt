@@ -3,6 +3,8 @@ ghost use Rattle.image_tree.specs.Laws.{RenamedTreesHaveOneShape, StandingImages
 ghost use Rattle.image_tree.specs.Laws.{RulesMakeStanding, NoFaultIsRulesKept, PlannedCommitsHoldElsewhere, NetsGiveLinks};
 ghost use Rattle.image_tree.specs.Laws.{TreesOfImagesAreMounted, StandingImagesAreRead, FirstFaultIsLeast, FreedOrphansKeepTheTree};
 ghost use Rattle.image_tree.specs.Laws.{CommitsKeepDirectoriesFit, BlocksEndWithRow, RanksServeGrants, RanksTakeFreeBlocks};
+ghost use Rattle.image_tree.specs.Laws.{NetsKeepPlaces, BlocksAreKeptOrRewritten, RanksGoOn};
+ghost use Rattle.image_tree.specs.Laws.{FreeInodesBreakNoTreeRule, OrphansBreakNoTreeRule};
 
 /// A tree under other numbers is sound where the first is, and has its shape.
 pub fn renamed_trees_have_one_shape()
@@ -77,4 +79,29 @@ pub fn ranks_serve_grants()
 /// A commit that takes its blocks from a serving grant by their ranks takes free blocks, each once.
 pub fn ranks_take_free_blocks()
     ensures { RanksTakeFreeBlocks }
+{}
+
+/// Nets keep rows in their places, and new rows take the lowest empty slots.
+pub fn nets_keep_places()
+    ensures { NetsKeepPlaces }
+{}
+
+/// A block of a directory is rewritten exactly where it does not keep its slots, or is there behind the last one with a row.
+pub fn blocks_are_kept_or_rewritten()
+    ensures { BlocksAreKeptOrRewritten }
+{}
+
+/// The ranks of an inode's places are a slice.
+pub fn ranks_go_on()
+    ensures { RanksGoOn }
+{}
+
+/// A free inode breaks no rule across inodes.
+pub fn free_inodes_break_no_tree_rule()
+    ensures { FreeInodesBreakNoTreeRule }
+{}
+
+/// Nor does an orphan of link count 0.
+pub fn orphans_break_no_tree_rule()
+    ensures { OrphansBreakNoTreeRule }
 {}
