@@ -29,7 +29,7 @@ use Rattle.image_tree.proofs.Committed.{links_alike, number_once}
 use Rattle.image_tree.proofs.Standing.{not_used}
 
 -- the net of rows that stay has no row
-no_net : (rows : FinMap name_cmp ℕ) → IsNet rows rows []
+pub no_net : (rows : FinMap name_cmp ℕ) → IsNet rows rows []
 unfolding IsStrictlySortedBy
 no_net rows = record { ascending = tt; each = All-nil (IsNetRow rows rows); complete = λ name differ. absurd (differ refl) }
 

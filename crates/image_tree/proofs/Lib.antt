@@ -6,6 +6,7 @@ pub mod FirstFault
 pub mod Images
 pub mod LastBlock
 pub mod LinkChanges
+pub mod Made
 pub mod Mounted
 pub mod NetRows
 pub mod Orphans

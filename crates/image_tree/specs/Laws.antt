@@ -1,5 +1,5 @@
 -- The laws of what an image stands for, each of which a function of the module laws proves.
-use Rattle.std.specs.Prelude.{◌≡◌, ◌↔◌, ℕ, ◌+◌, ◌<◌, ◌≤◌, Bool, false, List, Option, Some, None, true, slice_get}
+use Rattle.std.specs.Prelude.{◌≡◌, ◌↔◌, ℕ, ◌+◌, ◌<◌, ◌≤◌, Bool, false, List, Option, Some, None, true, slice_get, []}
 use Rattle.sfs_tree.specs.Tree.{TreeState, links_of}
 use Rattle.sfs_tree.specs.Sound.{IsSound}
 use Rattle.sfs_tree.specs.Shape.{shape_of}
@@ -16,6 +16,7 @@ use Rattle.sfs_image.specs.Slot.{Row}
 use Rattle.image_tree.specs.Slots.{EndsWithRow}
 use Rattle.image_tree.specs.Need.{Rewrite, takes_place, place_in_row, takes_in_row, rank, rewrites_slots, KeepsBlock, RanksServe, GrantServes, TakesByRank}
 use Rattle.image_tree.specs.Sizes.{DirectoriesFit}
+use Rattle.image_tree.specs.Made.{image_made, IsMadeFrom}
 use Rattle.image_tree.specs.Mount.{ShowsByKind, StandsByItself}
 use Rattle.image_tree.specs.Orphans.{is_orphan, FreesOrphans, IsFreed}
 use Rattle.image_tree.specs.Rules.{breaks_tree_rule, first_fault, FindsFault, BYTE_RULES, KeepsByteRules, tree_fault}
@@ -130,3 +131,18 @@ FreeInodesBreakNoTreeRule = (image : SeenInodes) (rule i : ℕ) → (image.seen 
 -- Nor does an orphan of link count 0.
 abbrev pub OrphansBreakNoTreeRule : Type 0
 OrphansBreakNoTreeRule = (image : SeenInodes) (rule i : ℕ) → i < image.count → is_orphan image i ≡ true → (image.seen i).links ≡ 0 → breaks_tree_rule image rule i ≡ false
+
+-- What a commit makes of an image is a commit.
+abbrev pub MadeImagesAreCommits : Type 0
+MadeImagesAreCommits = (commit : Commit) (old new : TreeState) (image : SeenInodes) (rewrites : ℕ → Rewrite) (concerned : List ℕ)
+    → StandsForTree commit.before old image → IsMadeFrom commit old new image rewrites concerned
+    → IsCommit commit old new image (image_made commit new image rewrites concerned)
+
+-- the commit that concerns nothing
+abbrev pub no_commit : Numbering → Commit
+no_commit num = record { before = num; after = num; concerns = λ _. false; nets = λ _. []; takes = λ _ _. false; fresh = λ _ _. 0 }
+
+-- A commit that concerns nothing is a step from each image that stands for a sound tree to itself.
+abbrev pub NoCommitIsAStep : Type 0
+NoCommitIsAStep = (num : Numbering) (tree : TreeState) (image : SeenInodes) → StandsForTree num tree image → IsSound tree → IsStorable num tree
+    → IsCommitStep (no_commit num) tree tree image image

@@ -5,6 +5,7 @@ pub mod ImageTree
 pub mod Keeps
 pub mod Laws
 pub mod LinkChanges
+pub mod Made
 pub mod Mount
 pub mod Need
 pub mod Orphans

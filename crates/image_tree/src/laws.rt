@@ -5,6 +5,7 @@ ghost use Rattle.image_tree.specs.Laws.{TreesOfImagesAreMounted, StandingImagesA
 ghost use Rattle.image_tree.specs.Laws.{CommitsKeepDirectoriesFit, BlocksEndWithRow, RanksServeGrants, RanksTakeFreeBlocks};
 ghost use Rattle.image_tree.specs.Laws.{NetsKeepPlaces, BlocksAreKeptOrRewritten, RanksGoOn};
 ghost use Rattle.image_tree.specs.Laws.{FreeInodesBreakNoTreeRule, OrphansBreakNoTreeRule};
+ghost use Rattle.image_tree.specs.Laws.{MadeImagesAreCommits, NoCommitIsAStep};
 
 /// A tree under other numbers is sound where the first is, and has its shape.
 pub fn renamed_trees_have_one_shape()
@@ -104,4 +105,14 @@ pub fn free_inodes_break_no_tree_rule()
 /// Nor does an orphan of link count 0.
 pub fn orphans_break_no_tree_rule()
     ensures { OrphansBreakNoTreeRule }
+{}
+
+/// What a commit makes of an image is a commit.
+pub fn made_images_are_commits()
+    ensures { MadeImagesAreCommits }
+{}
+
+/// A commit that concerns nothing is a step from each image that stands for a sound tree to itself.
+pub fn no_commit_is_a_step()
+    ensures { NoCommitIsAStep }
 {}
