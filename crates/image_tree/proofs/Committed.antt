@@ -334,4 +334,4 @@ module _ (commit : Commit) (old new : TreeState) (image next : SeenInodes) (step
 pub commits_keep_standing : CommitsKeepStanding
 commits_keep_standing commit old new image next making step =
     let stands = stands_after commit old new image next step in
-    record { stands = stands; shows = standing_images_show commit.after new next making step.next_sound step.storable stands }
+    record { stands = stands; shows = standing_images_show commit.after new next making (record { sound = step.next_sound; storable = step.storable; stands = stands }) }

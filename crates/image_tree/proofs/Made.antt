@@ -155,23 +155,23 @@ pub made_images_are_commits : MadeImagesAreCommits
 made_images_are_commits = made_commit
 
 pub no_commit_is_a_step : NoCommitIsAStep
-no_commit_is_a_step num tree image st s may = record {
-  stands = st;
-  sound = s;
+no_commit_is_a_step num tree image is = record {
+  stands = is.stands;
+  sound = is.sound;
   commits = record {
     count = refl;
     nets = λ node. no_net (Rattle.sfs_tree.specs.Tree.names_of node tree.rows);
-    numbers = record { comes = λ node i is. Rattle.image_tree.specs.Commit.ComesBy.had is; once = λ node twin i none _ is _. absurd (none_some (sym none ∙ is)) };
-    built = λ node i is listed. absurd (not_both listed refl);
-    stays = λ node i is other. (is, refl, record { rows = λ _. refl; bytes = refl; naming = λ _ _. (λ row. row, λ row. row) });
-    rest = st.rest;
+    numbers = record { comes = λ node i has. Rattle.image_tree.specs.Commit.ComesBy.had has; once = λ node twin i none _ has _. absurd (none_some (sym none ∙ has)) };
+    built = λ node i has listed. absurd (not_both listed refl);
+    stays = λ node i has other. (has, refl, record { rows = λ _. refl; bytes = refl; naming = λ _ _. (λ row. row, λ row. row) });
+    rest = is.stands.rest;
     blocks = record {
-      has = λ node i place small is listed. absurd (not_both listed refl);
+      has = λ node i place small has listed. absurd (not_both listed refl);
       unheld = λ i place j other taken. absurd (not_both taken refl);
       once = λ i place j other taken. absurd (not_both taken refl);
     };
   };
-  next_sound = s;
-  follows = record { kinds = λ _. refl; root = st.root; named = st.named };
-  storable = may;
+  next_sound = is.sound;
+  follows = record { kinds = λ _. refl; root = is.stands.root; named = is.stands.named };
+  storable = is.storable;
 }

@@ -243,8 +243,8 @@ module _ (num : Numbering) (tree : TreeState) (image : SeenInodes) (s : IsSound 
       stand (slot ∷ slots) h = (stand_at slot h.0, stand slots h.1)
 
 pub standing_images_show : StandingImagesShow
-standing_images_show num tree image making s may st = record {
-  rules = keeps num tree image s st may;
-  sound = shown_sound num tree image making s st;
-  shape = shown_shape num tree image making s st;
+standing_images_show num tree image making is = record {
+  rules = keeps num tree image is.sound is.stands is.storable;
+  sound = shown_sound num tree image making is.sound is.stands;
+  shape = shown_shape num tree image making is.sound is.stands;
 }

@@ -6,13 +6,16 @@ use Rattle.sfs_tree.specs.Shape.{shape_of}
 use Rattle.sfs_image.specs.Seen.{Seen, SeenInodes, PLACES}
 use Rattle.image_tree.specs.ImageTree.{Making, image_tree}
 use Rattle.image_tree.specs.Renamed.{Numbering, IsRenamed}
-use Rattle.image_tree.specs.Stands.{StandsForTree, IsStorable}
+use Rattle.image_tree.specs.Stands.{StandsForTree, StandsForSoundTree}
 use Rattle.image_tree.specs.Keeps.{KeepsRules}
 use Rattle.image_tree.specs.Elsewhere.{Elsewhere, commit_there, IsPlanned, Suits}
 use Rattle.absorb.specs.declared.nets.NetRow.{NetRow}
 use Rattle.image_tree.specs.LinkChanges.{gained, lost, linking, net_changes, AreAllNets}
-use Rattle.image_tree.specs.Image.{image_inodes, tree_of, IsMounted, HasGoodBytes, IsReadAsTree}
+use Rattle.image_tree.specs.Image.{image_inodes, PartsStandForTree, tree_of, IsMounted, HasGoodBytes, IsReadAsTree}
 use Rattle.sfs_image.specs.Slot.{Row}
+use Rattle.sfs_image.specs.Super.{Layout}
+use Rattle.sfs_image.specs.Part.{Part}
+use Rattle.sfs_image.specs.ImageOf.{Transaction}
 use Rattle.image_tree.specs.Slots.{EndsWithRow}
 use Rattle.image_tree.specs.Need.{Rewrite, takes_place, place_in_row, takes_in_row, rank, rewrites_slots, KeepsBlock, RanksServe, GrantServes, TakesByRank}
 use Rattle.image_tree.specs.Sizes.{DirectoriesFit}
@@ -35,9 +38,7 @@ pub record ShowsTree (tree : TreeState) (image : SeenInodes) (making : Making) :
 
 -- An image that stands for a sound tree shows it.
 abbrev pub StandingImagesShow : Type 0
-StandingImagesShow =
-    (num : Numbering) (tree : TreeState) (image : SeenInodes) (making : Making) → IsSound tree → IsStorable num tree → StandsForTree num tree image
-    → ShowsTree tree image making
+StandingImagesShow = (num : Numbering) (tree : TreeState) (image : SeenInodes) (making : Making) → StandsForSoundTree num tree image → ShowsTree tree image making
 
 -- what a commit leaves where an image stood for a tree: it stands for the next tree, and shows it
 pub record LeavesTree (commit : Commit) (new : TreeState) (next : SeenInodes) (making : Making) : Type 0 where
@@ -78,9 +79,13 @@ TreesOfImagesAreMounted = (image : List ℕ) (share : ℕ) (tree : TreeState) �
 
 -- An image with good bytes whose inodes stand for a sound tree has no fault, and a tree of that shape.
 abbrev pub StandingImagesAreRead : Type 0
-StandingImagesAreRead =
-    (image : List ℕ) (share : ℕ) (num : Numbering) (tree : TreeState) → HasGoodBytes image → IsSound tree → IsStorable num tree
-    → StandsForTree num tree (image_inodes image) → IsReadAsTree image share tree
+StandingImagesAreRead = (image : List ℕ) (share : ℕ) (num : Numbering) (tree : TreeState) → HasGoodBytes image
+    → StandsForSoundTree num tree (image_inodes image) → IsReadAsTree image share tree
+
+-- So has an image that stands for parts of which this holds with what its open journal slots give, whichever are open.
+abbrev pub StandingPartsAreRead : Type 0
+StandingPartsAreRead = (layout : Layout) (opened : ℕ → Option Transaction) (parts : ℕ → Part) (image : List ℕ) (share : ℕ) (num : Numbering) (tree : TreeState)
+    → PartsStandForTree layout opened parts image num tree → IsReadAsTree image share tree
 
 -- The first fault is that of the least rule that an inode breaks, and of that the least inode.
 abbrev pub FirstFaultIsLeast : Type 0
@@ -144,5 +149,4 @@ no_commit num = record { before = num; after = num; concerns = λ _. false; nets
 
 -- A commit that concerns nothing is a step from each image that stands for a sound tree to itself.
 abbrev pub NoCommitIsAStep : Type 0
-NoCommitIsAStep = (num : Numbering) (tree : TreeState) (image : SeenInodes) → StandsForTree num tree image → IsSound tree → IsStorable num tree
-    → IsCommitStep (no_commit num) tree tree image image
+NoCommitIsAStep = (num : Numbering) (tree : TreeState) (image : SeenInodes) → StandsForSoundTree num tree image → IsCommitStep (no_commit num) tree tree image image

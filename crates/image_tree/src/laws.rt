@@ -1,7 +1,7 @@
 // What is proved of the definitions: each function's contract is a law.
 ghost use Rattle.image_tree.specs.Laws.{RenamedTreesHaveOneShape, StandingImagesShow, CommitsKeepStanding};
 ghost use Rattle.image_tree.specs.Laws.{RulesMakeStanding, NoFaultIsRulesKept, PlannedCommitsHoldElsewhere, NetsGiveLinks};
-ghost use Rattle.image_tree.specs.Laws.{TreesOfImagesAreMounted, StandingImagesAreRead, FirstFaultIsLeast, FreedOrphansKeepTheTree};
+ghost use Rattle.image_tree.specs.Laws.{TreesOfImagesAreMounted, StandingImagesAreRead, StandingPartsAreRead, FirstFaultIsLeast, FreedOrphansKeepTheTree};
 ghost use Rattle.image_tree.specs.Laws.{CommitsKeepDirectoriesFit, BlocksEndWithRow, RanksServeGrants, RanksTakeFreeBlocks};
 ghost use Rattle.image_tree.specs.Laws.{NetsKeepPlaces, BlocksAreKeptOrRewritten, RanksGoOn};
 ghost use Rattle.image_tree.specs.Laws.{FreeInodesBreakNoTreeRule, OrphansBreakNoTreeRule};
@@ -50,6 +50,11 @@ pub fn trees_of_images_are_mounted()
 /// An image with good bytes whose inodes stand for a sound tree has no fault, and a tree of that shape.
 pub fn standing_images_are_read()
     ensures { StandingImagesAreRead }
+{}
+
+/// So has an image that stands for such parts, whichever of its journal slots are open.
+pub fn standing_parts_are_read()
+    ensures { StandingPartsAreRead }
 {}
 
 /// The first fault is that of the least rule that an inode breaks, and of that the least inode.
