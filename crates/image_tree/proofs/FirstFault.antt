@@ -3,7 +3,7 @@ use Rattle.std.proofs.Common.{◌≡◌, ◌≢◌, ℕ, zero, suc, ◌+◌, ◌
 use borrow.Author.Tests.{eqb-true, eqb-false}
 use Rattle.std.specs.Prelude.{filter_map, slice_get}
 use Rattle.std.specs.List.{range_with_len, find, cons_option}
-use Rattle.image_tree.specs.Rules.{RULES, TreeFault, fault_by, first_fault, IsFirstFault, FindsFault}
+use Rattle.image_tree.specs.Rules.{RULES, TreeFault, fault_by, first_fault, IsLeastFault, FindsFault}
 use Rattle.image_tree.specs.Laws.{FirstFaultIsLeast}
 use Rattle.sfs_base.proofs.BasicOptions.{none_some, some_same}
 use Rattle.image_tree.proofs.Faults.{no_break, none_found}
@@ -83,7 +83,7 @@ module _ (breaks : ℕ → ℕ → Bool) (count : ℕ) where
       unmapped None e = refl
       unmapped (Some i) e = absurd (none_some (sym e))
 
-  is_first : (fault : TreeFault) → first_fault breaks count ≡ Some fault → IsFirstFault breaks count fault
+  is_first : (fault : TreeFault) → first_fault breaks count ≡ Some fault → IsLeastFault breaks count fault
   is_first fault e =
       let given = given_is (fault_by breaks count) 1 RULES fault e in
       let own = of_rule given.number fault given.gives in

@@ -61,10 +61,11 @@ pub record Commit : Type 0 where
   pub takes : ℕ → ℕ → Bool
   pub fresh : ℕ → ℕ → ℕ
 
--- the inode that a node has before a commit, as it is seen; a node without one has no slots and no blocks
+-- what an inode shows that has nothing: a free one, and what a node without an inode begins with
 abbrev pub blank : Seen
 blank = record { kind = 0; links = 0; size = 0; slots = []; bytes = []; blocks = λ _. 0 }
 
+-- what the inode of a node shows before a commit
 abbrev pub seen_before : Commit → SeenInodes → ℕ → Seen
 seen_before commit image node = option_map_or image.seen (commit.before node) blank
 
