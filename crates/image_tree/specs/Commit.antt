@@ -128,6 +128,11 @@ pub record MayFollow (num : Numbering) (old new : TreeState) : Type 0 where
   pub root : num 0 ≡ Some 0
   pub named : (directory : ℕ) (name : List ℕ) (child : ℕ) → row_of new directory name ≡ Some child → HasNumber num child
 
+-- A place holds a block after a commit: the one that stood there before, or a fresh one that it takes.
+pub data HeldAfter (commit : Commit) (image next : SeenInodes) (i place : ℕ) : Type 0 where
+  before : i < image.count → (image.seen i).blocks place ≡ (next.seen i).blocks place → HeldAfter commit image next i place
+  taken : commit.takes i place ≡ true → (next.seen i).blocks place ≡ commit.fresh i place → HeldAfter commit image next i place
+
 -- A commit's step: an image stands for a sound tree, and the commit changes its inodes to those of a next tree, which is sound, may
 -- follow the first, and is such that an image may stand for it.
 pub record IsCommitStep (commit : Commit) (old new : TreeState) (image next : SeenInodes) : Type 0 where

@@ -1,5 +1,5 @@
 -- The laws of what an image stands for, each of which a function of the module laws proves.
-use Rattle.std.specs.Prelude.{◌≡◌, ◌↔◌, ℕ, ◌+◌, ◌<◌, ◌≤◌, Bool, false, List, Option, Some, None, true, slice_get, []}
+use Rattle.std.specs.Prelude.{◌≡◌, ◌≢◌, ◌↔◌, ℕ, ◌+◌, ◌<◌, ◌≤◌, Bool, false, List, Option, Some, None, true, slice_get, []}
 use Rattle.sfs_tree.specs.Tree.{TreeState, links_of}
 use Rattle.sfs_tree.specs.Sound.{IsSound}
 use Rattle.sfs_tree.specs.Shape.{shape_of}
@@ -23,7 +23,7 @@ use Rattle.image_tree.specs.Made.{image_made, IsMadeFrom}
 use Rattle.image_tree.specs.Mount.{ShowsByKind, StandsByItself}
 use Rattle.image_tree.specs.Orphans.{is_orphan, FreesOrphans, IsFreed}
 use Rattle.image_tree.specs.Rules.{breaks_tree_rule, first_fault, FindsFault, BYTE_RULES, KeepsByteRules, tree_fault}
-use Rattle.image_tree.specs.Commit.{KeepsPlaces, Commit, TakesBlocks, IsCommit, IsCommitStep}
+use Rattle.image_tree.specs.Commit.{HeldAfter, KeepsPlaces, Commit, TakesBlocks, IsCommit, IsCommitStep}
 
 -- A tree under other numbers is sound where the first is, and has its shape.
 abbrev pub RenamedTreesHaveOneShape : Type 0
@@ -50,6 +50,11 @@ abbrev pub CommitsKeepStanding : Type 0
 CommitsKeepStanding =
     (commit : Commit) (old new : TreeState) (image next : SeenInodes) (making : Making) → IsCommitStep commit old new image next
     → LeavesTree commit new next making
+
+-- After a commit a block is held where it was before, or it is a fresh one; so no other block is taken, and what is given up is free.
+abbrev pub CommitsHoldTheirBlocks : Type 0
+CommitsHoldTheirBlocks = (commit : Commit) (old new : TreeState) (image next : SeenInodes) → IsCommitStep commit old new image next
+    → (i place : ℕ) → i < next.count → place < PLACES → (next.seen i).blocks place ≢ 0 → HeldAfter commit image next i place
 
 -- An image that keeps the rules stands for its own tree.
 abbrev pub RulesMakeStanding : Type 0

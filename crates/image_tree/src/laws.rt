@@ -2,7 +2,7 @@
 ghost use Rattle.image_tree.specs.Laws.{RenamedTreesHaveOneShape, StandingImagesShow, CommitsKeepStanding};
 ghost use Rattle.image_tree.specs.Laws.{RulesMakeStanding, NoFaultIsRulesKept, PlannedCommitsHoldElsewhere, NetsGiveLinks};
 ghost use Rattle.image_tree.specs.Laws.{TreesOfImagesAreMounted, StandingImagesAreRead, StandingPartsAreRead, FirstFaultIsLeast, FreedOrphansKeepTheTree};
-ghost use Rattle.image_tree.specs.Laws.{CommitsKeepDirectoriesFit, BlocksEndWithRow, RanksServeGrants, RanksTakeFreeBlocks};
+ghost use Rattle.image_tree.specs.Laws.{CommitsHoldTheirBlocks, CommitsKeepDirectoriesFit, BlocksEndWithRow, RanksServeGrants, RanksTakeFreeBlocks};
 ghost use Rattle.image_tree.specs.Laws.{NetsKeepPlaces, BlocksAreKeptOrRewritten, RanksGoOn};
 ghost use Rattle.image_tree.specs.Laws.{FreeInodesBreakNoTreeRule, OrphansBreakNoTreeRule};
 ghost use Rattle.image_tree.specs.Laws.{MadeImagesAreCommits, NoCommitIsAStep};
@@ -20,6 +20,11 @@ pub fn standing_images_show()
 /// A commit keeps an image standing: for the next tree.
 pub fn commits_keep_standing()
     ensures { CommitsKeepStanding }
+{}
+
+/// After a commit a block is held where it was before, or it is a fresh one.
+pub fn commits_hold_their_blocks()
+    ensures { CommitsHoldTheirBlocks }
 {}
 
 /// An image that keeps the rules stands for its own tree.

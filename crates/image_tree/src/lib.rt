@@ -4,6 +4,7 @@
 mod laws;
 
 pub use laws::{
+    commits_hold_their_blocks,
     blocks_are_kept_or_rewritten, blocks_end_with_row, commits_keep_directories_fit,
     commits_keep_standing, first_fault_is_least, free_inodes_break_no_tree_rule,
     freed_orphans_keep_the_tree, made_images_are_commits, nets_give_links, nets_keep_places,
