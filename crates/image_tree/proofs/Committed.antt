@@ -27,7 +27,10 @@ use Rattle.image_tree.proofs.NetRows.{net_row_is, no_net_row, HasNamesOnce, once
 use Rattle.image_tree.proofs.SlotsAfter.{none_counted, count_changed, looked_changed, count_filled, looked_filled_old, looked_filled_new, looked_in_blocks, count_in_blocks}
 
 -- rows that pass a test in two maps alike are counted alike
-pub count_alike : (p q : Key × ℕ → Bool) (rows other : FinMap key_cmp ℕ) → ((k : Key) (x : ℕ) → get rows k ≡ Some x → p (k, x) ≡ true → (get other k ≡ Some x) × (q (k, x) ≡ true)) → ((k : Key) (x : ℕ) → get other k ≡ Some x → q (k, x) ≡ true → (get rows k ≡ Some x) × (p (k, x) ≡ true)) → count_by p (entries rows) ≡ count_by q (entries other)
+pub count_alike : (p q : Key × ℕ → Bool) (rows other : FinMap key_cmp ℕ) →
+    ((k : Key) (x : ℕ) → get rows k ≡ Some x → p (k, x) ≡ true → (get other k ≡ Some x) × (q (k, x) ≡ true)) →
+    ((k : Key) (x : ℕ) → get other k ≡ Some x → q (k, x) ≡ true → (get rows k ≡ Some x) × (p (k, x) ≡ true)) →
+    count_by p (entries rows) ≡ count_by q (entries other)
 count_alike p q rows other forth back = count_paired p q (λ row. row) rows other (record {
   forth = forth;
   back = λ l y is passes. let b = back l y is passes in (l, y, b.0, b.1, refl);
@@ -101,7 +104,8 @@ module _ (num after : Numbering) (old new : TreeState) (x : ℕ) (net : List Net
         same : row_of old x n ≡ row_of new x n
         same = sym (old_row n) ∙ no_net_row (names_of x old.rows) (names_of x new.rows) net is_net n none ∙ later_row n
 
-        by_child : (o : Option ℕ) → row_of old x n ≡ o → slot_after after new net (option_map (row_on num old n) o) ≡ option_map (row_on after new n) (row_of new x n)
+        by_child : (o : Option ℕ) → row_of old x n ≡ o →
+            slot_after after new net (option_map (row_on num old n) o) ≡ option_map (row_on after new n) (row_of new x n)
         by_child None e = sym (ap (option_map (row_on after new n)) (sym same ∙ e))
         by_child (Some y) e =
             ap (λ o. option_map_or (brought_row after new) o (Some (row_on num old n y))) none
@@ -233,7 +237,8 @@ module _ (commit : Commit) (old new : TreeState) (image next : SeenInodes) (step
       by_way (had is) = some_same (sym a ∙ is)
       by_way (enters none _ _) = absurd (none_some (sym none ∙ a))
 
-  pub same_row : (d : ℕ) (n : List ℕ) (y : ℕ) → row_of old d n ≡ Some y → row_of new d n ≡ Some y → ◌≡◌ {A = Row} (row_on commit.before old n y) (row_on commit.after new n y)
+  pub same_row : (d : ℕ) (n : List ℕ) (y : ℕ) → row_of old d n ≡ Some y → row_of new d n ≡ Some y →
+      ◌≡◌ {A = Row} (row_on commit.before old n y) (row_on commit.after new n y)
   same_row d n y was now =
       let a = step.stands.named d n y was in
       let b = step.follows.named d n y now in

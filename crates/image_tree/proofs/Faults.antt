@@ -78,7 +78,8 @@ module _ (f : ℕ → Option TreeFault) where
   none_gathered a zero e k le lt = absurd (omega arith)
   none_gathered a (suc n) e k le lt = by_first (f a) refl e (none_gathered (a + 1) n)
     where
-      by_first : (o : Option TreeFault) → f a ≡ o → slice_get (cons_option o (filter_map f (range_with_len (a + 1) n))) 0 ≡ None → (slice_get (filter_map f (range_with_len (a + 1) n)) 0 ≡ None → (k : ℕ) → a + 1 ≤ k → k < a + 1 + n → f k ≡ None) → f k ≡ None
+      by_first : (o : Option TreeFault) → f a ≡ o → slice_get (cons_option o (filter_map f (range_with_len (a + 1) n))) 0 ≡ None →
+          (slice_get (filter_map f (range_with_len (a + 1) n)) 0 ≡ None → (k : ℕ) → a + 1 ≤ k → k < a + 1 + n → f k ≡ None) → f k ≡ None
       by_first (Some x) is e rest = absurd (none_some (sym e))
       by_first None is e rest = elim (nat_eq a k) as (λ b. nat_eq a k ≡ b → f k ≡ None) [
         | true ↦ λ u. ap f (sym (eqb-true _ _ u)) ∙ is
@@ -99,7 +100,8 @@ module _ (breaks : ℕ → ℕ → Bool) (count : ℕ) where
       unmapped (Some i) e = absurd (none_some (sym e))
 
 -- rows in slots of which none passes
-no_row_passes : (test : Row → Bool) (slots : List (Option Row)) → AllByRecursion (λ slot. option_map_or test slot false ≡ false) slots → list_any (λ slot. option_map_or test slot false) slots ≡ false
+no_row_passes : (test : Row → Bool) (slots : List (Option Row)) → AllByRecursion (λ slot. option_map_or test slot false ≡ false) slots →
+    list_any (λ slot. option_map_or test slot false) slots ≡ false
 no_row_passes test [] h = refl
 no_row_passes test (slot ∷ slots) h = ap (λ b. b || list_any (λ slot. option_map_or test slot false) slots) h.0 ∙ no_row_passes test slots h.1
 
@@ -109,7 +111,8 @@ every_row P h (None ∷ slots) = (refl, every_row P h slots)
 every_row P h (Some row ∷ slots) = (h row, every_row P h slots)
 
 -- a name that is counted stands in a slot
-counted_row : (test : Row → Bool) (n : List ℕ) → ((row : Row) → row.name ≡ n → test row ≡ true) → (slots : List (Option Row)) → 0 < name_count n slots → list_any (λ slot. option_map_or test slot false) slots ≡ true
+counted_row : (test : Row → Bool) (n : List ℕ) → ((row : Row) → row.name ≡ n → test row ≡ true) → (slots : List (Option Row)) →
+    0 < name_count n slots → list_any (λ slot. option_map_or test slot false) slots ≡ true
 counted_row test n h [] lt = absurd (omega arith)
 counted_row test n h (None ∷ slots) lt = counted_row test n h slots (let c = count_slot n None slots in omega arith)
 counted_row test n h (Some row ∷ slots) lt =
@@ -121,7 +124,8 @@ counted_row test n h (Some row ∷ slots) lt =
     ] refl
 
 -- rows that are not misplaced and do not name the root may stand
-may_stand : (image : SeenInodes) (slots : List (Option Row)) → list_any (λ slot. option_map_or (is_misplaced image) slot false) slots ≡ false → list_any (λ slot. option_map_or (λ (row : Row). nat_eq row.inode 0) slot false) slots ≡ false → AllByRecursion (MayStand image) slots
+may_stand : (image : SeenInodes) (slots : List (Option Row)) → list_any (λ slot. option_map_or (is_misplaced image) slot false) slots ≡ false →
+    list_any (λ slot. option_map_or (λ (row : Row). nat_eq row.inode 0) slot false) slots ≡ false → AllByRecursion (MayStand image) slots
 may_stand image [] a b = tt
 may_stand image (None ∷ slots) a b = (tt, may_stand image slots a b)
 may_stand image (Some row ∷ slots) a b = (here, may_stand image slots (or_second (is_misplaced image row) _ a) (or_second (nat_eq row.inode 0) _ b))
@@ -133,7 +137,8 @@ may_stand image (Some row ∷ slots) a b = (here, may_stand image slots (or_seco
       no_root = eqb-false _ _ (or_first (nat_eq row.inode 0) _ b);
     }
 
-placed : (image : SeenInodes) (slots : List (Option Row)) → AllByRecursion (MayStand image) slots → list_any (λ slot. option_map_or (is_misplaced image) slot false) slots ≡ false
+placed : (image : SeenInodes) (slots : List (Option Row)) → AllByRecursion (MayStand image) slots →
+    list_any (λ slot. option_map_or (is_misplaced image) slot false) slots ≡ false
 placed image [] h = refl
 placed image (None ∷ slots) h = placed image slots h.1
 placed image (Some row ∷ slots) h =
@@ -141,7 +146,8 @@ placed image (Some row ∷ slots) h =
     ∙ ap (λ b. not b || list_any (λ slot. option_map_or (is_misplaced image) slot false) slots) (eq-eqb _ _ h.0.kind)
     ∙ placed image slots h.1
 
-no_root_named : (image : SeenInodes) (slots : List (Option Row)) → AllByRecursion (MayStand image) slots → list_any (λ slot. option_map_or (λ (row : Row). nat_eq row.inode 0) slot false) slots ≡ false
+no_root_named : (image : SeenInodes) (slots : List (Option Row)) → AllByRecursion (MayStand image) slots →
+    list_any (λ slot. option_map_or (λ (row : Row). nat_eq row.inode 0) slot false) slots ≡ false
 no_root_named image [] h = refl
 no_root_named image (None ∷ slots) h = no_root_named image slots h.1
 no_root_named image (Some row ∷ slots) h = ap (λ b. b || list_any (λ slot. option_map_or (λ (row : Row). nat_eq row.inode 0) slot false) slots) (not_same _ _ h.0.no_root) ∙ no_root_named image slots h.1
@@ -221,7 +227,8 @@ module _ (image : SeenInodes) (breaks_byte_rule : ℕ → ℕ → Bool) (r : Kee
         used_some : (i : ℕ) → is_used image i ≡ true → (image.seen i).kind ≢ 0
         used_some i used free = not_both used (ap not (eq-eqb _ _ free))
 
-    no_rule_broken : ((rule i : ℕ) → 1 ≤ rule → rule ≤ BYTE_RULES → i < image.count → breaks_byte_rule rule i ≡ false) → (rule i : ℕ) → 1 ≤ rule → i < image.count → breaks_rule breaks_byte_rule image rule i ≡ false
+    no_rule_broken : ((rule i : ℕ) → 1 ≤ rule → rule ≤ BYTE_RULES → i < image.count → breaks_byte_rule rule i ≡ false) → (rule i : ℕ) → 1 ≤ rule →
+        i < image.count → breaks_rule breaks_byte_rule image rule i ≡ false
     no_rule_broken bytes rule i le lt = elim (nat_lt BYTE_RULES rule) as (λ b. nat_lt BYTE_RULES rule ≡ b → cond b (breaks_tree_rule image rule i) (breaks_byte_rule rule i) ≡ false) [
       | true ↦ λ t. tree_rules rule i lt
       | false ↦ λ t. bytes rule i le (ltb-false _ _ t) lt
@@ -234,7 +241,8 @@ no_fault_is_rules_kept image breaks_byte_rule r bytes = (
 )
 
 -- only what an inode in use has can break a rule across inodes
-breaks_nothing : (image : SeenInodes) (rule i : ℕ) → shows_directory (image.seen i) ≡ false → (is_used image i && has_wrong_links image i) ≡ false → breaks_tree_rule image rule i ≡ false
+breaks_nothing : (image : SeenInodes) (rule i : ℕ) → shows_directory (image.seen i) ≡ false → (is_used image i && has_wrong_links image i) ≡ false →
+    breaks_tree_rule image rule i ≡ false
 breaks_nothing image rule i other links =
     either_false (nat_eq rule 8) _ _ (no_directory (has_name_twice image i))
     (either_false (nat_eq rule 9) _ _ (no_directory (has_overfull_bucket image i))

@@ -47,7 +47,8 @@ given_is : (f : ℕ → Option TreeFault) (a n : ℕ) (x : TreeFault) → slice_
 given_is f a zero x e = absurd (none_some e)
 given_is f a (suc n) x e = by_first (f a) refl e (given_is f (a + 1) n x)
   where
-    by_first : (o : Option TreeFault) → f a ≡ o → slice_get (cons_option o (filter_map f (range_with_len (a + 1) n))) 0 ≡ Some x → (slice_get (filter_map f (range_with_len (a + 1) n)) 0 ≡ Some x → IsFirstGiven f (a + 1) n x) → IsFirstGiven f a (suc n) x
+    by_first : (o : Option TreeFault) → f a ≡ o → slice_get (cons_option o (filter_map f (range_with_len (a + 1) n))) 0 ≡ Some x →
+        (slice_get (filter_map f (range_with_len (a + 1) n)) 0 ≡ Some x → IsFirstGiven f (a + 1) n x) → IsFirstGiven f a (suc n) x
     by_first (Some y) is e rest = record { number = a; low = omega arith; high = omega arith; gives = is ∙ e; before = λ j le lt. absurd (omega arith) }
     by_first None is e rest =
         let r = rest e in
@@ -70,7 +71,8 @@ module _ (breaks : ℕ → ℕ → Bool) (count : ℕ) where
   of_rule : (rule : ℕ) (fault : TreeFault) → fault_by breaks count rule ≡ Some fault → IsOfRule rule fault
   of_rule rule fault e = by_found (find (breaks rule) (range_with_len 0 count)) refl e
     where
-      by_found : (o : Option ℕ) → find (breaks rule) (range_with_len 0 count) ≡ o → option_map (λ i. record { rule = rule; inode = i }) o ≡ Some fault → IsOfRule rule fault
+      by_found : (o : Option ℕ) → find (breaks rule) (range_with_len 0 count) ≡ o →
+          option_map (λ i. record { rule = rule; inode = i }) o ≡ Some fault → IsOfRule rule fault
       by_found None is e = absurd (none_some e)
       by_found (Some i) is e =
           let made : (record { rule = rule; inode = i }) ≡ fault = some_same e in

@@ -117,7 +117,8 @@ module _ (commit : Commit) (old new : TreeState) (image : SeenInodes) (rewrites 
   rests : (i : ℕ) → i < image.count → Rests i
   rests i lt = by_found (find (has_number commit.after i) concerned) refl
     where
-      left : (o : Option ℕ) → o ≡ None → (b : Bool) → list_any (has_number commit.before i) concerned ≡ b → option_map_or (seen_built commit new image rewrites i) o (cond (list_any (has_number commit.before i) concerned) blank (image.seen i)) ≡ cond b blank (image.seen i)
+      left : (o : Option ℕ) → o ≡ None → (b : Bool) → list_any (has_number commit.before i) concerned ≡ b →
+          option_map_or (seen_built commit new image rewrites i) o (cond (list_any (has_number commit.before i) concerned) blank (image.seen i)) ≡ cond b blank (image.seen i)
       left o none b e = ap (λ (p : Option ℕ). option_map_or (seen_built commit new image rewrites i) p (cond (list_any (has_number commit.before i) concerned) blank (image.seen i))) none ∙ ap (λ c. cond c blank (image.seen i)) e
 
       of_node : (node : ℕ) → commit.before node ≡ Some i → list_any (has_number commit.before i) concerned ≡ false → Rests i

@@ -101,7 +101,8 @@ module _ (make : NetRow → Option Row) (named : (row : NetRow) (made : Row) →
     pub looked : looked_up n (made_of net) ≡ made_at n net
     pub counted : name_count n (made_of net) ≡ one_if_some (made_at n net)
 
-  absent : (n : List ℕ) (row : NetRow) (rows : List NetRow) (o : Option Row) → make row ≡ o → bytes_eq n row.name ≡ false → StandsOnce n rows → (looked_up n (map Some (cons_option o (filter_map make rows))) ≡ made_at n rows) × (name_count n (map Some (cons_option o (filter_map make rows))) ≡ one_if_some (made_at n rows))
+  absent : (n : List ℕ) (row : NetRow) (rows : List NetRow) (o : Option Row) → make row ≡ o → bytes_eq n row.name ≡ false → StandsOnce n rows →
+      (looked_up n (map Some (cons_option o (filter_map make rows))) ≡ made_at n rows) × (name_count n (map Some (cons_option o (filter_map make rows))) ≡ one_if_some (made_at n rows))
   absent n row rows None is other rest = (rest.looked, rest.counted)
   absent n row rows (Some made) is other rest =
       let test : bytes_eq n made.name ≡ false = ap (bytes_eq n) (named row made is) ∙ other in
@@ -110,7 +111,9 @@ module _ (make : NetRow → Option Row) (named : (row : NetRow) (made : Row) →
       let e = rest.counted in
       (ap (λ b. cond b (Some made) (looked_up n (made_of rows))) test ∙ rest.looked, omega arith)
 
-  present : (n : List ℕ) (row : NetRow) (rows : List NetRow) (o : Option Row) → make row ≡ o → bytes_eq n row.name ≡ true → row_in_net n rows ≡ None → StandsOnce n rows → (looked_up n (map Some (cons_option o (filter_map make rows))) ≡ make row) × (name_count n (map Some (cons_option o (filter_map make rows))) ≡ one_if_some (make row))
+  present : (n : List ℕ) (row : NetRow) (rows : List NetRow) (o : Option Row) → make row ≡ o → bytes_eq n row.name ≡ true → row_in_net n rows ≡ None →
+      StandsOnce n rows →
+      (looked_up n (map Some (cons_option o (filter_map make rows))) ≡ make row) × (name_count n (map Some (cons_option o (filter_map make rows))) ≡ one_if_some (make row))
   present n row rows None is here none rest =
       (rest.looked ∙ ap (option_and_then make) none ∙ sym is, rest.counted ∙ ap (λ o. one_if_some (option_and_then make o)) none ∙ sym (ap one_if_some is))
   present n row rows (Some made) is here none rest =

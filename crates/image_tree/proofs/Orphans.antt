@@ -122,7 +122,8 @@ module _ (image next : SeenInodes) (k : KeepsRules image) (g : ShowsByKind image
       not_both e = cc
 
   -- an inode that a row names stays
-  named_stays : (d : ℕ) → IsDirectoryInode image d → (row : Row) → looked_up row.name (image.seen d).slots ≡ Some row → next.seen row.inode ≡ image.seen row.inode
+  named_stays : (d : ℕ) → IsDirectoryInode image d → (row : Row) → looked_up row.name (image.seen d).slots ≡ Some row →
+      next.seen row.inode ≡ image.seen row.inode
   named_stays d is row found =
       let may = looked_may image row.name (image.seen d).slots row (k.children d is) found in
       f.others row.inode may.within (not_orphan (is_orphan image row.inode) refl)

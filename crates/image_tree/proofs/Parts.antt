@@ -156,7 +156,8 @@ module _ (store : ℕ → List ℕ) (raws : ℕ → List ℕ) (count : ℕ) wher
         by_number (suc (suc (suc n))) some le = absurd (omega arith)
 
     module _ (sizes : (i : ℕ) → i < count → breaks_size (parts i) ≡ false) where
-      directory_size : (i : ℕ) → i < count → kind_at i ≡ kind_byte Directory → ((inode_in (parts i)).size % 4096 ≡ 0) × ((inode_in (parts i)).size ≤ 4096 * DIRECTORY_BLOCKS)
+      directory_size : (i : ℕ) → i < count → kind_at i ≡ kind_byte Directory →
+          ((inode_in (parts i)).size % 4096 ≡ 0) × ((inode_in (parts i)).size ≤ 4096 * DIRECTORY_BLOCKS)
       directory_size i lt kind =
           let size = (inode_in (parts i)).size in
           let here = or_second (is_file_part (parts i) && nat_lt (4096 * FILE_BLOCKS) (inode_in (parts i)).size) _ (sizes i lt) in

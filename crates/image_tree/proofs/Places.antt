@@ -24,7 +24,8 @@ true_le : (a b : ℕ) → nat_le a b ≡ true → a ≤ b
 true_le a b t = grind (arith, nat_tests)
 
 -- a row stays where it stands while others fill up
-filled_stays : (slots : List (Option Row)) (rows : List Row) (k : ℕ) (row : Row) → slice_get slots k ≡ Some (Some row) → slice_get (filled slots rows) k ≡ Some (Some row)
+filled_stays : (slots : List (Option Row)) (rows : List Row) (k : ℕ) (row : Row) → slice_get slots k ≡ Some (Some row) →
+    slice_get (filled slots rows) k ≡ Some (Some row)
 filled_stays [] rows k row is = absurd (none_some is)
 filled_stays (slot ∷ slots) [] k row is = is
 filled_stays (None ∷ slots) (r ∷ rows) zero row is = absurd (none_some (some_same is))
@@ -38,7 +39,8 @@ all_have_rows (row ∷ rows) zero is = none_some (sym (some_same is))
 all_have_rows (row ∷ rows) (suc k) is = all_have_rows rows k is
 
 -- behind a slot that stays empty nothing was filled
-filled_lowest : (slots : List (Option Row)) (rows : List Row) (k j : ℕ) → slice_get (filled slots rows) k ≡ Some None → k < j → slice_get (filled slots rows) j ≡ slice_get slots j
+filled_lowest : (slots : List (Option Row)) (rows : List Row) (k j : ℕ) → slice_get (filled slots rows) k ≡ Some None → k < j →
+    slice_get (filled slots rows) j ≡ slice_get slots j
 filled_lowest [] rows k j is lt = absurd (all_have_rows rows k is)
 filled_lowest (slot ∷ slots) [] k j is lt = refl
 filled_lowest (None ∷ slots) (row ∷ rows) zero j is lt = absurd (none_some (sym (some_same is)))

@@ -81,7 +81,8 @@ unfolding rank
 rank_none takes = refl
 
 -- a place in the row is that of its inode
-place_takes : (rewrites : List Rewrite) (m place : ℕ) (rewrite : Rewrite) → slice_get rewrites m ≡ Some rewrite → place < PLACES → takes_in_row rewrites (place_in_row m place) ≡ takes_place rewrite place
+place_takes : (rewrites : List Rewrite) (m place : ℕ) (rewrite : Rewrite) → slice_get rewrites m ≡ Some rewrite → place < PLACES →
+    takes_in_row rewrites (place_in_row m place) ≡ takes_place rewrite place
 place_takes rewrites m place rewrite is small =
     let quotient : (PLACES * m + place) / PLACES ≡ m = omega arith in
     let remainder : (PLACES * m + place) % PLACES ≡ place = omega arith in
@@ -95,7 +96,8 @@ ranks_go_on rewrites m place rewrite is le = go place le
     next : (place : ℕ) → PLACES * m + suc place ≡ suc (PLACES * m + place)
     next place = omega arith
 
-    go : (place : ℕ) → place ≤ PLACES → rank (takes_in_row rewrites) (place_in_row m place) ≡ rank (takes_in_row rewrites) (place_in_row m 0) + rank (takes_place rewrite) place
+    go : (place : ℕ) → place ≤ PLACES →
+        rank (takes_in_row rewrites) (place_in_row m place) ≡ rank (takes_in_row rewrites) (place_in_row m 0) + rank (takes_place rewrite) place
     go zero le = let a = rank_none (takes_place rewrite) in omega arith
     go (suc place) le =
         let rest = go place (omega arith) in
@@ -114,17 +116,20 @@ module _ (commit : Commit) (i place : ℕ) (r : Rewrite) (old new : Seen) where
   abbrev Has : Type 0
   Has = HasBlock commit i place old new
 
-  at_block : (rewritten empty : Bool) → new.blocks place ≡ cond rewritten (cond empty 0 (commit.fresh i place)) (r.pointers place) → commit.takes i place ≡ (rewritten && not empty) → r.pointers place ≡ old.blocks place → Has
+  at_block : (rewritten empty : Bool) → new.blocks place ≡ cond rewritten (cond empty 0 (commit.fresh i place)) (r.pointers place) →
+      commit.takes i place ≡ (rewritten && not empty) → r.pointers place ≡ old.blocks place → Has
   at_block true true after takes before = hole after
   at_block true false after takes before = fresh takes after
   at_block false empty after takes before = kept (after ∙ before)
 
-  at_table : (rewritten some : Bool) → new.blocks place ≡ cond rewritten (cond some (commit.fresh i place) 0) (r.pointers place) → commit.takes i place ≡ (rewritten && some) → r.pointers place ≡ old.blocks place → Has
+  at_table : (rewritten some : Bool) → new.blocks place ≡ cond rewritten (cond some (commit.fresh i place) 0) (r.pointers place) →
+      commit.takes i place ≡ (rewritten && some) → r.pointers place ≡ old.blocks place → Has
   at_table true true after takes before = fresh takes after
   at_table true false after takes before = hole after
   at_table false some after takes before = kept (after ∙ before)
 
-  pub pointer_has_block : new.blocks place ≡ pointer_after r (commit.fresh i) place → commit.takes i place ≡ takes_place r place → r.pointers place ≡ old.blocks place → Has
+  pub pointer_has_block : new.blocks place ≡ pointer_after r (commit.fresh i) place → commit.takes i place ≡ takes_place r place →
+      r.pointers place ≡ old.blocks place → Has
   pointer_has_block after takes before =
       elim (nat_lt place FILE_BLOCKS) as (λ b. new.blocks place ≡ cond b (cond (r.is_rewritten place) (cond (r.is_zero place) 0 (commit.fresh i place)) (r.pointers place)) (cond (rewrites_table r (place - FILE_BLOCKS)) (cond (table_has_pointer r (place - FILE_BLOCKS)) (commit.fresh i place) 0) (r.pointers place)) → commit.takes i place ≡ cond b (r.is_rewritten place && not (r.is_zero place)) (rewrites_table r (place - FILE_BLOCKS) && table_has_pointer r (place - FILE_BLOCKS)) → Has) [
         | true ↦ λ a k. at_block (r.is_rewritten place) (r.is_zero place) a k before
@@ -164,7 +169,8 @@ module _ (commit : Commit) (image next : SeenInodes) (inodes : List ℕ) (rewrit
           ∙ sym (t.takes i m place rewrite is small)
           ∙ taken
 
-  has_block : (node i place : ℕ) → place < PLACES → commit.after node ≡ Some i → commit.concerns node ≡ true → HasBlock commit i place (seen_before commit image node) (next.seen i)
+  has_block : (node i place : ℕ) → place < PLACES → commit.after node ≡ Some i → commit.concerns node ≡ true →
+      HasBlock commit i place (seen_before commit image node) (next.seen i)
   has_block node i place small is concerned =
       let l = t.listed node i is concerned in
       pointer_has_block commit i place l.1 (seen_before commit image node) (next.seen i) (t.after i l.0 place l.1 l.2 small) (t.takes i l.0 place l.1 l.2 small) (t.before node i l.0 place l.1 is l.2)

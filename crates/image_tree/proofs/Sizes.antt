@@ -37,7 +37,8 @@ taken_rows [] = refl
 taken_rows (row ∷ rows) = let a = count-cons is_some (Some row) (map Some rows) in let b = taken_rows rows in omega arith
 
 -- slots that are filled up are as many as before, or all have rows
-length_filled : (slots : List (Option Row)) (rows : List Row) → (length (filled slots rows) ≤ length slots) ⊎ (length (filled slots rows) ≤ taken (filled slots rows))
+length_filled : (slots : List (Option Row)) (rows : List Row) →
+    (length (filled slots rows) ≤ length slots) ⊎ (length (filled slots rows) ≤ taken (filled slots rows))
 length_filled [] rows = inr (let a = taken_rows rows in let b = length-map rows Some in omega arith)
 length_filled (slot ∷ slots) [] = inl (omega arith)
 length_filled (None ∷ slots) (row ∷ rows) = elim (length_filled slots rows) [
@@ -56,7 +57,8 @@ rows_end-le (slot ∷ slots) =
     elim (is_none slot && nat_eq (rows_end slots) 0) as (λ b. cond b 0 (suc (rows_end slots)) ≤ suc (length slots)) [ true ↦ omega arith | false ↦ omega arith ]
 
 -- slots that have each name once have no more rows than a map with all their names
-taken-le : (slots : List (Option Row)) (names : FinMap name_cmp ℕ) → ((n : List ℕ) → name_count n slots ≤ 1) → ((row : Row) → looked_up row.name slots ≡ Some row → IsSome (get names row.name)) → taken slots ≤ len names
+taken-le : (slots : List (Option Row)) (names : FinMap name_cmp ℕ) → ((n : List ℕ) → name_count n slots ≤ 1) →
+    ((row : Row) → looked_up row.name slots ≡ Some row → IsSome (get names row.name)) → taken slots ≤ len names
 taken-le [] names once there = omega arith
 taken-le (None ∷ slots) names once there =
     let a = count-cons is_some None slots in
@@ -143,7 +145,8 @@ module _ (d : ℕ) where
   abbrev in_all : List (Key × ℕ) → ℕ
   in_all es = length (filter_map (name_row d (λ _. true)) es)
 
-  more_or_not : (b t : Bool) (row : List ℕ × ℕ) (rest : List (List ℕ × ℕ)) → length (cons_option (cond (b && t) (Some row) None) rest) ≡ cond b (cond t 1 0) 0 + length rest
+  more_or_not : (b t : Bool) (row : List ℕ × ℕ) (rest : List (List ℕ × ℕ)) →
+      length (cons_option (cond (b && t) (Some row) None) rest) ≡ cond b (cond t 1 0) 0 + length rest
   more_or_not true true row rest = omega arith
   more_or_not true false row rest = omega arith
   more_or_not false t row rest = omega arith
@@ -162,7 +165,8 @@ module _ (d : ℕ) where
       own_bucket true = one_of_eight (bucket e.0.1) (bucket_small e.0.1)
       own_bucket false = refl
 
-  pub rows-le : (rows : FinMap key_cmp ℕ) → ((number : ℕ) → number < 8 → len (bucket_rows d number rows) ≤ BUCKET_ROWS) → len (names_of d rows) ≤ 8 * BUCKET_ROWS
+  pub rows-le : (rows : FinMap key_cmp ℕ) → ((number : ℕ) → number < 8 → len (bucket_rows d number rows) ≤ BUCKET_ROWS) →
+      len (names_of d rows) ≤ 8 * BUCKET_ROWS
   unfolding sum_of_eight
   rows-le rows full =
       let all : len (names_of d rows) ≡ in_all (entries rows) = len-entries _ ∙ ap length (entries-names_where d (λ _. true) rows) in

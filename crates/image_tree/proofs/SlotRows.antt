@@ -58,7 +58,8 @@ OnRow P None = Unit {0}
 OnRow P (Some row) = P row
 
 -- where each name stands once, what holds of all that is looked up holds of each slot
-pub each_found : (P : Row → Type 0) (slots : List (Option Row)) → ((n : List ℕ) → name_count n slots ≤ 1) → ((row : Row) → looked_up row.name slots ≡ Some row → P row) → AllByRecursion (OnRow P) slots
+pub each_found : (P : Row → Type 0) (slots : List (Option Row)) → ((n : List ℕ) → name_count n slots ≤ 1) →
+    ((row : Row) → looked_up row.name slots ≡ Some row → P row) → AllByRecursion (OnRow P) slots
 each_found P [] once h = tt
 each_found P (slot ∷ slots) once h = (first slot h, each_found P slots (λ n. fewer n (once n)) (λ row is. h row (behind row is)))
   where

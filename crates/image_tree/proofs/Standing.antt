@@ -30,7 +30,8 @@ use Rattle.image_tree.proofs.SlotRows.{OnRow, each_found}
 use Rattle.image_tree.proofs.Images.{row_shown, no_row_shown, slot_back, node_is, directory_is_node, file_is_node, directory_shown, kind_again}
 
 -- a row of which there is only one is counted once at most
-pub counted_once : (p : Key × ℕ → Bool) (rows : FinMap key_cmp ℕ) → ((k l : Key) (x y : ℕ) → get rows k ≡ Some x → p (k, x) ≡ true → get rows l ≡ Some y → p (l, y) ≡ true → k ≡ l) → count_by p (entries rows) ≤ 1
+pub counted_once : (p : Key × ℕ → Bool) (rows : FinMap key_cmp ℕ) →
+    ((k l : Key) (x y : ℕ) → get rows k ≡ Some x → p (k, x) ≡ true → get rows l ≡ Some y → p (l, y) ≡ true → k ≡ l) → count_by p (entries rows) ≤ 1
 counted_once p rows once = by_count (count_by p (entries rows)) refl
   where
     by_count : (n : ℕ) → count_by p (entries rows) ≡ n → count_by p (entries rows) ≤ 1
@@ -41,7 +42,8 @@ counted_once p rows once = by_count (count_by p (entries rows)) refl
         let rest : count_by p (entries (remove rows f.row.0)) ≡ 0 = count_none p (remove rows f.row.0) (λ k x is. alone f.row.0 f.row.1 f.there f.passes k x is (p (k, x)) refl) in
         one_or_none (p (f.row.0, f.row.1)) (omega arith)
       where
-        alone : (l : Key) (y : ℕ) → get rows l ≡ Some y → p (l, y) ≡ true → (k : Key) (x : ℕ) → get (remove rows l) k ≡ Some x → (b : Bool) → p (k, x) ≡ b → p (k, x) ≡ false
+        alone : (l : Key) (y : ℕ) → get rows l ≡ Some y → p (l, y) ≡ true → (k : Key) (x : ℕ) → get (remove rows l) k ≡ Some x → (b : Bool) →
+            p (k, x) ≡ b → p (k, x) ≡ false
         alone l y there passes k x is false t = t
         alone l y there passes k x is true t = let was = stayed rows l k x is in absurd (was.0 (once k l x y was.1 t there passes))
 
@@ -77,7 +79,8 @@ byte_directory File = refl
 byte_directory Directory = refl
 
 -- a directory with a row has a number
-pub holder_number : (num : Numbering) (tree : TreeState) (image : SeenInodes) → IsSound tree → StandsForTree num tree image → (d : ℕ) (n : List ℕ) (x : ℕ) → row_of tree d n ≡ Some x → HasNumber num d
+pub holder_number : (num : Numbering) (tree : TreeState) (image : SeenInodes) → IsSound tree → StandsForTree num tree image →
+    (d : ℕ) (n : List ℕ) (x : ℕ) → row_of tree d n ≡ Some x → HasNumber num d
 holder_number num tree image s st d n x row = elim (alive_named tree d (s.holds d n x row).1) [
   | inl is ↦ subst (HasNumber num) (sym is) (0, st.root)
   | inr name ↦ st.named name.directory name.name d name.row
@@ -230,7 +233,8 @@ module _ (num : Numbering) (tree : TreeState) (image : SeenInodes) (s : IsSound 
     reached = λ i is. let x = node_of_directory num tree image NOTHING_MADE s st i is in reached_shown num tree image NOTHING_MADE s st may x.0 i x.1 x.2;
   }
     where
-      len_part : (test : List ℕ → Bool) (x i : ℕ) → num x ≡ Some i → len (Rattle.sfs_tree.specs.Tree.names_where i test (image_rows image)) ≡ len (Rattle.sfs_tree.specs.Tree.names_where x test tree.rows)
+      len_part : (test : List ℕ → Bool) (x i : ℕ) → num x ≡ Some i →
+          len (Rattle.sfs_tree.specs.Tree.names_where i test (image_rows image)) ≡ len (Rattle.sfs_tree.specs.Tree.names_where x test tree.rows)
       len_part test x i is =
           len-entries _ ∙ ap length (part_renamed num tree (ruled_tree image) (shown_renamed num tree image NOTHING_MADE s st) test x i is) ∙ length-map (entries (Rattle.sfs_tree.specs.Tree.names_where x test tree.rows)) (with_value (inode_under num)) ∙ sym (len-entries _)
 

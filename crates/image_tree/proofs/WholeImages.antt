@@ -70,7 +70,8 @@ module _ (image : List ℕ) where
     faultless : KeepsRules inodes → fault_of image ≡ None
     faultless k = by_faults (super_fault_of image) (journal_fault_of layout image) (tree_fault (breaks_bytes_of image) inodes) g.super g.journals (no_tree_fault k)
       where
-        by_faults : (super : Option ℕ) (journal : Option SlotFault) (tree : Option TreeFault) → super ≡ None → journal ≡ None → tree ≡ None → first_of_faults super journal tree ≡ None
+        by_faults : (super : Option ℕ) (journal : Option SlotFault) (tree : Option TreeFault) → super ≡ None → journal ≡ None → tree ≡ None →
+            first_of_faults super journal tree ≡ None
         by_faults None None None a b c = refl
         by_faults (Some at) journal tree a b c = absurd (none_some (sym a))
         by_faults None (Some slot) tree a b c = absurd (none_some (sym b))
@@ -85,7 +86,8 @@ module _ (image : List ℕ) where
   parts_of_none : fault_of image ≡ None → IsFaultless
   parts_of_none e = by_faults (super_fault_of image) (journal_fault_of layout image) (tree_fault (breaks_bytes_of image) inodes) refl refl refl e
     where
-      by_faults : (super : Option ℕ) (journal : Option SlotFault) (tree : Option TreeFault) → super_fault_of image ≡ super → journal_fault_of layout image ≡ journal → tree_fault (breaks_bytes_of image) inodes ≡ tree → first_of_faults super journal tree ≡ None → IsFaultless
+      by_faults : (super : Option ℕ) (journal : Option SlotFault) (tree : Option TreeFault) → super_fault_of image ≡ super →
+          journal_fault_of layout image ≡ journal → tree_fault (breaks_bytes_of image) inodes ≡ tree → first_of_faults super journal tree ≡ None → IsFaultless
       by_faults None None None a b c e = record { super = a; journals = b; tree = c }
       by_faults (Some at) journal tree a b c e = absurd (none_some (sym e))
       by_faults None (Some slot) tree a b c e = absurd (none_some (sym e))
@@ -124,7 +126,9 @@ module _ (image : List ℕ) where
           nothing : {X : Type 0} (o : Option X) → o ≡ None → IsSome o → ⊥
           nothing o none some = cc
 
-  no_fault : (share : ℕ) (tree : TreeState) (o : Option ImageFault) → fault_of image ≡ o → cond (is_none o) (Some (image_tree inodes (making_at_mount image share))) None ≡ Some tree → (fault_of image ≡ None) × (image_tree inodes (making_at_mount image share) ≡ tree)
+  no_fault : (share : ℕ) (tree : TreeState) (o : Option ImageFault) → fault_of image ≡ o →
+      cond (is_none o) (Some (image_tree inodes (making_at_mount image share))) None ≡ Some tree →
+      (fault_of image ≡ None) × (image_tree inodes (making_at_mount image share) ≡ tree)
   no_fault share tree None e is = (e, some_same is)
   no_fault share tree (Some fault) e is = absurd (none_some is)
 
@@ -173,7 +177,8 @@ standing_images_are_read image share num tree h is =
     }
 
 -- inodes stand for what others stand for that show the same
-stands_alike : (num : Numbering) (tree : TreeState) (image other : SeenInodes) → other.count ≡ image.count → ((i : ℕ) → i < other.count → other.seen i ≡ image.seen i) → StandsForTree num tree image → StandsForTree num tree other
+stands_alike : (num : Numbering) (tree : TreeState) (image other : SeenInodes) → other.count ≡ image.count →
+    ((i : ℕ) → i < other.count → other.seen i ≡ image.seen i) → StandsForTree num tree image → StandsForTree num tree other
 stands_alike num tree image other count same st = record {
   root = st.root;
   once = st.once;
