@@ -25,7 +25,8 @@ use Rattle.image_tree.specs.Laws.{NoFaultIsRulesKept, FreeInodesBreakNoTreeRule,
 use Rattle.sfs_base.proofs.BasicNumbers.{not_below, not_same}
 use Rattle.sfs_base.proofs.BasicTruth.{or_first, or_second, or_true, not_false, then_false, not_both}
 use Rattle.sfs_base.proofs.BasicOptions.{none_some}
-use Rattle.image_tree.proofs.SlotRows.{bytes_are, count_slot}
+use Rattle.sfs_base.proofs.BasicLists.{bytes_same}
+use Rattle.image_tree.proofs.SlotRows.{count_slot}
 use Rattle.image_tree.proofs.Images.{directory_shown}
 use Rattle.image_tree.proofs.Mounted.{sound_shown}
 
@@ -117,7 +118,7 @@ counted_row test n h [] lt = absurd (omega arith)
 counted_row test n h (None ∷ slots) lt = counted_row test n h slots (let c = count_slot n None slots in omega arith)
 counted_row test n h (Some row ∷ slots) lt =
     elim (bytes_eq n row.name) as (λ b. bytes_eq n row.name ≡ b → (test row || list_any (λ slot. option_map_or test slot false) slots) ≡ true) [
-      | true ↦ λ t. ap (λ b. b || list_any (λ slot. option_map_or test slot false) slots) (h row (sym (bytes_are n row.name t)))
+      | true ↦ λ t. ap (λ b. b || list_any (λ slot. option_map_or test slot false) slots) (h row (sym (bytes_same n row.name t)))
       | false ↦ λ t.
           let c : name_count n (Some row ∷ slots) ≡ 0 + name_count n slots = count_slot n (Some row) slots ∙ ap (λ b. cond b 1 0 + name_count n slots) t in
           ap (λ b. test row || b) (counted_row test n h slots (omega arith)) ∙ or_true (test row)

@@ -24,7 +24,7 @@ use Rattle.image_tree.specs.LinkChanges.{NetChange, net_changes, counted_row, ga
 use Rattle.image_tree.specs.Laws.{NetsGiveLinks}
 use Rattle.sfs_base.proofs.BasicTruth.{not_both}
 use Rattle.sfs_base.proofs.BasicOptions.{none_some}
-use Rattle.image_tree.proofs.SlotRows.{bytes_same, bytes_are}
+use Rattle.sfs_base.proofs.BasicLists.{bytes_same, same_bytes}
 use Rattle.image_tree.proofs.NetRows.{no_net_row, HasNamesOnce, once_ascending}
 use Rattle.image_tree.proofs.Standing.{kind_directory}
 
@@ -148,7 +148,7 @@ no_change d n [] none = tt
 no_change d n (row ∷ rows) none =
     elim (bytes_eq n row.name) as (λ b. bytes_eq n row.name ≡ b → cond b (Some row) (row_in_net n rows) ≡ None → NotAmong (d, n) (in_directory d (row ∷ rows))) [
       | true ↦ λ t e. absurd (none_some (sym e))
-      | false ↦ λ t e. (λ same. not_both (ap (bytes_eq n) (ap (λ (z : Key). z.1) same) ∙ bytes_same n) t, no_change d n rows e)
+      | false ↦ λ t e. (λ same. not_both (ap (bytes_eq n) (ap (λ (z : Key). z.1) same) ∙ same_bytes n) t, no_change d n rows e)
     ] refl none
 
 change_none : (d : ℕ) (n : List ℕ) (net : List NetRow) → NotAmong (d, n) (in_directory d net) → row_in_net n net ≡ None
@@ -156,7 +156,7 @@ unfolding NotAmong
 change_none d n [] apart = refl
 change_none d n (row ∷ rows) apart =
     elim (bytes_eq n row.name) as (λ b. bytes_eq n row.name ≡ b → cond b (Some row) (row_in_net n rows) ≡ None) [
-      | true ↦ λ t. absurd (apart.0 (ap (λ (m : List ℕ). (d, m)) (sym (bytes_are n row.name t))))
+      | true ↦ λ t. absurd (apart.0 (ap (λ (m : List ℕ). (d, m)) (sym (bytes_same n row.name t))))
       | false ↦ λ t. change_none d n rows apart.1
     ] refl
 

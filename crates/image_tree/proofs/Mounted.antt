@@ -15,7 +15,7 @@ use Rattle.sfs_tree.specs.Tree.{BUCKET_ROWS, TreeState, Node, row_of, is_directo
 use Rattle.sfs_tree.specs.Sound.{Above, at_root, below, IsSound, IsWithinLimits}
 use Rattle.sfs_tree.proofs.Counting.{count_some, count_agree, only}
 use Rattle.sfs_tree.proofs.Joined.{name_cmp-IsAntisymmetric, bucket_small}
-use Rattle.sfs_base.proofs.BasicNumbers.{not_same}
+use Rattle.sfs_base.proofs.BasicNumbers.{not_same, some_counted}
 use Rattle.sfs_tree.proofs.Names.{get-names_where}
 use Rattle.sfs_tree.proofs.RowFacts.{root_alive, named_alive}
 use Rattle.sfs_image.specs.Slot.{Row, kind_byte}
@@ -87,10 +87,7 @@ module _ (image : SeenInodes) (k : KeepsRules image) (chosen : ℕ → Bool) (di
 
   chosen_child : (d : ℕ) (n : List ℕ) (x : ℕ) → row_of tree d n ≡ Some x → (kind : Kind) → (image.seen x).kind ≡ kind_byte kind → chosen x ≡ true
   chosen_child d n x row Directory is = directories x is
-  chosen_child d n x row File is = files x is (more (named_count d n x row))
-    where
-      more : {c : ℕ} → 0 < c → c ≢ 0
-      more lt e = omega arith
+  chosen_child d n x row File is = files x is (some_counted (named_count d n x row))
 
   one_row : (x : ℕ) (d e : ℕ) (n m : List ℕ) → row_of tree d n ≡ Some x → row_of tree e m ≡ Some x → count_of (image_rows image) x ≤ 1 → (d ≡ e) × (n ≡ m)
   one_row x d e n m first second le =

@@ -22,8 +22,9 @@ use Rattle.image_tree.specs.Stands.{row_on}
 use Rattle.image_tree.specs.Commit.{slot_after, new_rows, filled, slots_after, Commit, blank, seen_before, ComesBy, had, enters, IsCommitStep}
 use Rattle.image_tree.specs.Sizes.{DirectoriesFit}
 use Rattle.image_tree.specs.Laws.{CommitsKeepDirectoriesFit}
-use Rattle.sfs_base.proofs.BasicOptions.{none_some}
-use Rattle.image_tree.proofs.SlotRows.{bytes_same, bytes_are, count_slot, looked_counts}
+use Rattle.sfs_base.proofs.BasicOptions.{none_some, none_not_some}
+use Rattle.sfs_base.proofs.BasicLists.{bytes_same, same_bytes}
+use Rattle.image_tree.proofs.SlotRows.{count_slot, looked_counts}
 use Rattle.image_tree.proofs.SlotsAfter.{looked_in_blocks, count_in_blocks, length_in_blocks}
 use Rattle.image_tree.proofs.Standing.{not_used}
 use Rattle.image_tree.proofs.Committed.{has_slots_after, slots_before, same_row, number_within}
@@ -75,7 +76,7 @@ taken-le (Some first ∷ slots) names once there =
 
     alone : name_count first.name slots ≡ 0
     alone =
-        let c : name_count first.name (Some first ∷ slots) ≡ 1 + name_count first.name slots = count_slot first.name (Some first) slots ∙ ap (λ b. cond b 1 0 + name_count first.name slots) (bytes_same first.name) in
+        let c : name_count first.name (Some first ∷ slots) ≡ 1 + name_count first.name slots = count_slot first.name (Some first) slots ∙ ap (λ b. cond b 1 0 + name_count first.name slots) (same_bytes first.name) in
         let d = once first.name in
         omega arith
 
@@ -85,7 +86,7 @@ taken-le (Some first ∷ slots) names once there =
         by_test : (b : Bool) → bytes_eq row.name first.name ≡ b → b ≡ false
         by_test false t = refl
         by_test true t =
-            let none : name_count row.name slots ≡ 0 = ap (λ n. name_count n slots) (bytes_are row.name first.name t) ∙ alone in
+            let none : name_count row.name slots ≡ 0 = ap (λ n. name_count n slots) (bytes_same row.name first.name t) ∙ alone in
             let some = looked_counts row.name slots row is in
             absurd (omega arith)
 
@@ -95,13 +96,10 @@ taken-le (Some first ∷ slots) names once there =
         (there row (ap (λ b. cond b (Some first) (looked_up row.name slots)) (apart row is) ∙ is))
 
     here : IsSome (get names first.name)
-    here = there first (ap (λ b. cond b (Some first) (looked_up first.name slots)) (bytes_same first.name))
+    here = there first (ap (λ b. cond b (Some first) (looked_up first.name slots)) (same_bytes first.name))
 
     some_names : len names ≢ 0
-    some_names none = nothing (get names first.name) (ap (λ (m : FinMap name_cmp ℕ). get m first.name) (empty_of_len names none) ∙ get-empty name_cmp first.name) here
-      where
-        nothing : (o : Option ℕ) → o ≡ None → IsSome o → ⊥
-        nothing o none some = cc
+    some_names none = none_not_some (get names first.name) (ap (λ (m : FinMap name_cmp ℕ). get m first.name) (empty_of_len names none) ∙ get-empty name_cmp first.name) here
 
     fewer_names : len names ≡ suc (len (remove names first.name))
     fewer_names =

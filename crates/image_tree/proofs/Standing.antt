@@ -1,4 +1,5 @@
 -- An image that stands for a sound tree shows that tree, and keeps the rules.
+use Rattle.sfs_base.proofs.BasicNumbers.{some_counted}
 use Rattle.std.proofs.Common.{◌≡◌, ◌≢◌, ℕ, zero, suc, ◌+◌, ◌<◌, ◌≤◌, Bool, true, false, cond, length, List, [], ◌∷◌, Option, Some, None, option_map, IsSome, inl, inr, refl, sym, ap, subst, ◌∙◌, arith, count_by, nat_eq}
 use borrow.Author.Tests.{eqb-true, eq-eqb}
 use Rattle.std.specs.List.{AllByRecursion}
@@ -150,9 +151,6 @@ module _ (num : Numbering) (tree : TreeState) (image : SeenInodes) (making : Mak
     nodes = λ x i is met. by_met x i is met;
   }
     where
-      some_counted : {n : ℕ} → 0 < n → n ≢ 0
-      some_counted lt e = omega arith
-
       as_file : (x i : ℕ) → num x ≡ Some i → (d : ℕ) (n : List ℕ) → row_of tree d n ≡ Some x → (k : Kind) → kind_of tree x ≡ k → is_node image i ≡ true
       as_file x i is d n row Directory e = directory_is_node image i ((st.each x i is).kind ∙ ap kind_byte e)
       as_file x i is d n row File e =

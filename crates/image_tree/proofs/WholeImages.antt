@@ -31,7 +31,7 @@ use Rattle.image_tree.specs.Keeps.{KeepsRules}
 use Rattle.image_tree.specs.Rules.{TreeFault, tree_fault, breaks_rule, KeepsByteRules}
 use Rattle.image_tree.specs.Mount.{ShowsByKind}
 use Rattle.image_tree.specs.Laws.{TreesOfImagesAreMounted, StandingImagesAreRead, StandingPartsAreRead}
-use Rattle.sfs_base.proofs.BasicOptions.{none_some, some_same}
+use Rattle.sfs_base.proofs.BasicOptions.{none_some, some_same, none_not_some}
 use Rattle.image_tree.proofs.Images.{no_node_outside, directory_is_node}
 use Rattle.image_tree.proofs.Faults.{no_break, no_fault_is_rules_kept}
 use Rattle.image_tree.proofs.Mounted.{sound_shown, limits_where, rules_make_standing}
@@ -120,11 +120,8 @@ module _ (image : List ℕ) where
       below : (node : ℕ) → IsSome (get (image_tree inodes (making_at_mount image share)).nodes node) → node < layout.inodes
       below node some = elim (nat_lt node layout.inodes) as (λ b. nat_lt node layout.inodes ≡ b → node < layout.inodes) [
         | true ↦ λ t. ltb-true _ _ t
-        | false ↦ λ t. absurd (nothing (get (image_tree inodes (making_at_mount image share)).nodes node) (no_node_outside inodes (is_node inodes) node (ltb-false _ _ t)) some)
+        | false ↦ λ t. absurd (none_not_some (get (image_tree inodes (making_at_mount image share)).nodes node) (no_node_outside inodes (is_node inodes) node (ltb-false _ _ t)) some)
       ] refl
-        where
-          nothing : {X : Type 0} (o : Option X) → o ≡ None → IsSome o → ⊥
-          nothing o none some = cc
 
   no_fault : (share : ℕ) (tree : TreeState) (o : Option ImageFault) → fault_of image ≡ o →
       cond (is_none o) (Some (image_tree inodes (making_at_mount image share))) None ≡ Some tree →
