@@ -21,7 +21,7 @@ use Rattle.image_tree.specs.Renamed.{Numbering}
 use Rattle.image_tree.specs.Stands.{row_on, IsUnused}
 use Rattle.image_tree.specs.Commit.{row_in_net, brought_row, slot_after, new_rows, filled, slots_after, Commit, blank, seen_before, IsBuiltAnew, IsAside, HasBlock, hole, kept, fresh, ComesBy, had, enters, IsCommit}
 use Rattle.image_tree.specs.Elsewhere.{Elsewhere, commit_there, IsTouched, IsPlanned, Suits}
-use Rattle.image_tree.specs.Laws.{PlannedCommitsHoldElsewhere}
+use Rattle.image_tree.specs.Laws.{PlannedCommitsHoldElsewhere, UnconcernedNodesStay}
 use Rattle.sfs_base.proofs.BasicTruth.{not_both}
 use Rattle.sfs_base.proofs.BasicOptions.{none_some, some_same}
 use Rattle.image_tree.proofs.NetRows.{same_option, net_row_is, no_net_row}
@@ -296,3 +296,16 @@ module _ (commit : Commit) (old new : TreeState) (image next : SeenInodes) (ther
 
 pub planned_commits_hold_elsewhere : PlannedCommitsHoldElsewhere
 planned_commits_hold_elsewhere = commit_elsewhere
+
+pub unconcerned_nodes_stay : UnconcernedNodesStay
+unconcerned_nodes_stay commit old new node nets w other bytes = record {
+  rows = λ name.
+      sym (sym (get-names_where node (λ _. true) old.rows name)
+      ∙ no_net_row (names_of node old.rows) (names_of node new.rows) (commit.nets node) (nets node) name (ap (row_in_net name) (w.nets node other))
+      ∙ get-names_where node (λ _. true) new.rows name);
+  bytes = bytes;
+  naming = λ d n. (
+    λ row. elim (same_option (row_of old d n) (Some node)) as (λ _. row_of old d n ≡ Some node) [ inl same ↦ same | inr differ ↦ absurd (not_both (w.comes d n node row differ) other) ],
+    λ row. elim (same_option (row_of new d n) (Some node)) as (λ _. row_of new d n ≡ Some node) [ inl same ↦ same | inr differ ↦ absurd (not_both (w.goes d n node row differ) other) ],
+  );
+}

@@ -9,6 +9,7 @@ pub mod LinkChanges
 pub mod Made
 pub mod Mounted
 pub mod NetRows
+pub mod Numbers
 pub mod Orphans
 pub mod Paired
 pub mod Parts

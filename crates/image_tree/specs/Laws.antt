@@ -1,6 +1,6 @@
 -- The laws of what an image stands for, each of which a function of the module laws proves.
 use Rattle.std.specs.Prelude.{◌≡◌, ◌≢◌, ◌↔◌, ℕ, ◌+◌, ◌<◌, ◌≤◌, Bool, false, List, Option, Some, None, true, slice_get, []}
-use Rattle.sfs_tree.specs.Tree.{TreeState, links_of}
+use Rattle.sfs_tree.specs.Tree.{TreeState, links_of, bytes_of, names_of}
 use Rattle.sfs_tree.specs.Sound.{IsSound}
 use Rattle.sfs_tree.specs.Shape.{shape_of}
 use Rattle.sfs_image.specs.Seen.{Seen, SeenInodes, PLACES}
@@ -8,7 +8,7 @@ use Rattle.image_tree.specs.ImageTree.{Making, image_tree}
 use Rattle.image_tree.specs.Renamed.{Numbering, IsRenamed}
 use Rattle.image_tree.specs.Stands.{StandsForTree, StandsForSoundTree}
 use Rattle.image_tree.specs.Keeps.{KeepsRules}
-use Rattle.image_tree.specs.Elsewhere.{Elsewhere, commit_there, IsPlanned, Suits}
+use Rattle.image_tree.specs.Elsewhere.{ConcernsItsChanges, Elsewhere, commit_there, IsPlanned, Suits}
 use Rattle.absorb.specs.declared.nets.NetRow.{NetRow}
 use Rattle.image_tree.specs.LinkChanges.{gained, lost, linking, net_changes, AreAllNets}
 use Rattle.image_tree.specs.Image.{image_inodes, PartsStandForTree, tree_of, IsMounted, HasGoodBytes, IsReadAsTree}
@@ -19,11 +19,13 @@ use Rattle.sfs_image.specs.ImageOf.{Transaction}
 use Rattle.image_tree.specs.Slots.{EndsWithRow}
 use Rattle.image_tree.specs.Need.{Rewrite, takes_place, place_in_row, takes_in_row, rank, rewrites_slots, KeepsBlock, RanksServe, GrantServes, TakesByRank}
 use Rattle.image_tree.specs.Sizes.{DirectoriesFit}
+use Rattle.image_tree.specs.Numbers.{numbers_after, InodeGrantServes, NumbersAreGiven}
+use Rattle.absorb.specs.Net.{IsNet}
 use Rattle.image_tree.specs.Made.{image_made, IsMadeFrom}
 use Rattle.image_tree.specs.Mount.{ShowsByKind, StandsByItself}
 use Rattle.image_tree.specs.Orphans.{is_orphan, FreesOrphans, IsFreed}
 use Rattle.image_tree.specs.Rules.{breaks_tree_rule, first_fault, FindsFault, BYTE_RULES, KeepsByteRules, tree_fault}
-use Rattle.image_tree.specs.Commit.{HeldAfter, KeepsPlaces, Commit, TakesBlocks, IsCommit, IsCommitStep}
+use Rattle.image_tree.specs.Commit.{IsAside, HeldAfter, KeepsPlaces, Commit, TakesBlocks, IsCommit, IsCommitStep}
 
 -- A tree under other numbers is sound where the first is, and has its shape.
 abbrev pub RenamedTreesHaveOneShape : Type 0
@@ -155,3 +157,13 @@ no_commit num = record { before = num; after = num; concerns = λ _. false; nets
 -- A commit that concerns nothing is a step from each image that stands for a sound tree to itself.
 abbrev pub NoCommitIsAStep : Type 0
 NoCommitIsAStep = (num : Numbering) (tree : TreeState) (image : SeenInodes) → StandsForSoundTree num tree image → IsCommitStep (no_commit num) tree tree image image
+
+-- A serving grant gives a commit its numbers.
+abbrev pub GrantsGiveNumbers : Type 0
+GrantsGiveNumbers = (commit : Commit) (image : SeenInodes) (leaves : ℕ → Bool) (entering grant : List ℕ) → InodeGrantServes image entering grant
+    → ((node : ℕ) → commit.after node ≡ numbers_after commit.before leaves entering grant node) → NumbersAreGiven commit image entering
+
+-- A node that a commit does not concern is left as it is, where the commit concerns all that its nets change and keeps its bytes.
+abbrev pub UnconcernedNodesStay : Type 0
+UnconcernedNodesStay = (commit : Commit) (old new : TreeState) (node : ℕ) → ((directory : ℕ) → IsNet (names_of directory old.rows) (names_of directory new.rows) (commit.nets directory))
+    → ConcernsItsChanges commit old new → commit.concerns node ≡ false → bytes_of new node ≡ bytes_of old node → IsAside old new node

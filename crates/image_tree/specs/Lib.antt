@@ -8,6 +8,7 @@ pub mod LinkChanges
 pub mod Made
 pub mod Mount
 pub mod Need
+pub mod Numbers
 pub mod Orphans
 pub mod Renamed
 pub mod Rules

@@ -5,7 +5,7 @@ ghost use Rattle.image_tree.specs.Laws.{TreesOfImagesAreMounted, StandingImagesA
 ghost use Rattle.image_tree.specs.Laws.{CommitsHoldTheirBlocks, CommitsKeepDirectoriesFit, BlocksEndWithRow, RanksServeGrants, RanksTakeFreeBlocks};
 ghost use Rattle.image_tree.specs.Laws.{NetsKeepPlaces, BlocksAreKeptOrRewritten, RanksGoOn};
 ghost use Rattle.image_tree.specs.Laws.{FreeInodesBreakNoTreeRule, OrphansBreakNoTreeRule};
-ghost use Rattle.image_tree.specs.Laws.{MadeImagesAreCommits, NoCommitIsAStep};
+ghost use Rattle.image_tree.specs.Laws.{MadeImagesAreCommits, NoCommitIsAStep, GrantsGiveNumbers, UnconcernedNodesStay};
 
 /// A tree under other numbers is sound where the first is, and has its shape.
 pub fn renamed_trees_have_one_shape()
@@ -125,4 +125,14 @@ pub fn made_images_are_commits()
 /// A commit that concerns nothing is a step from each image that stands for a sound tree to itself.
 pub fn no_commit_is_a_step()
     ensures { NoCommitIsAStep }
+{}
+
+/// A serving grant gives a commit its numbers.
+pub fn grants_give_numbers()
+    ensures { GrantsGiveNumbers }
+{}
+
+/// A node that a commit does not concern is left as it is.
+pub fn unconcerned_nodes_stay()
+    ensures { UnconcernedNodesStay }
 {}
