@@ -1,4 +1,5 @@
 pub mod Basics
+pub mod BlockRows
 pub mod Committed
 pub mod Elsewhere
 pub mod Faults

@@ -25,17 +25,17 @@ use Rattle.image_tree.specs.Mount.{ShowsByKind}
 use Rattle.sfs_base.proofs.BasicTruth.{or_first, or_second, not_false, not_both}
 
 -- bytes that are all zero, also past their end
-abbrev AllZero : List ℕ → Type 0
+abbrev pub AllZero : List ℕ → Type 0
 AllZero bytes = (k : ℕ) → slice_index bytes k ≡ 0
 
 zero_number : (bytes : List ℕ) → AllZero bytes → (i n : ℕ) → number_from i n bytes ≡ 0
 zero_number bytes all i zero = refl
 zero_number bytes all i (suc n) = let a = all i in let b = zero_number bytes all (suc i) n in omega arith
 
-zero_drop : (n : ℕ) (bytes : List ℕ) → AllZero bytes → AllZero (drop n bytes)
+pub zero_drop : (n : ℕ) (bytes : List ℕ) → AllZero bytes → AllZero (drop n bytes)
 zero_drop n bytes all k = get_or-drop n bytes k 0 ∙ all (n + k)
 
-zero_take : (n : ℕ) (bytes : List ℕ) → ((k : ℕ) → k < n → slice_index bytes k ≡ 0) → AllZero (take n bytes)
+pub zero_take : (n : ℕ) (bytes : List ℕ) → ((k : ℕ) → k < n → slice_index bytes k ≡ 0) → AllZero (take n bytes)
 zero_take n bytes all k = elim (cases_lt k n) [
   | inl lt ↦ get_or-take n bytes k 0 lt ∙ all k lt
   | inr le ↦ get_or_past (take n bytes) k 0 (short n bytes k le)

@@ -1,12 +1,12 @@
 -- The laws of what an image stands for, each of which a function of the module laws proves.
-use Rattle.std.specs.Prelude.{◌≡◌, ◌≢◌, ◌↔◌, ℕ, ◌+◌, ◌<◌, ◌≤◌, Bool, false, List, Option, Some, None, true, slice_get, []}
+use Rattle.std.specs.Prelude.{◌≡◌, ◌≢◌, ◌↔◌, ℕ, ◌+◌, ◌<◌, ◌≤◌, Bool, false, List, Option, Some, None, true, slice_get, [], is_none}
 use Rattle.sfs_tree.specs.Tree.{TreeState, links_of, bytes_of, names_of}
 use Rattle.sfs_tree.specs.Sound.{IsSound}
 use Rattle.sfs_tree.specs.Shape.{shape_of}
 use Rattle.sfs_image.specs.Seen.{Seen, SeenInodes, PLACES}
 use Rattle.image_tree.specs.ImageTree.{Making, image_tree}
 use Rattle.image_tree.specs.Renamed.{Numbering, IsRenamed}
-use Rattle.image_tree.specs.Stands.{StandsForTree, StandsForSoundTree}
+use Rattle.image_tree.specs.Stands.{BLOCK_BYTES, StandsForTree, StandsForSoundTree}
 use Rattle.image_tree.specs.Keeps.{KeepsRules}
 use Rattle.image_tree.specs.Elsewhere.{ConcernsItsChanges, Elsewhere, commit_there, IsPlanned, Suits}
 use Rattle.absorb.specs.declared.nets.NetRow.{NetRow}
@@ -14,13 +14,17 @@ use Rattle.image_tree.specs.LinkChanges.{gained, lost, linking, net_changes, Are
 use Rattle.image_tree.specs.Image.{image_inodes, PartsStandForTree, tree_of, IsMounted, HasGoodBytes, IsReadAsTree}
 use Rattle.sfs_image.specs.Slot.{Row}
 use Rattle.sfs_image.specs.Super.{Layout}
-use Rattle.sfs_image.specs.Part.{Part}
+use Rattle.sfs_image.specs.Part.{Part, seen_of}
 use Rattle.sfs_image.specs.ImageOf.{Transaction}
-use Rattle.image_tree.specs.Slots.{EndsWithRow}
-use Rattle.image_tree.specs.Need.{Rewrite, takes_place, place_in_row, takes_in_row, rank, rewrites_slots, KeepsBlock, RanksServe, GrantServes, TakesByRank}
+use Rattle.image_tree.specs.Slots.{in_blocks, EndsWithRow}
+use Rattle.image_tree.specs.Need.{slots_in_block, Rewrite, takes_place, place_in_row, takes_in_row, rank, rewrites_slots, KeepsBlock, RanksServe, GrantServes, TakesByRank}
 use Rattle.image_tree.specs.Sizes.{DirectoriesFit}
 use Rattle.image_tree.specs.Numbers.{numbers_after, InodeGrantServes, NumbersAreGiven}
 use Rattle.absorb.specs.Net.{IsNet}
+use Rattle.sfs_image.specs.Bytes.{zeros}
+use Rattle.sfs_image.specs.SlotBlock.{slots_of}
+use Rattle.std.specs.List.{list_all}
+use Rattle.image_tree.specs.Blocks.{HasSlotBlocks, HasByteBlocks}
 use Rattle.image_tree.specs.Made.{image_made, IsMadeFrom}
 use Rattle.image_tree.specs.Mount.{ShowsByKind, StandsByItself}
 use Rattle.image_tree.specs.Orphans.{is_orphan, FreesOrphans, IsFreed}
@@ -167,3 +171,15 @@ GrantsGiveNumbers = (commit : Commit) (image : SeenInodes) (leaves : ℕ → Boo
 abbrev pub UnconcernedNodesStay : Type 0
 UnconcernedNodesStay = (commit : Commit) (old new : TreeState) (node : ℕ) → ((directory : ℕ) → IsNet (names_of directory old.rows) (names_of directory new.rows) (commit.nets directory))
     → ConcernsItsChanges commit old new → commit.concerns node ≡ false → bytes_of new node ≡ bytes_of old node → IsAside old new node
+
+-- The part of a directory whose blocks have a commit's slots shows them, cut behind the last block that has a row.
+abbrev pub SlotBlocksShow : Type 0
+SlotBlocksShow = (part : Part) (slots : List (Option Row)) → HasSlotBlocks part slots → (seen_of part).slots ≡ in_blocks slots
+
+-- The part of a file whose blocks have some bytes shows these.
+abbrev pub ByteBlocksShow : Type 0
+ByteBlocksShow = (part : Part) (bytes : List ℕ) → HasByteBlocks part bytes → (seen_of part).bytes ≡ bytes
+
+-- A block of a directory without rows is read from a hole, which reads as zeros.
+abbrev pub EmptyBlocksAreHoles : Type 0
+EmptyBlocksAreHoles = (n : ℕ) (slots : List (Option Row)) → list_all is_none (slots_in_block n slots) ≡ true → slots_of (zeros BLOCK_BYTES) ≡ slots_in_block n slots

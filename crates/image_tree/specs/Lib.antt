@@ -1,3 +1,4 @@
+pub mod Blocks
 pub mod Commit
 pub mod Elsewhere
 pub mod Image

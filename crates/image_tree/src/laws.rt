@@ -6,6 +6,7 @@ ghost use Rattle.image_tree.specs.Laws.{CommitsHoldTheirBlocks, CommitsKeepDirec
 ghost use Rattle.image_tree.specs.Laws.{NetsKeepPlaces, BlocksAreKeptOrRewritten, RanksGoOn};
 ghost use Rattle.image_tree.specs.Laws.{FreeInodesBreakNoTreeRule, OrphansBreakNoTreeRule};
 ghost use Rattle.image_tree.specs.Laws.{MadeImagesAreCommits, NoCommitIsAStep, GrantsGiveNumbers, UnconcernedNodesStay};
+ghost use Rattle.image_tree.specs.Laws.{SlotBlocksShow, ByteBlocksShow, EmptyBlocksAreHoles};
 
 /// A tree under other numbers is sound where the first is, and has its shape.
 pub fn renamed_trees_have_one_shape()
@@ -135,4 +136,19 @@ pub fn grants_give_numbers()
 /// A node that a commit does not concern is left as it is.
 pub fn unconcerned_nodes_stay()
     ensures { UnconcernedNodesStay }
+{}
+
+/// The part of a directory whose blocks have a commit's slots shows them.
+pub fn slot_blocks_show()
+    ensures { SlotBlocksShow }
+{}
+
+/// The part of a file whose blocks have some bytes shows these.
+pub fn byte_blocks_show()
+    ensures { ByteBlocksShow }
+{}
+
+/// A block of a directory without rows is read from a hole.
+pub fn empty_blocks_are_holes()
+    ensures { EmptyBlocksAreHoles }
 {}
