@@ -1,5 +1,5 @@
 -- An fsync makes one commit by cuts that agree on what it concerns.
-use Rattle.std.proofs.Common.{◌≡◌, ℕ, ◌<◌, ◌≤◌, Bool, List, Some, inl, inr, refl, sym, ap, subst, ◌∙◌, arith}
+use Rattle.std.proofs.Common.{◌≡◌, ℕ, ◌<◌, ◌≤◌, Bool, List, Some, inl, inr, refl, sym, ap, ◌∙◌, arith}
 use borrow.Author.Tests.{ltb-true}
 use Rattle.std.specs.Prelude.{◌↔◌, max}
 use Rattle.std.specs.FinMap.{get}
@@ -11,7 +11,7 @@ use Rattle.sfs_tree.specs.Laws.{IsSoundTree}
 use Rattle.flush_core.specs.Cut.{Cut, cut_of, counted_rows_at_cut}
 use Rattle.flush_core.specs.Rules.{IsChange}
 use Rattle.flush_core.specs.Closure.{Flush, InSpan, HasNaming, Closure, IsConcerned, member, IsNamedIn, IsRaised, IsReached, IsDead}
-use Rattle.flush_core.specs.Runs.{CommitView, Concerns}
+use Rattle.flush_core.specs.Runs.{CommitView, Concerns, view_by}
 use Rattle.flush_core.proofs.Basics.{below_or}
 use Rattle.flush_core.proofs.NamedRows.{names_decide_rows}
 use Rattle.flush_core.proofs.Views.{below, Agree, Agrees}
@@ -91,16 +91,16 @@ module _ (first : TreeState) (history : List Entry) (n : ℕ) (is : IsSoundTree 
     agree_member {node} own = agree node (member node own)
 
     span_there : (x : RowChange) → IsMember x.directory → InSpan first history (below n) cut flush.stamp x → InSpan first history (below n) other flush.stamp x
-    span_there x own span = record { is_change = span.is_change; counted = span.counted; from = subst (λ (k : ℕ). k ≤ x.stamp) (agree_member own).cuts span.from; below = span.below }
+    span_there x own span = record { is_change = span.is_change; counted = span.counted; from = rw (agree_member own).cuts at span.from; below = span.below }
 
     span_back : (x : RowChange) → IsMember x.directory → InSpan first history (below n) other flush.stamp x → InSpan first history (below n) cut flush.stamp x
-    span_back x own span = record { is_change = span.is_change; counted = span.counted; from = subst (λ (k : ℕ). k ≤ x.stamp) (sym (agree_member own).cuts) span.from; below = span.below }
+    span_back x own span = record { is_change = span.is_change; counted = span.counted; from = rw (agree_member own).cuts span.from; below = span.below }
 
     abbrev view : CommitView
-    view = record { history = history; counts = below n; cut = cut; inodes = inodes }
+    view = view_by history (below n) cut inodes
 
     abbrev other_view : CommitView
-    other_view = record { history = history; counts = below n; cut = other; inodes = other_inodes }
+    other_view = view_by history (below n) other other_inodes
 
     -- what makes a member by one of the cuts does so by the other
     there : Carries first flush view other_view
@@ -155,12 +155,12 @@ module _ (first : TreeState) (history : List Entry) (n : ℕ) (is : IsSoundTree 
           | inl own ↦ equal (member_stamp (member_back own))
           | inr stays ↦
               let both = same x one lt child in
-              (λ le. subst (λ (k : ℕ). k ≤ x.stamp) (sym stays) (both.0 (subst (λ (k : ℕ). k ≤ x.stamp) still le)), λ le. subst (λ (k : ℕ). k ≤ x.stamp) (sym still) (both.1 (subst (λ (k : ℕ). k ≤ x.stamp) stays le)))
+              (λ le. rw stays (both.0 (rw still at le)), λ le. rw still (both.1 (rw stays at le)))
         ]
       ]
         where
           equal : cut_of raised x.directory ≡ cut_of other_raised x.directory → (cut_of raised x.directory ≤ x.stamp) ↔ (cut_of other_raised x.directory ≤ x.stamp)
-          equal e = (λ le. subst (λ (k : ℕ). k ≤ x.stamp) e le, λ le. subst (λ (k : ℕ). k ≤ x.stamp) (sym e) le)
+          equal e = (λ le. rw e at le, λ le. rw e le)
 
 pub agrees : Agrees
 agrees first history n flush cut other inodes other_inodes is legal agree = record {

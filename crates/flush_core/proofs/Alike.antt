@@ -11,7 +11,7 @@ use Rattle.sfs_tree.specs.History.{tree_after}
 use Rattle.flush_core.specs.Cut.{Cut, cut_of, counted_rows_at_cut}
 use Rattle.flush_core.specs.Rules.{IsOneOf, IsMove, Birth, births_of}
 use Rattle.flush_core.specs.Closure.{Counts, Flush, InSpan, HasNaming, Closure, itself, other_side, ended, ancestor, birth_place, IsConcerned, member, named, IsRaised, IsReached, IsDead, AreInodesAfter}
-use Rattle.flush_core.specs.Runs.{CommitView, Concerns, Raises}
+use Rattle.flush_core.specs.Runs.{CommitView, Concerns, Raises, view_by}
 use Rattle.flush_core.proofs.Views.{AreAlike}
 
 module _ (first : TreeState) (flush : Flush) where
@@ -65,10 +65,10 @@ pub record GiveAlike (first : TreeState) (history : List Entry) (counts : Counts
   pub dead : (node : ℕ) → IsConcerned first history counts cut inodes flush node → IsDead first history counts raised node ↔ IsDead first other other_counts raised node
 
 -- the two make two views alike
-pub are_alike : (first : TreeState) (history : List Entry) (counts : Counts) (other : List Entry) (other_counts : Counts) (cut : Cut) (inodes : ℕ → Bool) (flush : Flush) → Carries first flush (record { history = history; counts = counts; cut = cut; inodes = inodes }) (record { history = other; counts = other_counts; cut = cut; inodes = inodes })
-    → Carries first flush (record { history = other; counts = other_counts; cut = cut; inodes = inodes }) (record { history = history; counts = counts; cut = cut; inodes = inodes })
+pub are_alike : (first : TreeState) (history : List Entry) (counts : Counts) (other : List Entry) (other_counts : Counts) (cut : Cut) (inodes : ℕ → Bool) (flush : Flush) → Carries first flush (view_by history counts cut inodes) (view_by other other_counts cut inodes)
+    → Carries first flush (view_by other other_counts cut inodes) (view_by history counts cut inodes)
     → ((raised : Cut) → IsRaised first history counts cut inodes flush raised → GiveAlike first history counts other other_counts cut inodes flush raised)
-    → AreAlike first flush (record { history = history; counts = counts; cut = cut; inodes = inodes }) (record { history = other; counts = other_counts; cut = cut; inodes = inodes })
+    → AreAlike first flush (view_by history counts cut inodes) (view_by other other_counts cut inodes)
 are_alike first history counts other other_counts cut inodes flush there back give = record {
   cuts = refl;
   inodes = λ node. refl;

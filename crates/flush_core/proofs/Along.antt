@@ -57,7 +57,7 @@ tree_at-first first (entry ∷ history) = refl
 
 -- so it has the first tree's nodes
 pub node_first : (first : TreeState) (history : List Entry) (x : ℕ) → IsSome (get first.nodes x) → IsSome (get (tree_at first history 0).nodes x)
-node_first first history x some = subst (λ (tree : TreeState). IsSome (get tree.nodes x)) (sym (tree_at-first first history)) some
+node_first first history x some = rw (tree_at-first first history) some
 
 pub tree_at-end : (first : TreeState) (history : List Entry) → tree_at first history (length history) ≡ tree_after first history
 tree_at-end first [] = refl
@@ -166,7 +166,7 @@ abbrev pub changes_in : TreeState → List Entry → ℕ → ℕ → List RowCha
 changes_in first history stamp t = changes_by (tree_at first history t) (stamp + t) (effect_at first history t)
 
 stamped : (tree : TreeState) (effect : Effect) (a b : ℕ) (x : RowChange) → a ≡ b → IsOneOf (changes_by tree a effect) x → IsOneOf (changes_by tree b effect) x
-stamped tree effect a b x e one = subst (λ (s : ℕ). IsOneOf (changes_by tree s effect) x) e one
+stamped tree effect a b x e one = rw e at one
 
 change_from : (first : TreeState) (history : List Entry) (stamp t : ℕ) (x : RowChange) → IsLegalFrom first stamp history → IsOneOf (changes_by (tree_at first history t) (stamp + t) (effect_at first history t)) x → IsOneOf (changes_of first history) x
 change_from first [] stamp t x legal one = absurd one
@@ -183,8 +183,8 @@ change_at first (entry ∷ history) stamp x legal one = elim (in_either _ _ x on
 
 birth_from : (first : TreeState) (history : List Entry) (stamp t : ℕ) (birth : Birth) → IsLegalFrom first stamp history → IsOneOf (births_by (stamp + t) (effect_at first history t) (makes_at first history t)) birth → IsOneOf (births_of first history) birth
 birth_from first [] stamp t birth legal one = absurd one
-birth_from first (entry ∷ history) stamp zero birth legal one = in_left _ _ birth (subst (λ (s : ℕ). IsOneOf (births_by s (verdict first entry.core.0 entry.call).effect (verdict first entry.core.0 entry.call).makes) birth) (plus_zero stamp ∙ sym legal.0.stamped) one)
-birth_from first (entry ∷ history) stamp (suc t) birth legal one = in_right _ _ birth (birth_from (tree_after_entry first entry) history (suc stamp) t birth legal.1 (subst (λ (s : ℕ). IsOneOf (births_by s (effect_at (tree_after_entry first entry) history t) (makes_at (tree_after_entry first entry) history t)) birth) (sym (suc_plus stamp t)) one))
+birth_from first (entry ∷ history) stamp zero birth legal one = in_left _ _ birth (rw (plus_zero stamp ∙ sym legal.0.stamped) at one)
+birth_from first (entry ∷ history) stamp (suc t) birth legal one = in_right _ _ birth (birth_from (tree_after_entry first entry) history (suc stamp) t birth legal.1 (rw (suc_plus stamp t) one))
 
 -- each change at a stamp is one of the history
 pub change_in : (first : TreeState) (history : List Entry) (t : ℕ) (x : RowChange) → IsLegal first history → IsOneOf (changes_by (tree_at first history t) t (effect_at first history t)) x → IsOneOf (changes_of first history) x
@@ -202,7 +202,7 @@ made_at first history is legal x one = change_of first history x legal one
 
 -- each birth at a stamp is one of the history
 pub birth_in : (first : TreeState) (history : List Entry) (t : ℕ) (birth : Birth) → IsLegal first history → IsOneOf (births_by t (effect_at first history t) (makes_at first history t)) birth → IsOneOf (births_of first history) birth
-birth_in first history t birth legal one = birth_from first history 0 t birth legal (subst (λ (s : ℕ). IsOneOf (births_by s (effect_at first history t) (makes_at first history t)) birth) (sym (zero_plus t)) one)
+birth_in first history t birth legal one = birth_from first history 0 t birth legal (rw (zero_plus t) one)
 
 -- the changes of so many entries, one more entry's at a time
 abbrev pub changes_till : TreeState → List Entry → ℕ → List RowChange

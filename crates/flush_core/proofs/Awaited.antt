@@ -1,5 +1,5 @@
 -- The nodes that matter to a commit while others become durable before it.
-use Rattle.std.proofs.Common.{◌≡◌, ℕ, suc, ◌<◌, ◌≤◌, Bool, true, false, List, length, Some, ◌⊎◌, inl, inr, sym, ap, subst, ◌∙◌, arith}
+use Rattle.std.proofs.Common.{◌≡◌, ℕ, suc, ◌<◌, ◌≤◌, Bool, true, false, List, length, Some, ◌⊎◌, inl, inr, sym, ap, ◌∙◌, arith}
 use Rattle.std.specs.Prelude.{slice_get}
 use Rattle.sfs_tree.specs.Tree.{TreeState}
 use Rattle.sfs_tree.specs.Laws.{IsSoundTree}
@@ -21,7 +21,7 @@ module _ (first : TreeState) (events : List Event) (states : ℕ → MachineStat
   -- what a commit concerned as it began, its flight concerns
   began_concerned : (flight : Flight) (cut : Cut) (inodes : ℕ → Bool) → Stays first events states is run alive (length events) within flight cut inodes → (begin : ℕ) (flush : Flush) → IsBegun events begin flight.commit flush → (node : ℕ) → Concerns first flush (view_of (states begin)) node → flight.concerned node ≡ true
   began_concerned flight cut inodes s begin flush begun node concerned =
-      (s.at.theirs node).1 (subst (λ (p : ℕ). Concerns first flight.flush (view_of (states p)) node) (begun_once first events states run begin s.begin flight.commit flush flight.flush begun s.at.begun) (subst (λ (f : Flush). Concerns first f (view_of (states begin)) node) (one_flush first events states run begin s.begin flight.commit flush flight.flush begun s.at.begun) concerned))
+      (s.at.theirs node).1 (rw (begun_once first events states run begin s.begin flight.commit flush flight.flush begun s.at.begun) at (rw (one_flush first events states run begin s.begin flight.commit flush flight.flush begun s.at.begun) at concerned))
 
   -- a commit that becomes durable is a flight till then
   pub durable_flies : (place commit : ℕ) → slice_get events place ≡ Some (event.Durable commit) → (flight : Flight) × IsOneOf (states place).flights flight × (flight.commit ≡ commit)
@@ -112,12 +112,12 @@ module _ (first : TreeState) (events : List Event) (states : ℕ → MachineStat
           elim (flight_before first events states run from come.durable (let le = come.not_before in omega arith) (let less = come.earlier in let more = begun_within first events states run place commit flush begun in omega arith) fly.0 fly.1) [
             | inl among ↦
                 let number = among.commit ∙ fly.2 in
-                kept.apart raiser among.was there among.there (λ e. both come.ties (subst (λ (c : ℕ). tied c ≡ false) (e ∙ number) untied)) node theirs
-                (began_concerned among.was (states from).cut (states from).inodes (kept.each among.was among.there) w.begin w.fsync (subst (λ (c : ℕ). IsBegun events w.begin c w.fsync) (sym number) w.begins) node w.concerned)
+                kept.apart raiser among.was there among.there (λ e. both come.ties (rw (e ∙ number) at untied)) node theirs
+                (began_concerned among.was (states from).cut (states from).inodes (kept.each among.was among.there) w.begin w.fsync (rw number w.begins) node w.concerned)
             | inr late ↦
-                let again = begun_once first events states run late.0 w.begin w.other fly.0.flush w.fsync (subst (λ (c : ℕ). IsBegun events late.0 c fly.0.flush) fly.2 late.3) w.begins in
+                let again = begun_once first events states run late.0 w.begin w.other fly.0.flush w.fsync (rw fly.2 at late.3) w.begins in
                 let same = at_once late.0 again late.1 in
-                none_begins from raiser.commit w.other w.fsync stands (subst (λ (p : ℕ). IsBegun events p w.other w.fsync) same w.begins)
+                none_begins from raiser.commit w.other w.fsync stands (rw same at w.begins)
           ]
         where
           at_once : (b : ℕ) → b ≡ w.begin → from ≤ b → w.begin ≡ from
@@ -126,7 +126,7 @@ module _ (first : TreeState) (events : List Event) (states : ℕ → MachineStat
       -- a commit that isn't tied concerns nothing that is still awaited
       pub untied_apart : tied raiser.commit ≡ false → (node : ℕ) → IsAwaited (suc from) node → raiser.concerned node ≡ true → ⊥
       untied_apart untied node w theirs = elim w.when [
-        | inl own ↦ both (tied_are.own raiser.commit (comes commit place flush begun lt) (subst (ShareANode first events states raiser.commit) own (share node theirs w.other w.begin w.fsync w.begins w.concerned))) untied
+        | inl own ↦ both (tied_are.own raiser.commit (comes commit place flush begun lt) (rw own at (share node theirs w.other w.begin w.fsync w.begins w.concerned))) untied
         | inr come ↦ elim (below_or from w.begin) [
           | inl less ↦ both (tied_are.theirs w.other raiser.commit come.ties (comes w.other w.begin w.fsync w.begins less) (share node theirs w.other w.begin w.fsync w.begins w.concerned)) untied
           | inr le ↦ begun_shares_none untied node w come le theirs

@@ -36,10 +36,10 @@ used_step old (event.Call entry) new commit takes used = subst (λ (s : MachineS
 used_step old (event.CutAt other node stamp) new commit takes used = subst (λ (s : MachineState). IsOneOf s.used commit) (sym takes.moves.2) (in_left old.used (other ∷ []) commit used)
 used_step old (event.Opened other) new commit takes used = subst (λ (s : MachineState). IsOneOf s.used commit) (sym takes.moves) used
 used_step old (event.Durable other) new commit takes used =
-    subst (λ (s : MachineState). IsOneOf s.used commit) (sym takes.moves.4) (subst (λ (l : List ℕ). IsOneOf l commit) (sym (ap (λ (s : MachineState). s.used) takes.moves.3.others)) used)
+    rw takes.moves.4 (rw (ap (λ (s : MachineState). s.used) takes.moves.3.others) used)
 used_step old (event.Fail other) new commit takes used = subst (λ (s : MachineState). IsOneOf s.used commit) (sym takes.moves) used
 used_step old (event.Crash kept) new commit takes used =
-    subst (λ (s : MachineState). IsOneOf s.used commit) (sym takes.moves.2) (subst (λ (l : List ℕ). IsOneOf l commit) (sym (ap (λ (s : MachineState). s.used) takes.moves.1.others)) used)
+    rw takes.moves.2 (rw (ap (λ (s : MachineState). s.used) takes.moves.1.others) used)
 
 -- no flight concerns what a commit concerns that begins
 none_shared : (old : MachineState) (commit : ℕ) (node : NodeId) (stamp : Stamp) (new : MachineState) → Accepts old (event.CutAt commit node stamp) new → (bound x : ℕ) → x < bound → IsShared old (record { node = node.0; stamp = stamp.0 }) x → ⊥
@@ -77,7 +77,7 @@ module _ (first : TreeState) (events : List Event) (states : ℕ → MachineStat
   used_later : (place later commit : ℕ) → place ≤ later → later ≤ length events → IsOneOf (states place).used commit → IsOneOf (states later).used commit
   used_later place zero commit le within used = subst (λ (p : ℕ). IsOneOf (states p).used commit) (none_below place le) used
   used_later place (suc later) commit le within used = elim (below_or later place) [
-    | inl lt ↦ subst (λ (p : ℕ). IsOneOf (states p).used commit) (is_next place later le lt) used
+    | inl lt ↦ rw (is_next place later le lt) at used
     | inr less ↦
         let there = event_there events later (omega arith) in
         used_step (states later) there.0 (states (suc later)) commit (run.steps later there.0 there.1) (used_later place later commit less (omega arith) used)
@@ -86,7 +86,7 @@ module _ (first : TreeState) (events : List Event) (states : ℕ → MachineStat
   begun_used : (place commit : ℕ) (flush : Flush) → IsBegun events place commit flush → IsOneOf (states (suc place)).used commit
   begun_used place commit flush begun =
       let takes = takes_cut place commit flush begun in
-      subst (λ (s : MachineState). IsOneOf s.used commit) (sym takes.moves.2) (in_right (states place).used (commit ∷ []) commit (inl refl))
+      rw takes.moves.2 (in_right (states place).used (commit ∷ []) commit (inl refl))
 
   never_again : (place later commit : ℕ) (flush other : Flush) → place < later → IsBegun events place commit flush → IsBegun events later commit other → ⊥
   never_again place later commit flush other lt begun again =
@@ -121,7 +121,7 @@ module _ (first : TreeState) (events : List Event) (states : ℕ → MachineStat
       let within = begun_within place commit flush begun in
       let start = (steady_at first events states run place (omega arith)).start in
       none_shared (states place) commit cut.node cut.stamp (states (suc place)) (takes_cut place commit flush begun) (suc node) node (omega arith) (record {
-        concerned = subst (λ (f : TreeState). Concerns f (record { node = cut.node.0; stamp = cut.stamp.0 }) (view_of (states place)) node) (sym start) (subst (λ (f : Flush). Concerns first f (view_of (states place)) node) (sym cut.own) concerned);
+        concerned = rw start (rw cut.own concerned);
         flight = flight;
         flies = one;
         theirs = theirs;

@@ -1,5 +1,5 @@
 -- A file without an inode was never flushed, or is dead; so one that gets an inode was blank.
-use Rattle.std.proofs.Common.{◌≡◌, ℕ, Bool, true, false, List, [], Option, Some, None, is_some, option_map, ◌⊎◌, inl, inr, refl, sym, ap, subst, ◌∙◌, ◌&&◌, nat_eq, arith}
+use Rattle.std.proofs.Common.{◌≡◌, ℕ, Bool, true, false, List, [], Option, Some, None, is_some, option_map, ◌⊎◌, inl, inr, refl, ap, ◌∙◌, ◌&&◌, nat_eq, arith}
 use Rattle.std.specs.Prelude.{fold}
 use Rattle.std.specs.Option.{unwrap_or, option_map_or}
 use Rattle.std.specs.Ordering.{nat_cmp}
@@ -38,9 +38,9 @@ fresh_or_dead first history is legal (one_more flushes flush before raised inode
           | inr same ↦ inl (record { stamp = same ∙ fresh.stamp; new = fresh.new })
           | inl own ↦ elim (member_directory first history is legal every_entry before inodes flush own) [
             | inr directory ↦ absurd (both directory file)
-            | inl itself ↦ elim (settles first history before raised inodes after flush is legal raise sets (subst (λ (y : ℕ). is_directory (tree_after first history) y ≡ false) itself file)) [
-              | inl has ↦ absurd (both (subst (λ (y : ℕ). after y ≡ true) (sym itself) has) lacks)
-              | inr dead ↦ inr (subst (λ (y : ℕ). IsDead first history every_entry raised y) (sym itself) dead)
+            | inl itself ↦ elim (settles first history before raised inodes after flush is legal raise sets (rw itself at file)) [
+              | inl has ↦ absurd (both (rw itself has) lacks)
+              | inr dead ↦ inr (rw itself dead)
             ]
           ]
         ]

@@ -17,7 +17,7 @@ use Rattle.flush_core.specs.Cut.{Cut, cut_of, IsWithin}
 use Rattle.flush_core.specs.Rules.{IsOneOf, IsChange, IsMove, IsLastPlacing, Birth, births_of, RenamesWhole, RemovalsWhole, BirthsKept, AncestorsKept}
 use Rattle.flush_core.specs.Past.{IsPast, row_change_of, birth_of}
 use Rattle.flush_core.specs.Engine.{above_of}
-use Rattle.flush_core.specs.Broken.{CutKeeps, rule_place, IsFirstBroken, SomeIs, IsSplit, LeavesChange, IsBornLate, PlacesBelow, IsLatest, IsNext, LacksAncestor}
+use Rattle.flush_core.specs.Broken.{CutKeeps, rule_place, IsFirstBroken, SomeIs, IsSplit, LeavesChange, IsBornLate, PlacesBelow, IsLatest, LacksAncestor}
 use Rattle.flush_core.proofs.Basics.{below_or, both}
 use Rattle.flush_core.proofs.Listed.{from_map, to_map}
 use Rattle.flush_core.proofs.Along.{tree_at, core_at, effect_at, makes_at, tree_at-after, sound_at, fits_at, change_of}
@@ -63,11 +63,11 @@ module _ (first : TreeState) (history : List Entry) (past : Past) (is : IsPast f
 
   -- what holds of each change that is kept holds of each of the history's
   over_changes : (P : RowChange → Type 0) → ((own : OwnChange) → IsOneOf changes own → P (row_change_of own)) → (change : RowChange) → IsChange first history change → P change
-  over_changes P all change one = let own = change_kept first history past is change one in subst P own.2 (all own.0 own.1)
+  over_changes P all change one = let own = change_kept first history past is change one in rw own.2 at (all own.0 own.1)
 
   over_births : (P : Birth → Type 0) → ((born : BornNode) → IsOneOf past.births.items born → P (birth_of born)) → (birth : Birth) → IsOneOf (births_of first history) birth → P birth
   over_births P all birth one =
-      let born = from_map birth_of past.births.items birth (subst (λ l. IsOneOf l birth) (sym is.births) one) in subst P born.2 (all born.0 born.1)
+      let born = from_map birth_of past.births.items birth (rw is.births one) in rw born.2 at (all born.0 born.1)
 
   pub renames_broken : SomeIs changes (IsSplit cut) → RenamesWhole first history cut → ⊥
   renames_broken (own, one, split) whole =
@@ -85,7 +85,7 @@ module _ (first : TreeState) (history : List Entry) (past : Past) (is : IsPast f
   removals_broken (change, one, leaves) whole =
       let left = leaves.left in
       let within = whole (row_change_of change) (row_change_of left.0) (kept change one) leaves.ends leaves.flushed (kept left.0 left.1) left.2.own in
-      let lt : left.0.stamp < cut_of cut change.child = subst (λ (d : ℕ). left.0.stamp < cut_of cut d) left.2.own within in
+      let lt : left.0.stamp < cut_of cut change.child = rw left.2.own at within in
       let le = left.2.late in omega arith
 
   pub removals_hold : (SomeIs changes (LeavesChange changes cut) → ⊥) → RemovalsWhole first history cut
@@ -99,8 +99,8 @@ module _ (first : TreeState) (history : List Entry) (past : Past) (is : IsPast f
   pub births_broken : SomeIs past.births.items (IsBornLate changes cut) → BirthsKept first history cut → ⊥
   births_broken (born, one, late) births =
       let own = late.flushed in
-      let within : own.0.stamp < cut_of cut own.0.directory = subst (λ (d : ℕ). own.0.stamp < cut_of cut d) (sym own.2.own) own.2.flushed in
-      let lt = births (birth_of born) (row_change_of own.0) (subst (λ l. IsOneOf l (birth_of born)) is.births (to_map birth_of past.births.items born one)) (kept own.0 own.1) own.2.own within in
+      let within : own.0.stamp < cut_of cut own.0.directory = rw own.2.own own.2.flushed in
+      let lt = births (birth_of born) (row_change_of own.0) (rw is.births at (to_map birth_of past.births.items born one)) (kept own.0 own.1) own.2.own within in
       let le = late.late in omega arith
 
   pub births_hold : (SomeIs past.births.items (IsBornLate changes cut) → ⊥) → BirthsKept first history cut
@@ -145,7 +145,7 @@ module _ (first : TreeState) (history : List Entry) (past : Past) (is : IsPast f
       let unplaced = lacks.lacks.unplaced in
       let list = kept_list own.above next.place next.within in
       let keeps = is.above own one in
-      let stand : Above (tree_after first (take own.stamp history)) own.directory (above_of own) = subst (λ (l : List ℕ). Above (tree_after first (take own.stamp history)) own.directory l) list.2 (keeps.stand list.0 list.1) in
+      let stand : Above (tree_after first (take own.stamp history)) own.directory (above_of own) = rw list.2 at (keeps.stand list.0 list.1) in
       let row = row_on_way (tree_after first (take own.stamp history)) own.directory (above_of own) stand next.place node holder next.within next.node_is next.holder_is in
       let last = unplaced.latest.0 in
       let same : last.0.stamp ≡ unplaced.last = last.3 in
@@ -172,7 +172,7 @@ module _ (first : TreeState) (history : List Entry) (past : Past) (is : IsPast f
               lacks = record {
                 node = node;
                 holder = holder;
-                next = subst (λ (l : List ℕ). IsNext own.directory l node holder) (sym same) next;
+                next = rw same next;
                 unplaced = record { last = last.stamp; latest = is_last node own.stamp last is_it; late = le };
               };
             },
@@ -191,7 +191,7 @@ module _ (first : TreeState) (history : List Entry) (past : Past) (is : IsPast f
 
   -- the search through these is one through those that are kept
   kept_search : (P : List OwnChange → List BornNode → Type 0) → Tells (P changes births) → Tells (P past.changes.items past.births.items)
-  kept_search P tells = subst (λ (cs : List OwnChange). Tells (P cs past.births.items)) same (subst (λ (bs : List BornNode). Tells (P changes bs)) same_births tells)
+  kept_search P tells = rw same at (rw same_births at tells)
 
   by_search : {Broken Kept : Type 0} → Tells Broken → (Broken → Kept → ⊥) → result ≡ true → Kept → ⊥
   by_search tells breaks found = breaks (tells.0 found)

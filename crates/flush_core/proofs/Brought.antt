@@ -26,16 +26,16 @@ kept_above (Some v) node one = (v, refl, one)
 module _ (first : TreeState) (history : List Entry) (past : Past) (is : IsPast first history past) where
   -- the changes that are kept are those of the history
   pub kept_change : (own : OwnChange) → IsOneOf past.changes.items own → IsChange first history (row_change_of own)
-  kept_change own one = subst (λ l. IsOneOf l (row_change_of own)) is.changes (to_map row_change_of past.changes.items own one)
+  kept_change own one = rw is.changes at (to_map row_change_of past.changes.items own one)
 
   pub change_kept : (change : RowChange) → IsChange first history change → (own : OwnChange) × IsOneOf past.changes.items own × (row_change_of own ≡ change)
-  change_kept change one = from_map row_change_of past.changes.items change (subst (λ l. IsOneOf l change) (sym is.changes) one)
+  change_kept change one = from_map row_change_of past.changes.items change (rw is.changes one)
 
   kept_birth : (born : BornNode) → IsOneOf past.births.items born → IsOneOf (births_of first history) (birth_of born)
-  kept_birth born one = subst (λ l. IsOneOf l (birth_of born)) is.births (to_map birth_of past.births.items born one)
+  kept_birth born one = rw is.births at (to_map birth_of past.births.items born one)
 
   birth_kept : (birth : Birth) → IsOneOf (births_of first history) birth → (born : BornNode) × IsOneOf past.births.items born × (birth_of born ≡ birth)
-  birth_kept birth one = from_map birth_of past.births.items birth (subst (λ l. IsOneOf l birth) (sym is.births) one)
+  birth_kept birth one = from_map birth_of past.births.items birth (rw is.births one)
 
   -- a span and a naming, of a change and of the one that is kept
   pub in_span : (cut : Cut) (stamp : ℕ) (own : OwnChange) → IsOneOf past.changes.items own → Spans cut stamp own → InSpan first history every_entry cut stamp (row_change_of own)
@@ -67,7 +67,7 @@ module _ (first : TreeState) (history : List Entry) (past : Past) (is : IsPast f
 
     brought : (own : OwnChange) (node : ℕ) → IsOneOf past.changes.items own → IsIn own.directory → Spans cut flush.stamp own → Brings own node → IsIn node
     brought own node one member spans (inl other) = other_side (row_change_of own) node member (in_span cut flush.stamp own one spans) other
-    brought own node one member spans (inr (inl (ends, child))) = subst IsIn child (ended (row_change_of own) member (in_span cut flush.stamp own one spans) ends)
+    brought own node one member spans (inr (inl (ends, child))) = rw child at (ended (row_change_of own) member (in_span cut flush.stamp own one spans) ends)
     brought own node one member spans (inr (inr above)) =
         let kept = kept_above own.above node above in
         let keeps = is.above own one in
@@ -76,7 +76,7 @@ module _ (first : TreeState) (history : List Entry) (past : Past) (is : IsPast f
     -- what the members bring in is in the closure where they are
     pub wanted_is_in : ((node : ℕ) → has_node members node ≡ true → IsIn node) → (node : ℕ) → IsWanted past cut inodes flush.stamp members node → IsIn node
     wanted_is_in all node (inl (own, one, b)) = brought own node one (all own.directory b.member) b.spans b.brings
-    wanted_is_in all node (inr (born, one, b)) = subst IsIn b.place (birth_place (birth_of born) (all born.node b.member) (kept_birth born one) b.no_inode (naming_is cut born.node b.naming))
+    wanted_is_in all node (inr (born, one, b)) = rw b.place at (birth_place (birth_of born) (all born.node b.member) (kept_birth born one) b.no_inode (naming_is cut born.node b.naming))
 
     -- members that bring in no others are the closure
     module _ (own : has_node members flush.node ≡ true) (closed : (node : ℕ) → IsWanted past cut inodes flush.stamp members node → has_node members node ≡ true) where
@@ -110,7 +110,7 @@ module _ (first : TreeState) (history : List Entry) (past : Past) (is : IsPast f
       those_above : (change : RowChange) (above : List ℕ) (node : ℕ) → IsMove first history change → Above (tree_after first (take change.stamp history)) change.directory above → IsOneOf above node → (kept : OwnChange) → IsOneOf past.changes.items kept → row_change_of kept ≡ change → Brings kept node
       those_above change above node move stand one kept in_past e =
           let found = (is.above kept in_past).all (subst (λ (c : RowChange). MovesDirectory (tree_after first (take c.stamp history)) c) (sym e) move.moves) above (subst (λ (c : RowChange). Above (tree_after first (take c.stamp history)) c.directory above) (sym e) stand) in
-          inr (inr (subst (λ o. IsOneOf (option_map_or (λ (v : Vec ℕ Global). v.items) o []) node) (sym found.1) (subst (λ l. IsOneOf l node) (sym found.2) one)))
+          inr (inr (rw found.1 (rw found.2 one)))
 
       pub in_members : (node : ℕ) → IsIn node → has_node members node ≡ true
       in_members _ itself = own

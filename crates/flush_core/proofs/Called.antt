@@ -1,10 +1,10 @@
 -- A call that is told to a state.
-use Rattle.std.proofs.Common.{◌≡◌, ◌↔◌, ◌<◌, ◌≤◌, Bool, false, ◌&&◌, [], ◌∷◌, ◌++◌, length, IsSome, IsTrue, sym, ap, subst, ◌∙◌, arith}
+use Rattle.std.proofs.Common.{◌≡◌, ◌<◌, ◌≤◌, Bool, false, [], ◌∷◌, ◌++◌, length, sym, ap, ◌∙◌, arith}
 use Rattle.sfs_tree.specs.declared.history.Entry.{Entry}
 use Rattle.sfs_tree.specs.declared.reply.Reply.{Reply}
 use Rattle.sfs_tree.specs.Tree.{TreeState}
 use Rattle.sfs_tree.specs.Verdict.{verdict}
-use Rattle.sfs_tree.specs.History.{tree_after, flushes, MayCome, IsDue, is_ok_reply}
+use Rattle.sfs_tree.specs.History.{tree_after, flushes, MayCome}
 use Rattle.sfs_tree.proofs.Cores.{cores_stay}
 use Rattle.flush_core.specs.declared.event.Event.TheVariants as event
 use Rattle.flush_core.specs.declared.event.Refused.{Refused}
@@ -28,16 +28,16 @@ module _ (old : KeptState) (past : Past) (ready : IsReadyPast old.first old.entr
 
     pub answered : MayCome tree (length old.entries) entry → HasDueAnswer is_flush reply entry
     answered may = record {
-      reply = subst (λ b. IsDue b reply entry.reply) (sym flushing_now) (subst (λ r. IsDue (flushes tree entry.call) r entry.reply) (sym due_now) may.due);
-      acknowledged = subst (λ b. IsSome entry.ack ↔ IsTrue (b && is_ok_reply entry.reply)) (sym flushing_now) may.acknowledged;
+      reply = rw flushing_now (rw due_now may.due);
+      acknowledged = rw flushing_now may.acknowledged;
     }
 
     pub may_come : HasDueAnswer is_flush reply entry → MayCome tree (length old.entries) entry
     may_come answered = record {
       stamped = stamped;
-      core = subst (λ n. entry.core.0 < n) (sym (cores_stay old.first old.entries)) core;
-      due = subst (λ r. IsDue (flushes tree entry.call) r entry.reply) due_now (subst (λ b. IsDue b reply entry.reply) flushing_now answered.reply);
-      acknowledged = subst (λ b. IsSome entry.ack ↔ IsTrue (b && is_ok_reply entry.reply)) flushing_now answered.acknowledged;
+      core = rw (cores_stay old.first old.entries) core;
+      due = rw due_now at (rw flushing_now at answered.reply);
+      acknowledged = rw flushing_now at answered.acknowledged;
     }
 
     first_not_legal : (other : Refused) → Refuses (machine_of old) (event.Call entry) other → 3 ≤ reason_place other

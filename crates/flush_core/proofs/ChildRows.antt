@@ -100,20 +100,20 @@ pub listed_child : (rows : List NameRow) (names : FinMap name_cmp ℕ) → map n
 listed_child rows names same node (row, one, e) = (
   row.name,
   get-entries names row.name
-      ∙ found_sorted (entries names) (entries_sorted names) (name_and_child row) (subst (λ l. IsOneOf l (name_and_child row)) same (to_map name_and_child rows row one))
+      ∙ found_sorted (entries names) (entries_sorted names) (name_and_child row) (rw same at (to_map name_and_child rows row one))
       ∙ ap (λ x. Some x) e,
 )
 
 pub child_listed : (rows : List NameRow) (names : FinMap name_cmp ℕ) → map name_and_child rows ≡ entries names → (node : ℕ) → IsChild names node → OfSome rows IsChildOf node
 child_listed rows names same node (name, is) =
     let found = found_entry (entries names) name node (sym (get-entries names name) ∙ is) in
-    let row = from_map name_and_child rows found.0 (subst (λ l. IsOneOf l found.0) (sym same) found.1) in
+    let row = from_map name_and_child rows found.0 (rw same found.1) in
     (row.0, row.1, ap (λ (e : List ℕ × ℕ). e.1) row.2 ∙ found.2)
 
 pub children_join : (rows : List NameRow) (names kept : FinMap name_cmp ℕ) (set joined : NodeSet) → map name_and_child rows ≡ entries names → names ≡ kept → Joins (OfSome rows IsChildOf) set joined → Joins (IsChild kept) set joined
 children_join rows names kept set joined listed same joins node = (
-  λ has. elim ((joins node).0 has) [ inl old ↦ inl old | inr some ↦ inr (subst (λ m. IsChild m node) same (listed_child rows names listed node some)) ],
-  λ from. (joins node).1 (elim from [ inl old ↦ inl old | inr child ↦ inr (child_listed rows names listed node (subst (λ m. IsChild m node) (sym same) child)) ]),
+  λ has. elim ((joins node).0 has) [ inl old ↦ inl old | inr some ↦ inr (rw same at (listed_child rows names listed node some)) ],
+  λ from. (joins node).1 (elim from [ inl old ↦ inl old | inr child ↦ inr (child_listed rows names listed node (rw same child)) ]),
 )
 
 -- a row at a stamp stood in the tree, or a change stands in its directory
@@ -135,13 +135,13 @@ pub are_children : (first : TreeState) (changes : List OwnChange) (cut : Cut) (d
     → ((node : ℕ) → (has_node named node ≡ true) ↔ OfSome listed (IsChildIn first changes cut) node) → AreChildren first changes cut named
 are_children first changes cut directories listed named sound nodes changed same gathered node = (
   λ has. let some = (gathered node).0 has in (some.0, some.2),
-  λ (d, (n, is)). (gathered node).1 (d, subst (λ l. IsOneOf l d) (sym same) (among d n is), (n, is)),
+  λ (d, (n, is)). (gathered node).1 (d, rw same (among d n is), (n, is)),
 )
   where
     among : (d : ℕ) (n : List ℕ) → get (kept_rows first changes d (cut_of cut d)) n ≡ Some node → IsOneOf directories d
     among d n is = elim (came d (cut_of cut d) n node (names_of d first.rows) changes is) [
       | inl stood ↦ nodes d (directory_there (get first.nodes d) (sound.holds d n node (sym (get-names_where d (λ _. true) first.rows n) ∙ stood)).0)
-      | inr (change, one, e) ↦ subst (IsOneOf directories) e (changed change one)
+      | inr (change, one, e) ↦ rw e at (changed change one)
     ]
 
 -- they are the nodes that the rows at the cut name

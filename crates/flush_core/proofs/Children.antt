@@ -1,5 +1,5 @@
 -- The children of a run's changes: they are nodes, and were named before or are made.
-use Rattle.std.proofs.Common.{◌≡◌, ℕ, zero, suc, ◌<◌, ◌≤◌, true, false, List, [], ◌∷◌, ◌++◌, Option, Some, None, IsSome, ◌⊎◌, inl, inr, refl, sym, ap, subst, ◌∙◌, arith}
+use Rattle.std.proofs.Common.{◌≡◌, ℕ, zero, suc, ◌<◌, ◌≤◌, false, List, [], ◌∷◌, ◌++◌, Option, Some, None, IsSome, ◌⊎◌, inl, inr, refl, sym, ap, subst, ◌∙◌, arith}
 use Rattle.std.specs.FinMap.{get, remove}
 use Rattle.sfs_base.specs.declared.numbers.Kind.{Kind}
 use Rattle.sfs_tree.specs.declared.history.Entry.{Entry}
@@ -44,7 +44,7 @@ LinksNamed tree effect makes = (d : ℕ) (n : List ℕ) (c : ℕ) → effect ≡
 
 module _ (tree : TreeState) (core t : ℕ) (s : IsSound tree) where
   same_child : (P : RowChange → Type 0) (y x : RowChange) → P y → IsOneOf (y ∷ []) x → P x
-  same_child P y x h one = elim one [ inl e ↦ subst P e h | inr none ↦ absurd none ]
+  same_child P y x h one = elim one [ inl e ↦ rw e at h | inr none ↦ absurd none ]
 
   -- a change's child is a node after it
   pub child_there : (effect : Effect) (makes : Option Kind) → Fits tree core effect makes → (x : RowChange) → IsOneOf (changes_by tree t effect) x → IsSome (get (tree_with tree core effect makes).nodes x.child)
@@ -55,7 +55,7 @@ module _ (tree : TreeState) (core t : ℕ) (s : IsSound tree) where
   child_there (Removes d n c) None f x one = same_child (λ y. IsSome (get tree.nodes y.child)) (removed t d n c None (is_directory tree c)) x (s.node d n c f.row) one
   child_there (Moves p n q m c) None f x one = elim (of_move tree t p n q m c x one) [
     | replaces _ row ↦ s.node q m x.child row
-    | moves e ↦ subst (λ (y : ℕ). IsSome (get tree.nodes y)) (sym e) (s.node p n c f.row)
+    | moves e ↦ rw e (s.node p n c f.row)
   ]
   child_there (Removes d n c) (Some kind) f x one = absurd f
   child_there (Moves p n q m c) (Some kind) f x one = absurd f
@@ -82,7 +82,7 @@ module _ (tree : TreeState) (core t : ℕ) (s : IsSound tree) where
   named_was (Edits file edit) None f links d n x row = inl (record { directory = d; name = n; row = row })
   named_was (Removes e k c) None f links d n x row = inl (record { directory = d; name = n; row = (removed_cases tree.rows d e n k x row).1 })
   named_was (Adds e k c) None f links d n x row = elim (added_cases tree.rows d e n k c x row) [
-    | inl new ↦ inl (subst (λ (y : ℕ). IsNamed tree.rows y) (sym new.2) (links e k c refl refl))
+    | inl new ↦ inl (rw new.2 (links e k c refl refl))
     | inr old ↦ inl (record { directory = d; name = n; row = old.1 })
   ]
   named_was (Adds e k c) (Some kind) f links d n x row = elim (added_cases tree.rows d e n k c x row) [
@@ -123,14 +123,14 @@ AreNamed r = (t : ℕ) → LinksNamed (r.tree t) (r.effect t) (r.makes t)
 module _ (r : Run) where
   pub child_node : (t : ℕ) (x : RowChange) → Made r t x → (u : ℕ) → t < u → IsSome (get (r.tree u).nodes x.child)
   child_node t x one u lt =
-      later r (suc t) u x.child (omega arith) (subst (λ (tree : TreeState). IsSome (get tree.nodes x.child)) (sym (r.next t)) (child_there (r.tree t) (r.core t) t (r.sound t) (r.effect t) (r.makes t) (r.fits t) x one))
+      later r (suc t) u x.child (omega arith) (rw (r.next t) (child_there (r.tree t) (r.core t) t (r.sound t) (r.effect t) (r.makes t) (r.fits t) x one))
 
   module _ (links : AreNamed r) where
     -- a node that is there and is named later is named
     pub named_since : (u t x : ℕ) → u ≤ t → IsSome (get (r.tree u).nodes x) → IsNamed (r.tree t).rows x → IsNamed (r.tree u).rows x
-    named_since u zero x le some named = subst (λ (k : ℕ). IsNamed (r.tree k).rows x) (sym (none_below u le)) named
+    named_since u zero x le some named = rw (none_below u le) named
     named_since u (suc t) x le some named = elim (below_or t u) [
-      | inl lt ↦ subst (λ (k : ℕ). IsNamed (r.tree k).rows x) (sym (is_next u t le lt)) named
+      | inl lt ↦ rw (is_next u t le lt) named
       | inr less ↦ elim (named_was (r.tree t) (r.core t) t (r.sound t) (r.effect t) (r.makes t) (r.fits t) (links t) named.directory named.name x (sym (ap (λ (tree : TreeState). row_of tree named.directory named.name) (r.next t)) ∙ named.row)) [
         | inl was ↦ named_since u t x less some was
         | inr born ↦ absurd (no_node_yet r t born.directory born.name x born.kind born.adds born.made u less some)
@@ -172,6 +172,6 @@ pub links_named : (first : TreeState) (history : List Entry) (is : IsSoundTree f
 links_named first history is legal t d n c adds makes =
     let file = files_at first history t d n c adds makes in
     elim (alive_named (tree_at first history t) c file.1) [
-      | inl root ↦ absurd (both (subst (λ (y : ℕ). is_directory (tree_at first history t) y ≡ true) (sym root) (sound_at first history 0 t is legal).root) file.0)
+      | inl root ↦ absurd (both (rw root (sound_at first history 0 t is legal).root) file.0)
       | inr named ↦ named
     ]

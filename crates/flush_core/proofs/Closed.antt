@@ -1,5 +1,5 @@
 -- A closed cut gives a sound tree.
-use Rattle.std.proofs.Common.{◌≡◌, ℕ, ◌<◌, ◌≤◌, true, false, List, [], ◌∷◌, ◌++◌, length, take, Option, Some, None, inl, inr, refl, sym, ap, subst, ◌∙◌}
+use Rattle.std.proofs.Common.{◌≡◌, ℕ, ◌<◌, ◌≤◌, true, false, List, [], ◌∷◌, ◌++◌, length, take, Some, None, inl, inr, refl, sym, ap, subst, ◌∙◌}
 use Rattle.std.specs.Prelude.{filter, fold}
 use Rattle.std.specs.FinMap.{FinMap}
 use Rattle.std.proofs.lemmas.List.Sums.{fold-append}
@@ -10,7 +10,7 @@ use Rattle.sfs_tree.specs.Order.{key_cmp}
 use Rattle.sfs_tree.specs.Tree.{TreeState, row_of, is_directory}
 use Rattle.sfs_tree.specs.Effect.{Effect, Stays, Adds, Removes, Moves, Edits}
 use Rattle.sfs_tree.specs.Changes.{RowChange, added, removed, other_side, replaced, changes_by, bytes_at}
-use Rattle.sfs_tree.specs.Sound.{Above, IsSound}
+use Rattle.sfs_tree.specs.Sound.{IsSound}
 use Rattle.sfs_tree.specs.History.{tree_after, IsLegal}
 use Rattle.sfs_tree.specs.Laws.{IsSoundTree}
 use Rattle.sfs_tree.proofs.KeepsSound.{with_rows}
@@ -75,8 +75,8 @@ module _ (first : TreeState) (history : List Entry) (is : IsSoundTree first) (le
           is_change = in_history s x found.1;
           places = found.2;
           child = found.3;
-          below = subst (λ (k : ℕ). k < t) (sym e) last.below;
-          latest = λ other one places child lt. subst (λ (k : ℕ). other.stamp ≤ k) (sym e) (last.latest other.stamp lt (placed_by (tree_at first history other.stamp) other.stamp (effect_at first history other.stamp) other (change_of first history other legal one) places ∙ ap Some child));
+          below = rw e last.below;
+          latest = λ other one places child lt. rw e (last.latest other.stamp lt (placed_by (tree_at first history other.stamp) other.stamp (effect_at first history other.stamp) other (change_of first history other legal one) places ∙ ap Some child));
         },
         e,
       )
@@ -84,9 +84,9 @@ module _ (first : TreeState) (history : List Entry) (is : IsSoundTree first) (le
   -- the rules, stamp by stamp
   pub keeps_of : IsClosed first history cut → Keeps run (cut_of cut)
   keeps_of closed = record {
-    renames = λ t x other one two lt. subst (λ (k : ℕ). k < cut_of cut other) (at_stamp t x one) (closed.renames x other (in_history t x one) two (subst (λ (k : ℕ). k < cut_of cut x.directory) (sym (at_stamp t x one)) lt));
-    removals = λ t x u y one ends lt own same. subst (λ (k : ℕ). k < cut_of cut y.directory) (at_stamp u y own) (closed.removals x y (in_history t x one) ends (subst (λ (k : ℕ). k < cut_of cut x.directory) (sym (at_stamp t x one)) lt) (in_history u y own) same);
-    births = λ b d n kind c u x adds makes one same lt. closed.births (record { stamp = b; directory = d; node = c }) x (birth_in first history b (record { stamp = b; directory = d; node = c }) legal (born b d n kind c adds makes)) (in_history u x one) same (subst (λ (k : ℕ). k < cut_of cut x.directory) (sym (at_stamp u x one)) (subst (λ (k : ℕ). u < cut_of cut k) (sym same) lt));
+    renames = λ t x other one two lt. rw (at_stamp t x one) at (closed.renames x other (in_history t x one) two (rw (at_stamp t x one) lt));
+    removals = λ t x u y one ends lt own same. rw (at_stamp u y own) at (closed.removals x y (in_history t x one) ends (rw (at_stamp t x one) lt) (in_history u y own) same);
+    births = λ b d n kind c u x adds makes one same lt. closed.births (record { stamp = b; directory = d; node = c }) x (birth_in first history b (record { stamp = b; directory = d; node = c }) legal (born b d n kind c adds makes)) (in_history u x one) same (rw (at_stamp u x one) (rw same lt));
     ancestors = λ t x above node holder name s one places other kind lt way among row last.
         let e = at_stamp t x one in
         let tree : tree_at first history t ≡ tree_after first (take x.stamp history) = tree_at-after first history t ∙ ap (λ (k : ℕ). tree_after first (take k history)) (sym e) in
@@ -94,11 +94,11 @@ module _ (first : TreeState) (history : List Entry) (is : IsSoundTree first) (le
         subst (λ (k : ℕ). k < cut_of cut holder) found.2 (closed.ancestors x above node holder name found.0 (record {
           is_change = in_history t x one;
           moves = record { places = places; other = other; kind = subst (λ (w : TreeState). is_directory w x.child ≡ true) tree kind };
-        }) (subst (λ (k : ℕ). k < cut_of cut x.directory) (sym e) lt) (subst (λ (w : TreeState). Above w x.directory above) tree way) among (subst (λ (w : TreeState). row_of w holder name ≡ Some node) tree row) (subst (λ (k : ℕ). IsLastPlacing first history node k found.0) (sym e) found.1));
+        }) (rw e lt) (rw tree at way) among (rw tree at row) (rw e found.1));
   }
     where
       born : (b d : ℕ) (n : List ℕ) (kind : Kind) (c : ℕ) → effect_at first history b ≡ Adds d n c → makes_at first history b ≡ Some kind → IsOneOf (births_by b (effect_at first history b) (makes_at first history b)) (record { stamp = b; directory = d; node = c })
-      born b d n kind c adds makes = subst (λ (m : Option Kind). IsOneOf (births_by b (effect_at first history b) m) (record { stamp = b; directory = d; node = c })) (sym makes) (subst (λ (f : Effect). IsOneOf (births_by b f (Some kind)) (record { stamp = b; directory = d; node = c })) (sym adds) (inl refl))
+      born b d n kind c adds makes = rw makes (rw adds (inl refl))
 
   -- the rows at the cut, stamp by stamp
   abbrev till : ℕ → FinMap key_cmp ℕ
@@ -157,7 +157,7 @@ module _ (first : TreeState) (history : List Entry) (is : IsSoundTree first) (le
   cut_sound : IsClosed first history cut → IsSound whole
   cut_sound closed =
       subst (λ (rows : FinMap key_cmp ℕ). IsSound (with_rows whole rows)) seen_end
-      (seen_sound run (cut_of cut) seen_of (keeps_of closed) whole has_nodes (subst (λ (rows : FinMap key_cmp ℕ). IsSound (with_rows whole rows)) (sym (seen_of.begin ∙ rows_first history)) begins) (length history))
+      (seen_sound run (cut_of cut) seen_of (keeps_of closed) whole has_nodes (rw (seen_of.begin ∙ rows_first history) begins) (length history))
     where
       rows_first : (h : List Entry) → (tree_at first h 0).rows ≡ first.rows
       rows_first [] = refl

@@ -7,7 +7,7 @@ use Rattle.sfs_tree.specs.Order.{key_cmp}
 use Rattle.sfs_tree.specs.Tree.{TreeState, row_of, is_directory}
 use Rattle.sfs_tree.specs.Effect.{Effect, Stays, Adds, Removes, Moves, Edits}
 use Rattle.sfs_tree.specs.Verdict.{verdict}
-use Rattle.sfs_tree.specs.Changes.{RowChange, added, changes_by}
+use Rattle.sfs_tree.specs.Changes.{RowChange, added}
 use Rattle.sfs_tree.specs.Sound.{Above}
 use Rattle.sfs_tree.specs.History.{tree_after, tree_after_entry, IsLegalFrom, IsLegal}
 use Rattle.sfs_tree.specs.Laws.{IsSoundTree}
@@ -108,15 +108,15 @@ module _ (first : TreeState) (history : List Entry) (is : IsSoundTree first) (le
       naming = added birth.stamp birth.directory born.name birth.node None
 
       naming_is : IsChange first history naming
-      naming_is = change_in first history birth.stamp naming legal (subst (λ (f : Effect). IsOneOf (changes_by (tree_at first history birth.stamp) birth.stamp f) naming) (sym born.adds) (inl refl))
+      naming_is = change_in first history birth.stamp naming legal (rw born.adds (inl refl))
 
   births_raised : (birth : Birth) (own : RowChange) → IsOneOf (births_of first history) birth → IsChange first history own → own.directory ≡ birth.node → IsWithin raised own → birth.stamp < cut_of raised birth.directory
   births_raised birth own one own_is same within = elim (split own.stamp own.directory within) [
     | inl lt ↦ up birth.stamp birth.directory (kept.closed.births birth own one own_is same lt)
     | inr more ↦
         elim (inodes birth.node) as (λ b. inodes birth.node ≡ b → birth.stamp < cut_of raised birth.directory) [
-          | true ↦ λ e. up birth.stamp birth.directory (kept.born birth one e (subst (λ (y : ℕ). is_directory (tree_after first history) y ≡ true) same (kind_of_own own own_is)))
-          | false ↦ λ e. makes_up birth own one own_is same (subst (λ (y : ℕ). Member y) same more.0) e more.2
+          | true ↦ λ e. up birth.stamp birth.directory (kept.born birth one e (rw same at (kind_of_own own own_is)))
+          | false ↦ λ e. makes_up birth own one own_is same (rw same at more.0) e more.2
         ] refl
   ]
 
@@ -126,7 +126,7 @@ module _ (first : TreeState) (history : List Entry) (is : IsSoundTree first) (le
     | inr more ↦
         let live = live_at run change.stamp change (made_at first history is legal change move.is_change) in
         let sound = histories_keep_sound first history change.stamp is legal in
-        let kind : is_directory (tree_after first (take change.stamp history)) change.directory ≡ true = subst (λ (w : TreeState). is_directory w change.directory ≡ true) (tree_at-after first history change.stamp) live.kind in
+        let kind : is_directory (tree_after first (take change.stamp history)) change.directory ≡ true = rw (tree_at-after first history change.stamp) at live.kind in
         member_up last.stamp holder (ancestor change above holder more.0 (span change move.is_change more.1 more.2) move way (holder_above (tree_after first (take change.stamp history)) 0 0 sound.sound way kind node holder name among row)) (earlier last.stamp change.stamp placing.below more.2)
   ]
 
@@ -140,7 +140,7 @@ module _ (first : TreeState) (history : List Entry) (is : IsSoundTree first) (le
       | inl lt ↦ up own.stamp own.directory (kept.closed.removals change own one ends lt own_is same)
       | inr more ↦
           let before = ended_before run change.stamp change own.stamp own (made_at first history is legal change one) ends (made_at first history is legal own own_is) same in
-          member_up own.stamp own.directory (subst (λ (y : ℕ). Member y) (sym same) (ended change more.0 (span change one more.1 more.2) ends)) (earlier own.stamp change.stamp before more.2)
+          member_up own.stamp own.directory (rw same (ended change more.0 (span change one more.1 more.2) ends)) (earlier own.stamp change.stamp before more.2)
     ];
     births = births_raised;
     ancestors = ancestors_raised;

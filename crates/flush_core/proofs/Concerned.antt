@@ -33,7 +33,7 @@ module _ (first : TreeState) (history : List Entry) (past : Past) (is : IsPast f
   are_concerned concerned joins node = (
     λ has. elim ((joins node).0 has) [
       | inl own ↦ member node ((are node).0 own)
-      | inr some ↦ subst (IsConcerned first history every_entry cut (has_node inodes) flush) some.2.child (named (row_change_of some.0) ((are some.0.directory).0 some.2.member) (in_span first history past is cut flush.stamp some.0 some.1 some.2.spans))
+      | inr some ↦ rw some.2.child at (named (row_change_of some.0) ((are some.0.directory).0 some.2.member) (in_span first history past is cut flush.stamp some.0 some.1 some.2.spans))
     ],
     λ concerns. (joins node).1 (names_for node concerns),
   )

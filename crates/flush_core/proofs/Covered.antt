@@ -1,24 +1,23 @@
 -- An fsync is covered by the cut that it leaves.
-use Rattle.std.proofs.Common.{◌≡◌, ℕ, ◌<◌, Bool, true, false, cond, List, [], ◌∷◌, take, Some, None, IsSome, ◌⊎◌, inl, inr, refl, sym, subst, arith}
+use Rattle.std.proofs.Common.{◌≡◌, ℕ, ◌<◌, Bool, true, false, cond, List, [], ◌∷◌, Some, None, ◌⊎◌, inl, inr, refl, sym, arith}
 use borrow.Author.Tests.{ltb-true}
 use Rattle.std.specs.Prelude.{filter, fold}
 use Rattle.std.specs.FinMap.{FinMap, get, insert, remove}
 use Rattle.sfs_tree.specs.declared.history.Entry.{Entry}
 use Rattle.sfs_tree.specs.Order.{key_cmp}
 use Rattle.sfs_tree.specs.Tree.{TreeState}
-use Rattle.sfs_tree.specs.Effect.{Effect}
-use Rattle.sfs_tree.specs.Changes.{RowChange, added, changes_by, changes_of}
-use Rattle.sfs_tree.specs.History.{tree_after, IsLegal}
+use Rattle.sfs_tree.specs.Changes.{RowChange, added, changes_of}
+use Rattle.sfs_tree.specs.History.{IsLegal}
 use Rattle.sfs_tree.specs.Laws.{IsSoundTree}
 use Rattle.sfs_tree.proofs.RowFacts.{added_cases, removed_cases}
 use Rattle.flush_core.specs.Cut.{Cut, cut_of, is_within, with_own, rows_at_cut}
 use Rattle.flush_core.specs.Rules.{IsOneOf, Birth, births_of}
-use Rattle.flush_core.specs.Closure.{every_entry, Flush, HasNode, HasNaming, Closure, itself, birth_place, IsRaised, AreInodesAfter}
+use Rattle.flush_core.specs.Closure.{every_entry, Flush, HasNode, HasNaming, itself, birth_place, IsRaised, AreInodesAfter}
 use Rattle.flush_core.specs.Covers.{IsPlacedByCut, IsCovered, ArePlaced}
 use Rattle.flush_core.specs.Laws.{FsyncsCover}
 use Rattle.flush_core.proofs.Basics.{below_or}
 use Rattle.flush_core.proofs.Raises.{cuts_rise, members_rise}
-use Rattle.flush_core.proofs.Along.{node_first, tree_at, tree_at-after, run_of, change_in}
+use Rattle.flush_core.proofs.Along.{node_first, tree_at-after, run_of, change_in}
 use Rattle.flush_core.proofs.Lives.{no_node_yet}
 use Rattle.flush_core.proofs.Commit.{IsBornAt, birth_at}
 
@@ -71,7 +70,7 @@ module _ (first : TreeState) (history : List Entry) (is : IsSoundTree first) (le
   by_birth : (birth : Birth) → IsOneOf (births_of first history) birth → birth.stamp < cut_of raised birth.directory → IsPlacedByCut first history raised birth.node
   by_birth birth one lt = record {
     change = added birth.stamp birth.directory born.name birth.node None;
-    is_change = change_in first history birth.stamp (added birth.stamp birth.directory born.name birth.node None) legal (subst (λ (f : Effect). IsOneOf (changes_by (tree_at first history birth.stamp) birth.stamp f) (added birth.stamp birth.directory born.name birth.node None)) (sym born.adds) (inl refl));
+    is_change = change_in first history birth.stamp (added birth.stamp birth.directory born.name birth.node None) legal (rw born.adds (inl refl));
     places = refl;
     child = refl;
     within = lt;
@@ -87,12 +86,12 @@ module _ (first : TreeState) (history : List Entry) (is : IsSoundTree first) (le
     | inr le ↦
         let naming : HasNaming first history every_entry cut birth.node = record {
           change = added birth.stamp birth.directory born.name birth.node None;
-          is_change = change_in first history birth.stamp (added birth.stamp birth.directory born.name birth.node None) legal (subst (λ (f : Effect). IsOneOf (changes_by (tree_at first history birth.stamp) birth.stamp f) (added birth.stamp birth.directory born.name birth.node None)) (sym born.adds) (inl refl));
+          is_change = change_in first history birth.stamp (added birth.stamp birth.directory born.name birth.node None) legal (rw born.adds (inl refl));
           counted = refl;
           child = refl;
           unflushed = let lower = cuts_rise first history every_entry cut inodes flush raised raise birth.directory in omega arith;
         } in
-        let most = members_rise first history every_entry cut inodes flush raised raise birth.directory (birth_place birth (subst (λ (y : ℕ). Closure first history every_entry cut inodes flush y) (sym same) itself) one out naming) in
+        let most = members_rise first history every_entry cut inodes flush raised raise birth.directory (birth_place birth (rw same itself) one out naming) in
         let earlier = made_before in
         by_birth birth one (omega arith)
   ]
@@ -103,7 +102,7 @@ module _ (first : TreeState) (history : List Entry) (is : IsSoundTree first) (le
       made_before : birth.stamp < flush.stamp
       made_before = elim (below_or birth.stamp flush.stamp) [
         | inl lt ↦ lt
-        | inr le ↦ absurd (no_node_yet (run_of first history is legal) birth.stamp birth.directory born.name birth.node born.kind born.adds born.made flush.stamp le (subst (λ (tree : TreeState). IsSome (get tree.nodes birth.node)) (sym (tree_at-after first history flush.stamp)) (subst (λ (y : ℕ). IsSome (get (tree_after first (take flush.stamp history)).nodes y)) (sym same) there)))
+        | inr le ↦ absurd (no_node_yet (run_of first history is legal) birth.stamp birth.directory born.name birth.node born.kind born.adds born.made flush.stamp le (rw (tree_at-after first history flush.stamp) (rw same there)))
       ]
 
   own_placed : (birth : Birth) → IsOneOf (births_of first history) birth → birth.node ≡ flush.node → IsPlacedByCut first history raised birth.node
@@ -135,7 +134,7 @@ module _ (first : TreeState) (history : List Entry) (is : IsSoundTree first) (le
   own_covered : IsCovered first history raised flush
   own_covered = record {
     stamp = members_rise first history every_entry cut inodes flush raised raise flush.node itself;
-    placed = λ birth one same. subst (λ (y : ℕ). IsPlacedByCut first history raised y) same (own_placed birth one same);
+    placed = λ birth one same. rw same at (own_placed birth one same);
   }
 
 pub fsyncs_cover : FsyncsCover

@@ -15,7 +15,7 @@ use Rattle.flush_core.specs.Cut.{Cut}
 use Rattle.flush_core.specs.Rules.{IsOneOf}
 use Rattle.flush_core.specs.Closure.{every_entry, Flush, HasLiveNode, HasNode, AreRaised, none, one_more}
 use Rattle.flush_core.specs.Covers.{IsCovered}
-use Rattle.flush_core.specs.Machine.{MachineState, kept_of, Accepts}
+use Rattle.flush_core.specs.Machine.{MachineState, Accepts}
 use Rattle.flush_core.specs.Runs.{IsRun, IsBegun, AreAlive}
 use Rattle.flush_core.specs.LawsRuns.{every_commit, DurablesAreCovered, HasSameCut, FailuresStopCuts}
 use Rattle.flush_core.proofs.Basics.{below_or, both, in_right, is_next, none_below}
@@ -58,13 +58,13 @@ module _ (first : TreeState) (events : List Event) (states : ℕ → MachineStat
         began =
             let fly = durable_flies first events states is run alive (omega arith) durable commit stands in
             let before = begin_before first events states is run alive place le durable (omega arith) fly.0 fly.1 in
-            let same = begun_once first events states run before.0 begin commit fly.0.flush flush (subst (λ (c : ℕ). IsBegun events before.0 c fly.0.flush) fly.2 before.2) begun in
+            let same = begun_once first events states run before.0 begin commit fly.0.flush flush (rw fly.2 at before.2) begun in
             let less = before.1 in
             omega arith
 
         mine : IsOneOf (so_far first events states run place every_commit place) flush
         mine = more_so_far first events states run place every_commit (suc durable) place (omega arith) flush
-            (subst (λ (l : List Flush). IsOneOf l flush) (sym (one_durable first events states run place every_commit durable commit begin flush stands refl (let less = began in omega arith) begun)) (in_right (so_far first events states run place every_commit durable) (flush ∷ []) flush (inl refl)))
+            (rw (one_durable first events states run place every_commit durable commit begin flush stands refl (let less = began in omega arith) begun) (in_right (so_far first events states run place every_commit durable) (flush ∷ []) flush (inl refl)))
 
     -- the event that ends a run covers what was covered
     ended_covers : (old : MachineState) (e : Event) (new : MachineState) → Accepts old e new → old.first ≡ first → (old.crashed ≡ true → ⊥) → new.crashed ≡ true → IsCovered first old.history old.cut flush → IsCovered first new.history new.cut flush
@@ -76,7 +76,7 @@ module _ (first : TreeState) (events : List Event) (states : ℕ → MachineStat
     ended_covers old (event.Crash kept) new takes start goes ended was =
         subst (λ (s : MachineState). IsCovered first s.history s.cut flush) (sym takes.moves.2)
         (subst (λ (h : List Entry). IsCovered first h takes.moves.0.cut flush) (sym (ap (λ (s : MachineState). s.history) takes.moves.1.others))
-        (raised_cover first old.history (subst (λ (f : TreeState). AreRaised f old.history every_entry old.cut old.inodes (kept_of old kept.items) takes.moves.0.cut takes.moves.0.inodes) start takes.moves.1.raised) flush was))
+        (raised_cover first old.history (rw start at takes.moves.1.raised) flush was))
 
     durable_goes : (states (suc durable)).crashed ≡ true → ⊥
     durable_goes ended =
@@ -89,7 +89,7 @@ module _ (first : TreeState) (events : List Event) (states : ℕ → MachineStat
     covered_at (suc place) lt le = elim (states (suc place)).crashed as (λ b. (states (suc place)).crashed ≡ b → IsCovered first (states (suc place)).history (states (suc place)).cut flush) [
       | false ↦ λ goes. covered_before (suc place) lt le (λ ended. both ended goes)
       | true ↦ λ ended. elim (below_or durable place) [
-        | inr ge ↦ absurd (durable_goes (subst (λ (p : ℕ). (states p).crashed ≡ true) (at_once ge lt) ended))
+        | inr ge ↦ absurd (durable_goes (rw (at_once ge lt) at ended))
         | inl less ↦
             let there = event_there events place (omega arith) in
             ended_covers (states place) there.0 (states (suc place)) (run.steps place there.0 there.1) (steady_at first events states run place (omega arith)).start (goes_on_at first events states is run alive place (omega arith) place (omega arith)) ended
@@ -109,11 +109,11 @@ record StaysFailed (old new : MachineState) (commit : ℕ) : Type 0 where
   failed : new.failed ≡ Some commit
 
 failed_step : (old : MachineState) (e : Event) (new : MachineState) (commit : ℕ) → Accepts old e new → old.failed ≡ Some commit → (new.crashed ≡ true → ⊥) → StaysFailed old new commit
-failed_step old (event.Call entry) new commit takes failed goes = subst (λ (s : MachineState). StaysFailed old s commit) (sym takes.moves.1) (record { same = record { cut = refl; inodes = refl }; failed = failed })
+failed_step old (event.Call entry) new commit takes failed goes = rw takes.moves.1 (record { same = record { cut = refl; inodes = refl }; failed = failed })
 failed_step old (event.CutAt other node stamp) new commit takes failed goes = absurd (takes.free (refused.Stopped commit) (refl, failed))
 failed_step old (event.Opened other) new commit takes failed goes = absurd (takes.free (refused.Stopped commit) (refl, failed))
 failed_step old (event.Durable other) new commit takes failed goes = absurd (takes.free (refused.Stopped commit) (refl, failed))
-failed_step old (event.Fail other) new commit takes failed goes = subst (λ (s : MachineState). StaysFailed old s commit) (sym takes.moves) (record { same = record { cut = refl; inodes = refl }; failed = ap (λ (o : Option ℕ). option_or o (Some other)) failed })
+failed_step old (event.Fail other) new commit takes failed goes = rw takes.moves (record { same = record { cut = refl; inodes = refl }; failed = ap (λ (o : Option ℕ). option_or o (Some other)) failed })
 failed_step old (event.Crash kept) new commit takes failed goes = absurd (goes (ap (λ (s : MachineState). s.crashed) takes.moves.2))
 
 module _ (first : TreeState) (events : List Event) (states : ℕ → MachineState) (run : IsRun first events states) (place commit : ℕ) (failed : (states place).failed ≡ Some commit) where

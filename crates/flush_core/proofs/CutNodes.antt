@@ -1,5 +1,5 @@
 -- The nodes at a cut.
-use Rattle.std.proofs.Common.{◌≡◌, ℕ, true, false, cond, ◌&&◌, T, List, [], ◌∷◌, map, Option, Some, None, IsSome, option_map, refl, sym, ap, subst, ◌∙◌}
+use Rattle.std.proofs.Common.{◌≡◌, ℕ, true, false, cond, ◌&&◌, List, [], ◌∷◌, map, Option, Some, None, IsSome, option_map, refl, sym, ap, ◌∙◌}
 use Rattle.std.specs.Prelude.{◌↔◌}
 use Rattle.std.specs.Option.{option_map_or}
 use Rattle.std.specs.Ordering.{nat_cmp, eq_by_cmp}
@@ -42,12 +42,12 @@ module _ (bytes : ℕ → List ℕ) where
   -- each node is there, with its own bytes
   pub node_kept : (nodes : FinMap nat_cmp Node) (x : ℕ) → get (from_sorted {R = nat_cmp} (map with_bytes (entries nodes))) x ≡ option_map (own_bytes_of x) (get nodes x)
   node_kept nodes x =
-      get-from_sorted nat_cmp (map with_bytes (entries nodes)) x (subst T (sym (sorted_kept (entries nodes))) (entries_sorted nodes))
+      get-from_sorted nat_cmp (map with_bytes (entries nodes)) x (rw (sorted_kept (entries nodes)) (entries_sorted nodes))
       ∙ given x (entries nodes)
       ∙ ap (option_map (own_bytes_of x)) (sym (get-entries nodes x))
 
   pub still_node : (nodes : FinMap nat_cmp Node) (x : ℕ) → IsSome (get nodes x) → IsSome (get (from_sorted {R = nat_cmp} (map with_bytes (entries nodes))) x)
-  still_node nodes x some = subst IsSome (sym (node_kept nodes x)) (mapped (get nodes x) some)
+  still_node nodes x some = rw (node_kept nodes x) (mapped (get nodes x) some)
     where
       mapped : (o : Option Node) → IsSome o → IsSome (option_map (own_bytes_of x) o)
       mapped (Some n) e = refl
@@ -83,7 +83,7 @@ module _ (first : TreeState) (history : List Entry) (cut : Cut) where
       mapped None = refl
 
   same_nodes : (x : ℕ) → IsSome (get (tree_at_cut first history cut).nodes x) ↔ IsSome (get last.nodes x)
-  same_nodes x = (λ some. back (get last.nodes x) (subst IsSome (node_at_cut_is x) some), λ some. still_node (λ (y : ℕ). bytes_at first history y (cut_of cut y)) last.nodes x some)
+  same_nodes x = (λ some. back (get last.nodes x) (rw (node_at_cut_is x) at some), λ some. still_node (λ (y : ℕ). bytes_at first history y (cut_of cut y)) last.nodes x some)
     where
       back : (o : Option Node) → IsSome (option_map (λ (n : Node). record n { bytes = bytes_at first history x (cut_of cut x) }) o) → IsSome o
       back (Some n) e = refl

@@ -28,7 +28,7 @@ module _ (tree : TreeState) (core t : ℕ) (s : IsSound tree) where
   names_placed Stays makes f files d name x kind row y one child = absurd one
   names_placed (Edits file edit) makes f files d name x kind row y one child = absurd one
   names_placed (Adds e k c) None f files d name x kind row y one child = elim one [
-    | inl same ↦ absurd (both (subst (λ (z : ℕ). is_directory tree z ≡ true) (sym (ap (λ (z : RowChange). z.child) same ∙ child)) kind) (files e k c refl refl))
+    | inl same ↦ absurd (both (rw (ap (λ (z : RowChange). z.child) same ∙ child) kind) (files e k c refl refl))
     | inr none ↦ absurd none
   ]
   names_placed (Adds e k c) (Some mk) f files d name x kind row y one child = elim one [
@@ -166,7 +166,7 @@ module _ (r : Run) (cut : ℕ → ℕ) (s : Seen r cut) (keeps : Keeps r cut) (l
       | inr born ↦ now (now_there t born.directory born.name (lt born) (row_added r t born.directory born.name x born.adds) unseen (flushed_more t g.flushed (λ y one child. own born y one)))
     ]
     | inr none ↦ gone (gone_there t none unseen (flushed_more t g.flushed (λ y one child. elim (child_named (r.tree t) (r.core t) t (r.sound t) (r.effect t) (r.makes t) (r.fits t) (links t) y one) [
-      | inl named ↦ absurd (g.unnamed (subst (IsNamed (r.tree t).rows) child named))
+      | inl named ↦ absurd (g.unnamed (rw child at named))
       | inr born ↦ absurd (none (record { directory = born.directory; name = born.name; row = row_added r t born.directory born.name x (born.adds ∙ ap (Adds born.directory born.name) child) }))
     ])))
   ]
@@ -178,7 +178,7 @@ module _ (r : Run) (cut : ℕ → ℕ) (s : Seen r cut) (keeps : Keeps r cut) (l
       lt born = settled t born.directory born.name born.kind born.adds born.made
 
       own : (born : IsBorn (r.tree t) (r.core t) (r.sound t) (r.effect t) (r.makes t) x) → (y : RowChange) → Made r t y → t < cut y.directory
-      own born y one = elim (subst (λ (f : Effect). IsOneOf (changes_by (r.tree t) t f) y) born.adds one) [
+      own born y one = elim (rw born.adds at one) [
         | inl same ↦ subst (λ (z : RowChange). t < cut z.directory) same (lt born)
         | inr nothing ↦ absurd nothing
       ]
@@ -202,15 +202,15 @@ module _ (r : Run) (cut : ℕ → ℕ) (s : Seen r cut) (keeps : Keeps r cut) (l
           kind = kind_at t p.directory p.name p.row
 
           other : NoneStays t
-          other e k row le = no_less (subst (λ (d : ℕ). cut d ≤ t) (p.only e k row) le)
+          other e k row le = no_less (rw (p.only e k row) at le)
             where
               no_less : cut p.directory ≤ t → ⊥
               no_less more = omega arith
 
           flushed : AreFlushedTill (suc t)
           flushed = flushed_more t p.flushed (λ y one child. elim (names_placed (r.tree t) (r.core t) t (r.sound t) (r.effect t) (r.makes t) (r.fits t) (r.files t) p.directory p.name x kind p.row y one child) [
-            | inl at ↦ subst (λ (d : ℕ). t < cut d) (sym at) lt
-            | inr to ↦ subst (λ (d : ℕ). t < cut d) (sym to.1) (other_end r cut s keeps t p.directory p.name to.0.to_directory to.0.to_name x to.0.moves lt)
+            | inl at ↦ rw at lt
+            | inr to ↦ rw to.1 (other_end r cut s keeps t p.directory p.name to.0.to_directory to.0.to_name x to.0.moves lt)
           ])
 
   -- at each stamp the directory has its place

@@ -1,5 +1,5 @@
 -- The fsyncs of some commits, in the order in which they became durable.
-use Rattle.std.proofs.Common.{◌≡◌, ℕ, zero, suc, ◌<◌, ◌≤◌, Bool, true, false, cond, List, [], ◌∷◌, ◌++◌, take, Option, Some, None, ◌⊎◌, inl, inr, refl, sym, ap, subst, ◌∙◌, nat_eq, arith}
+use Rattle.std.proofs.Common.{◌≡◌, ℕ, zero, suc, ◌<◌, ◌≤◌, Bool, true, false, cond, List, [], ◌∷◌, ◌++◌, take, Option, Some, None, ◌⊎◌, inl, inr, refl, ap, subst, ◌∙◌, nat_eq, arith}
 use borrow.Author.Tests.{eqb-true, eq-eqb}
 use Rattle.std.specs.Prelude.{slice_get, filter_map, max}
 use Rattle.std.specs.List.{cons_option}
@@ -60,7 +60,7 @@ given_by {X} {Y} f (x ∷ xs) y one = elim (f x) as (λ o. f x ≡ o → IsOneOf
 is_given : {X Y : Type 0} (f : X → Option Y) (xs : List X) (x : X) (y : Y) → IsOneOf xs x → f x ≡ Some y → IsOneOf (filter_map f xs) y
 is_given f [] x y one e = absurd one
 is_given {X} {Y} f (z ∷ xs) x y one e = elim one [
-  | inl same ↦ subst (λ (o : Option Y). IsOneOf (cons_option o (filter_map f xs)) y) (sym (ap f same ∙ e)) (inl refl)
+  | inl same ↦ rw (ap f same ∙ e) (inl refl)
   | inr more ↦ elim (f z) as (λ o. IsOneOf (cons_option o (filter_map f xs)) y) [ None ↦ is_given f xs x y more e | Some w ↦ inr (is_given f xs x y more e) ]
 ]
 

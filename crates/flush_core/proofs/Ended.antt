@@ -1,5 +1,5 @@
 -- A commit that becomes durable, and a run that ends.
-use Rattle.std.proofs.Common.{◌≡◌, ℕ, Bool, true, false, cond, not, ◌≤◌, arith, List, [], ◌∷◌, map, Option, Some, None, option_map, is_some, refl, sym, ap, subst, ◌∙◌}
+use Rattle.std.proofs.Common.{◌≡◌, ℕ, Bool, true, false, cond, not, ◌≤◌, arith, List, [], ◌∷◌, map, Option, Some, None, option_map, is_some, refl, sym, ap, ◌∙◌}
 use Rattle.std.specs.Prelude.{filter, ◌==◌}
 use Rattle.std.specs.List.{find}
 use Rattle.flush_core.specs.declared.event.Event.{Event}
@@ -49,7 +49,7 @@ module _ (old : KeptState) (commit : ℕ) (running : old.crashed ≡ false) (goi
       flight,
       machine_of (raised_to old raise),
       is,
-      record { raised = subst (λ (f : Flush). AreRaised old.first old.entries every_entry old.cut (inodes_of old.first old.inodes) (f ∷ []) raise.cut (has_node raise.inodes)) (same_flush (sym mapped)) one_raise; others = refl },
+      record { raised = rw (same_flush (sym mapped)) at one_raise; others = refl },
       ap machine_of same ∙ ap (λ l. record (machine_of (raised_to old raise)) { flights = l }) left,
     );
   }

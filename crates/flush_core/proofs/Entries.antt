@@ -17,12 +17,12 @@ use Rattle.flush_core.proofs.Durables.{place_of_one, take_next}
 -- what stands at a place of a legal history may come there
 may_from : (first : TreeState) (stamp : ℕ) (history : List Entry) (place : ℕ) (entry : Entry) → IsLegalFrom first stamp history → slice_get history place ≡ Some entry → MayCome (tree_after first (take place history)) (stamp + place) entry
 may_from first stamp [] place entry legal stands = none_some stands
-may_from first stamp (next ∷ history) zero entry legal stands = subst (λ (s : ℕ). MayCome first s entry) (sym (plus_zero stamp)) (subst (MayCome first stamp) (some_is stands) legal.0)
+may_from first stamp (next ∷ history) zero entry legal stands = rw (plus_zero stamp) (rw (some_is stands) at legal.0)
 may_from first stamp (next ∷ history) (suc place) entry legal stands =
-    subst (λ (s : ℕ). MayCome (tree_after (tree_after_entry first next) (take place history)) s entry) (suc_plus stamp place) (may_from (tree_after_entry first next) (suc stamp) history place entry legal.1 stands)
+    rw (suc_plus stamp place) at (may_from (tree_after_entry first next) (suc stamp) history place entry legal.1 stands)
 
 may_at : (first : TreeState) (history : List Entry) (place : ℕ) (entry : Entry) → IsLegal first history → slice_get history place ≡ Some entry → MayCome (tree_after first (take place history)) place entry
-may_at first history place entry legal stands = subst (λ (s : ℕ). MayCome (tree_after first (take place history)) s entry) (zero_plus place) (may_from first 0 history place entry legal stands)
+may_at first history place entry legal stands = rw (zero_plus place) at (may_from first 0 history place entry legal stands)
 
 pub entries_may_come : EntriesMayCome
 entries_may_come first history entry legal one =
@@ -50,7 +50,7 @@ taken_length (next ∷ history) (suc place) entry stands = ap suc (taken_length 
 
 module _ (first : TreeState) (history : List Entry) (legal : IsLegal first history) (place : ℕ) (entry : Entry) (stands : slice_get history place ≡ Some entry) where
   may : MayCome (tree_after first (take place history)) (length (take place history)) entry
-  may = subst (λ (s : ℕ). MayCome (tree_after first (take place history)) s entry) (sym (taken_length history place entry stands)) (may_at first history place entry legal stands)
+  may = rw (taken_length history place entry stands) (may_at first history place entry legal stands)
 
   nothing_refuses : (why : Refused) → Refuses (told first history place) (event.Call entry) why → ⊥
   nothing_refuses refused.Crashed r = cc
@@ -76,5 +76,5 @@ calls_are_a_run first history legal = record {
   begins = refl;
   steps = λ place e stands.
       let at = called_at history place e stands in
-      subst (λ (f : Event). Accepts (told first history place) f (told first history (suc place))) at.2 (call_accepted first history legal place at.0 at.1);
+      rw at.2 at (call_accepted first history legal place at.0 at.1);
 }

@@ -33,7 +33,7 @@ module _ (r : Run) (cut : ℕ → ℕ) (s : Seen r cut) (keeps : Keeps r cut) (w
   seen_tree t = with_rows whole (s.rows t)
 
   made : (t : ℕ) (effect : Effect) (x : RowChange) → r.effect t ≡ effect → IsOneOf (changes_by (r.tree t) t effect) x → Made r t x
-  made t effect x e one = subst (λ (f : Effect). IsOneOf (changes_by (r.tree t) t f) x) (sym e) one
+  made t effect x e one = rw e one
 
   kind_seen : (t x : ℕ) → is_directory (r.tree t) x ≡ true → is_directory whole x ≡ true
   kind_seen t x kind = nodes.kind t x (directory_node (r.tree t) x kind) ∙ kind
@@ -56,7 +56,7 @@ module _ (r : Run) (cut : ℕ → ℕ) (s : Seen r cut) (keeps : Keeps r cut) (w
   node_seen zero d n x row = (r.sound zero).node d n x (sym (ahead r cut s zero d n (omega arith)) ∙ row)
   node_seen (suc t) d n x row = elim (below_or t (cut d)) [
     | inl lt ↦ (r.sound (suc t)).node d n x (sym (ahead r cut s (suc t) d n (omega arith)) ∙ row)
-    | inr le ↦ subst (λ (tree : TreeState). IsSome (get tree.nodes x)) (sym (r.next t)) (node_stays (r.tree t) (r.core t) (r.effect t) (r.makes t) x (r.fits t) (node_seen t d n x (sym (behind r cut s t d n le) ∙ row)))
+    | inr le ↦ rw (r.next t) (node_stays (r.tree t) (r.core t) (r.effect t) (r.makes t) x (r.fits t) (node_seen t d n x (sym (behind r cut s t d n le) ∙ row)))
   ]
 
   -- a way up whose placings lie below the cuts of the holders is there
@@ -68,7 +68,7 @@ module _ (r : Run) (cut : ℕ → ℕ) (s : Seen r cut) (keeps : Keeps r cut) (w
   -- a directory that a change below its cut ends has no rows
   bare_seen : (t : ℕ) (x : RowChange) (child : ℕ) → Made r t x → x.ends ≡ true → x.child ≡ child → t < cut x.directory → HasNoRows (r.tree t) child → HasNoRows (seen_tree t) child
   bare_seen t x child one ends same lt bare n =
-      all_seen r cut s child (λ u y own dir. subst (λ (k : ℕ). u < cut k) dir (keeps.removals t x u y one ends lt own (dir ∙ sym same))) t n ∙ bare n
+      all_seen r cut s child (λ u y own dir. rw dir at (keeps.removals t x u y one ends lt own (dir ∙ sym same))) t n ∙ bare n
 
   adds_seen : (t d : ℕ) (n : List ℕ) (c : ℕ) (makes : Option Kind) → r.effect t ≡ Adds d n c → r.makes t ≡ makes → Fits (r.tree t) (r.core t) (Adds d n c) makes → t < cut d → FitsAdds (seen_tree t) d n c
   adds_seen t d n c None e mk f lt = record {
@@ -84,7 +84,7 @@ module _ (r : Run) (cut : ℕ → ℕ) (s : Seen r cut) (keeps : Keeps r cut) (w
     no_root = λ root. not_none (directory_node (r.tree t) 0 (r.sound t).root) (ap (get (r.tree t).nodes) (sym root) ∙ f.fresh);
     placeless = λ dir k m row. not_none (node_seen t k m c row) f.fresh;
     node = nodes.node (suc t) c (subst (λ (tree : TreeState). IsSome (get tree.nodes c)) (sym (r.next t ∙ ap (λ (g : Effect). tree_with (r.tree t) (r.core t) g (r.makes t)) e ∙ ap (tree_with (r.tree t) (r.core t) (Adds d n c)) mk)) (elim (node_cases (r.tree t).nodes (next_number (r.tree t) (r.core t)) (record { kind = kind; bytes = [] }) c) [
-      | inl here ↦ subst IsSome (sym here.1) refl
+      | inl here ↦ rw here.1 refl
       | inr other ↦ absurd (other.0 f.number)
     ]));
   }
@@ -129,31 +129,31 @@ module _ (r : Run) (cut : ℕ → ℕ) (s : Seen r cut) (keeps : Keeps r cut) (w
   -- all changes of a stamp are made in the tree at the cut, or none is
   all_made : (t : ℕ) (effect : Effect) → ((x : RowChange) → IsOneOf (changes_by (r.tree t) t effect) x → t < cut x.directory) → fold with_own (s.rows t) (filter (below_cut cut) (changes_by (r.tree t) t effect)) ≡ Rattle.sfs_tree.specs.Effect.rows_after (s.rows t) effect
   all_made t effect h =
-      ap (fold with_own (s.rows t)) (filter_all (below_cut cut) (changes_by (r.tree t) t effect) (λ x one. lt-ltb x.stamp (cut x.directory) (subst (λ (k : ℕ). k < cut x.directory) (sym (stamp_of (r.tree t) t effect x one)) (h x one))))
+      ap (fold with_own (s.rows t)) (filter_all (below_cut cut) (changes_by (r.tree t) t effect) (λ x one. lt-ltb x.stamp (cut x.directory) (rw (stamp_of (r.tree t) t effect x one) (h x one))))
       ∙ folds (s.rows t) (r.tree t) t effect
 
   none_made : (t : ℕ) (effect : Effect) → ((x : RowChange) → IsOneOf (changes_by (r.tree t) t effect) x → cut x.directory ≤ t) → fold with_own (s.rows t) (filter (below_cut cut) (changes_by (r.tree t) t effect)) ≡ s.rows t
   none_made t effect h =
-      ap (fold with_own (s.rows t)) (filter_none (below_cut cut) (changes_by (r.tree t) t effect) (λ x one. not_below x.stamp (cut x.directory) (subst (λ (k : ℕ). cut x.directory ≤ k) (sym (stamp_of (r.tree t) t effect x one)) (h x one))))
+      ap (fold with_own (s.rows t)) (filter_none (below_cut cut) (changes_by (r.tree t) t effect) (λ x one. not_below x.stamp (cut x.directory) (rw (stamp_of (r.tree t) t effect x one) (h x one))))
 
   abbrev Next : ℕ → Effect → Type 0
   Next t effect = IsSound (with_rows whole (fold with_own (s.rows t) (filter (below_cut cut) (changes_by (r.tree t) t effect))))
 
   spared : (t : ℕ) (effect : Effect) → IsSound (seen_tree t) → ((x : RowChange) → IsOneOf (changes_by (r.tree t) t effect) x → cut x.directory ≤ t) → Next t effect
-  spared t effect sound h = subst (λ (rows : FinMap key_cmp ℕ). IsSound (with_rows whole rows)) (sym (none_made t effect h)) sound
+  spared t effect sound h = rw (none_made t effect h) sound
 
   one_dir : (P : ℕ → Type 0) (x : RowChange) (y : RowChange) → P x.directory → IsOneOf (x ∷ []) y → P y.directory
-  one_dir P x y h one = elim one [ inl e ↦ subst (λ (z : RowChange). P z.directory) e h | inr none ↦ absurd none ]
+  one_dir P x y h one = elim one [ inl e ↦ rw e at h | inr none ↦ absurd none ]
 
   adds_next : (t d : ℕ) (n : List ℕ) (c : ℕ) (makes : Option Kind) → r.effect t ≡ Adds d n c → r.makes t ≡ makes → Fits (r.tree t) (r.core t) (Adds d n c) makes → IsSound (seen_tree t) → Next t (Adds d n c)
   adds_next t d n c makes e mk f sound = elim (below_or t (cut d)) [
-    | inl lt ↦ subst (λ (rows : FinMap key_cmp ℕ). IsSound (with_rows whole rows)) (sym (all_made t (Adds d n c) (λ y one. one_dir (λ k. t < cut k) (added t d n c None) y lt one))) (IsSound-adds (seen_tree t) sound d n c (adds_seen t d n c makes e mk f lt))
+    | inl lt ↦ rw (all_made t (Adds d n c) (λ y one. one_dir (λ k. t < cut k) (added t d n c None) y lt one)) (IsSound-adds (seen_tree t) sound d n c (adds_seen t d n c makes e mk f lt))
     | inr le ↦ spared t (Adds d n c) sound (λ y one. one_dir (λ k. cut k ≤ t) (added t d n c None) y le one)
   ]
 
   removes_next : (t d : ℕ) (n : List ℕ) (c : ℕ) → r.effect t ≡ Removes d n c → FitsRemoves (r.tree t) d n c → IsSound (seen_tree t) → Next t (Removes d n c)
   removes_next t d n c e f sound = elim (below_or t (cut d)) [
-    | inl lt ↦ subst (λ (rows : FinMap key_cmp ℕ). IsSound (with_rows whole rows)) (sym (all_made t (Removes d n c) (λ y one. one_dir (λ k. t < cut k) (removed t d n c None (is_directory (r.tree t) c)) y lt one))) (IsSound-removes (seen_tree t) sound d n c (removes_seen t d n c e f lt))
+    | inl lt ↦ rw (all_made t (Removes d n c) (λ y one. one_dir (λ k. t < cut k) (removed t d n c None (is_directory (r.tree t) c)) y lt one)) (IsSound-removes (seen_tree t) sound d n c (removes_seen t d n c e f lt))
     | inr le ↦ spared t (Removes d n c) sound (λ y one. one_dir (λ k. cut k ≤ t) (removed t d n c None (is_directory (r.tree t) c)) y le one)
   ]
 
@@ -162,11 +162,11 @@ module _ (r : Run) (cut : ℕ → ℕ) (s : Seen r cut) (keeps : Keeps r cut) (w
     | inl lp ↦
         let lq = other_end r cut s keeps t p n q m c e lp in
         subst (λ (rows : FinMap key_cmp ℕ). IsSound (with_rows whole rows)) (sym (all_made t (Moves p n q m c) (λ y one. elim (sides (r.tree t) t p n q m c y one) [
-          | inl same ↦ subst (λ (k : ℕ). t < cut k) (sym same) lp
-          | inr same ↦ subst (λ (k : ℕ). t < cut k) (sym same) lq
+          | inl same ↦ rw same lp
+          | inr same ↦ rw same lq
         ]))) (IsSound-moves (seen_tree t) sound p n q m c (moves_seen t p n q m c e f lp lq))
     | inr le ↦ spared t (Moves p n q m c) sound (λ y one. elim (sides (r.tree t) t p n q m c y one) [
-      | inl same ↦ subst (λ (k : ℕ). cut k ≤ t) (sym same) le
+      | inl same ↦ rw same le
       | inr same ↦ subst (λ (k : ℕ). cut k ≤ t) (sym same) (elim (below_or t (cut q)) [
         | inl lq ↦ absurd (no_less (first_end r cut s keeps t p n q m c e lq) le)
         | inr above ↦ above
@@ -186,4 +186,4 @@ module _ (r : Run) (cut : ℕ → ℕ) (s : Seen r cut) (keeps : Keeps r cut) (w
   -- the tree at the cut is sound, with what lies below any stamp
   pub seen_sound : IsSound (seen_tree 0) → (t : ℕ) → IsSound (seen_tree t)
   seen_sound begin zero = begin
-  seen_sound begin (suc t) = subst (λ (rows : FinMap key_cmp ℕ). IsSound (with_rows whole rows)) (sym (s.more t)) (next_sound t (r.effect t) (r.makes t) refl refl (r.fits t) (seen_sound begin t))
+  seen_sound begin (suc t) = rw (s.more t) (next_sound t (r.effect t) (r.makes t) refl refl (r.fits t) (seen_sound begin t))

@@ -1,6 +1,5 @@
 -- A flight makes the commit that it would have made as it began.
 use Rattle.std.proofs.Common.{◌≡◌, ◌≢◌, ℕ, zero, suc, ◌≤◌, Bool, true, List, [], ◌∷◌, length, map, Option, Some, None, is_some, inl, inr, refl, sym, ap, subst, ◌∙◌, arith}
-use Rattle.std.specs.Prelude.{◌↔◌}
 use Rattle.sfs_tree.specs.Tree.{TreeState}
 use Rattle.sfs_tree.specs.Laws.{IsSoundTree}
 use Rattle.flush_core.specs.declared.event.Event.{Event}
@@ -8,7 +7,7 @@ use Rattle.flush_core.specs.Cut.{Cut, cut_of}
 use Rattle.flush_core.specs.Rules.{IsOneOf}
 use Rattle.flush_core.specs.Closure.{every_entry, Flush, AreRaised}
 use Rattle.flush_core.specs.Machine.{Flight, MachineState, flight_of}
-use Rattle.flush_core.specs.Runs.{IsRun, IsBegun, AreAlive, view_of, Concerns, IsOneCommit}
+use Rattle.flush_core.specs.Runs.{IsRun, IsBegun, AreAlive, view_of, IsOneCommit, view_by}
 use Rattle.flush_core.specs.Laws.{FlightsStay}
 use Rattle.flush_core.proofs.Views.{below, IsHeld}
 use Rattle.flush_core.proofs.Listed.{from_map}
@@ -30,8 +29,8 @@ module _ (first : TreeState) (events : List Event) (states : ℕ → MachineStat
     begin = s.begin;
     earlier = s.earlier;
     at = record {
-      begun = subst (λ (f : Flush). IsBegun events s.begin flight.commit f) old.flush (subst (λ (c : ℕ). IsBegun events s.begin c old.was.flush) old.commit s.at.begun);
-      theirs = λ node. subst (λ (f : Flush). (flight.concerned node ≡ true) ↔ Concerns first f (view_of (states s.begin)) node) old.flush (subst (λ (c : ℕ → Bool). (c node ≡ true) ↔ Concerns first old.was.flush (view_of (states s.begin)) node) old.concerned (s.at.theirs node));
+      begun = rw old.flush at (rw old.commit at s.at.begun);
+      theirs = λ node. rw old.flush at (rw old.concerned at (s.at.theirs node));
     };
     agree = λ node concerned. s.agree node (ap (λ (c : ℕ → Bool). c node) old.concerned ∙ concerned);
   }
@@ -39,18 +38,18 @@ module _ (first : TreeState) (events : List Event) (states : ℕ → MachineStat
   begins_so : (place : ℕ) → suc place ≤ last → (flight : Flight) → BeginsAt first events states place flight → StaysSo flight (states (suc place)).cut (states (suc place)).inodes
   begins_so place le flight new =
       let takes = takes_cut first events states run place flight.commit flight.flush new.begun in
-      subst (λ (s : MachineState). StaysSo flight s.cut s.inodes) (sym takes.moves.2) (record { begin = place; earlier = omega arith; at = new; agree = λ node concerned. agree_itself first (whole first events states is run alive last within) (all first events states is run alive last within) (states place).cut (states place).inodes node })
+      rw takes.moves.2 (record { begin = place; earlier = omega arith; at = new; agree = λ node concerned. agree_itself first (whole first events states is run alive last within) (all first events states is run alive last within) (states place).cut (states place).inodes node })
 
   goes_on : (place : ℕ) (e : Event) → suc place ≤ last → StayApart first events states is run alive last within place → CutStep first (states place) (states (suc place)) e → (flight : Flight) → IsOneOf (states (suc place)).flights flight → IsAmong (states place).flights flight → StaysSo flight (states (suc place)).cut (states (suc place)).inodes
   goes_on place e le kept (stays cuts inodes none) flight one old =
-      subst (λ (c : Cut). StaysSo flight c (states (suc place)).inodes) cuts (subst (λ (i : ℕ → Bool). StaysSo flight (states place).cut i) inodes (stays_as (states place).flights flight (states place).cut (states place).inodes old (kept.each old.was old.there)))
+      rw cuts at (rw inodes at (stays_as (states place).flights flight (states place).cut (states place).inodes old (kept.each old.was old.there)))
   goes_on place e le kept (raises commit raiser same there number are others) flight one old =
       stays_as (states place).flights flight (states (suc place)).cut (states (suc place)).inodes old
       (others_stay first events states is run alive last within place (omega arith) kept are (raiser ∷ []) refl
-      (λ f it. elim it [ inl e ↦ subst (IsOneOf (states place).flights) e there | inr nothing ↦ absurd nothing ])
+      (λ f it. elim it [ inl e ↦ rw e at there | inr nothing ↦ absurd nothing ])
       (λ f it. absurd it, tt) old.was old.there
       (λ f it. elim it [ inl e ↦ λ equal. others flight one (sym old.commit ∙ sym equal ∙ ap (λ (g : Flight). g.commit) (sym e) ∙ number) | inr nothing ↦ absurd nothing ]))
-  goes_on place e le kept (ends gone ended) flight one old = absurd (subst (λ (l : List Flight). IsOneOf l flight) gone one)
+  goes_on place e le kept (ends gone ended) flight one old = absurd (rw gone at one)
 
   abbrev ConcernApart : Flight → Flight → Type 0
   ConcernApart flight other = (node : ℕ) → flight.concerned node ≡ true → other.concerned node ≡ true → ⊥
@@ -74,8 +73,8 @@ module _ (first : TreeState) (events : List Event) (states : ℕ → MachineStat
   -- in each state all flights stay so, and no two concern one node
   pub stay_apart : (place : ℕ) → place ≤ last → StayApart first events states is run alive last within place
   stay_apart zero le = record {
-    each = λ flight one. absurd (subst (λ (s : MachineState). IsOneOf s.flights flight) run.begins one);
-    apart = λ flight other one. absurd (subst (λ (s : MachineState). IsOneOf s.flights flight) run.begins one);
+    each = λ flight one. absurd (rw run.begins at one);
+    apart = λ flight other one. absurd (rw run.begins at one);
   }
   stay_apart (suc place) le =
       let there = event_there events place (omega arith) in
@@ -103,23 +102,23 @@ module _ (first : TreeState) (events : List Event) (states : ℕ → MachineStat
   from f it = let one = from_map (λ (g : Flight). g.flush) others f it in (one.0, among one.0 one.1, one.2)
 
   cuts : (node : ℕ) → cut_of cut node ≤ length (states later).history
-  cuts = cuts_stay_low first (states later).history every_entry (length (states later).history) raised steady.cuts (λ f it. let g = from f it in subst (λ (h : Flush). h.stamp ≤ length (states later).history) g.2 (steady.stamps g.0 g.1))
+  cuts = cuts_stay_low first (states later).history every_entry (length (states later).history) raised steady.cuts (λ f it. let g = from f it in rw g.2 at (steady.stamps g.0 g.1))
 
   held : IsHeld first (states later).history cut inodes
   held = flights_hold first events states is run alive later within later (omega arith) raised from (held_at first events states is run alive later within later (omega arith))
 
   -- a flight of the state that stays so makes the commit that it would have made
-  one_commit : (place commit : ℕ) (flush : Flush) → IsBegun events place commit flush → (flight : Flight) → IsOneOf (states later).flights flight → flight.commit ≡ commit → Stays first events states is run alive later within flight cut inodes → IsOneCommit first flush (view_of (states place)) (record { history = (states later).history; counts = every_entry; cut = cut; inodes = inodes })
+  one_commit : (place commit : ℕ) (flush : Flush) → IsBegun events place commit flush → (flight : Flight) → IsOneOf (states later).flights flight → flight.commit ≡ commit → Stays first events states is run alive later within flight cut inodes → IsOneCommit first flush (view_of (states place)) (view_by ((states later).history) every_entry cut inodes)
   one_commit place commit flush begun flight one number s =
-      subst (λ (p : ℕ). IsOneCommit first flush (view_of (states p)) (record { history = (states later).history; counts = every_entry; cut = cut; inodes = inodes })) (sym (begun_once first events states run place s.begin commit flush flight.flush begun also))
-      (subst (λ (f : Flush). IsOneCommit first f (view_of (states s.begin)) (record { history = (states later).history; counts = every_entry; cut = cut; inodes = inodes })) (sym (one_flush first events states run place s.begin commit flush flight.flush begun also))
-      (then_alike first flight.flush (view_of (states s.begin)) (record { history = (states later).history; counts = below (length (states later).history); cut = cut; inodes = inodes }) (record { history = (states later).history; counts = every_entry; cut = cut; inodes = inodes })
+      subst (λ (p : ℕ). IsOneCommit first flush (view_of (states p)) (view_by ((states later).history) every_entry cut inodes)) (sym (begun_once first events states run place s.begin commit flush flight.flush begun also))
+      (subst (λ (f : Flush). IsOneCommit first f (view_of (states s.begin)) (view_by ((states later).history) every_entry cut inodes)) (sym (one_flush first events states run place s.begin commit flush flight.flush begun also))
+      (then_alike first flight.flush (view_of (states s.begin)) (view_by ((states later).history) (below (length (states later).history)) cut inodes) (view_by ((states later).history) every_entry cut inodes)
       (stays_one first events states is run alive later within flight cut inodes s)
-      (alike_back first flight.flush (record { history = (states later).history; counts = every_entry; cut = cut; inodes = inodes }) (record { history = (states later).history; counts = below (length (states later).history); cut = cut; inodes = inodes })
+      (alike_back first flight.flush (view_by ((states later).history) every_entry cut inodes) (view_by ((states later).history) (below (length (states later).history)) cut inodes)
       (whole_alike first events states is run alive later within later (omega arith) flight.flush cut inodes (steady.stamps flight one) (live_begun first events states is run alive later within s.begin flight.commit flight.flush s.earlier s.at.begun) cuts held))))
     where
       also : IsBegun events s.begin commit flight.flush
-      also = subst (λ (c : ℕ). IsBegun events s.begin c flight.flush) number s.at.begun
+      also = rw number at s.at.begun
 
 pub flights_stay : FlightsStay
 flights_stay first events states place later commit flush others cut inodes is run alive flies apart among raised =

@@ -1,5 +1,5 @@
 -- Where the flights of a run's states come from, and what an event does to the cut.
-use Rattle.std.proofs.Common.{◌≡◌, ◌≢◌, ℕ, zero, suc, ◌<◌, ◌≤◌, Bool, true, not, List, [], ◌∷◌, length, Some, None, ◌⊎◌, inl, inr, refl, sym, ap, subst, ◌∙◌, nat_eq, arith}
+use Rattle.std.proofs.Common.{◌≡◌, ◌≢◌, ℕ, zero, suc, ◌<◌, ◌≤◌, Bool, true, not, List, [], ◌∷◌, length, Some, None, ◌⊎◌, inl, inr, refl, ap, ◌∙◌, nat_eq, arith}
 use borrow.Author.Tests.{eq-eqb}
 use Rattle.std.specs.Prelude.{◌↔◌, slice_get}
 use Rattle.sfs_tree.specs.Tree.{TreeState}
@@ -38,7 +38,7 @@ pub data CutStep (first : TreeState) (old new : MachineState) (e : Event) : Type
 
 module _ (first : TreeState) where
   still : (old new : MachineState) (e : Event) → ((events : List Event) (chosen : ℕ → Bool) → durable_by events chosen e ≡ None) → (also : MachineState) → new ≡ also → old.cut ≡ also.cut → old.inodes ≡ also.inodes → CutStep first old new e
-  still old new e none also same cuts inodes = stays (subst (λ (s : MachineState). old.cut ≡ s.cut) (sym same) cuts) (subst (λ (s : MachineState). old.inodes ≡ s.inodes) (sym same) inodes) none
+  still old new e none also same cuts inodes = stays (rw same cuts) (rw same inodes) none
 
   pub cut_step : (old : MachineState) (e : Event) (new : MachineState) → old.first ≡ first → Accepts old e new → CutStep first old new e
   cut_step old (event.Call entry) new start takes = still old new (event.Call entry) (λ events chosen. refl) _ takes.moves.1 refl refl
@@ -49,38 +49,38 @@ module _ (first : TreeState) where
   cut_step old (event.Durable commit) new start takes =
       let found = flight_found old commit takes.moves.0 takes.moves.2 in
       raises commit takes.moves.0 refl found.0 found.1
-      (subst (λ (s : MachineState). AreRaised first old.history every_entry old.cut old.inodes (takes.moves.0.flush ∷ []) s.cut s.inodes) (sym takes.moves.4) (subst (λ (f : TreeState). AreRaised f old.history every_entry old.cut old.inodes (takes.moves.0.flush ∷ []) takes.moves.1.cut takes.moves.1.inodes) start takes.moves.3.raised))
-      (λ other one. others other (in_filter (λ (f : Flight). not (nat_eq f.commit commit)) old.flights other (subst (λ (s : MachineState). IsOneOf s.flights other) takes.moves.4 one)).1)
+      (rw takes.moves.4 (rw start at takes.moves.3.raised))
+      (λ other one. others other (in_filter (λ (f : Flight). not (nat_eq f.commit commit)) old.flights other (rw takes.moves.4 at one)).1)
     where
       others : (other : Flight) → not (nat_eq other.commit commit) ≡ true → other.commit ≢ commit
       others other passes same = differ (eq-eqb other.commit commit same)
         where
           differ : nat_eq other.commit commit ≡ true → ⊥
-          differ e = let f : not true ≡ true = subst (λ (b : Bool). not b ≡ true) e passes in cc
+          differ e = let f : not true ≡ true = rw e at passes in cc
 
 module _ (first : TreeState) (events : List Event) (states : ℕ → MachineState) (run : IsRun first events states) where
   begins_at : (place commit : ℕ) (flush : Flush) (flight : Flight) → (states place).first ≡ first → IsBegun events place commit flush → BeginsFlight (states place) commit flush flight → BeginsAt first events states place flight
   begins_at place commit flush flight start begun begins = record {
-    begun = subst (λ (f : Flush). IsBegun events place flight.commit f) (sym begins.own) (subst (λ (c : ℕ). IsBegun events place c flush) (sym begins.number) begun);
-    theirs = λ node. subst (λ (f : Flush). (flight.concerned node ≡ true) ↔ Concerns first f (view_of (states place)) node) (sym begins.own) (subst (λ (f : TreeState). (flight.concerned node ≡ true) ↔ Concerns f flush (view_of (states place)) node) start (begins.concerned node));
+    begun = rw begins.own (rw begins.number begun);
+    theirs = λ node. rw begins.own (rw start at (begins.concerned node));
   }
 
   from_step : (place : ℕ) (e : Event) → slice_get events place ≡ Some e → Accepts (states place) e (states (suc place)) → (states place).first ≡ first → (flight : Flight) → IsOneOf (states (suc place)).flights flight → IsAmong (states place).flights flight ⊎ BeginsAt first events states place flight
-  from_step place (event.Call entry) stands takes start flight one = inl (among_itself (states place).flights flight (subst (λ (s : MachineState). IsOneOf s.flights flight) takes.moves.1 one))
-  from_step place (event.CutAt commit node stamp) stands takes start flight one = elim (in_either (states place).flights (takes.moves.0 ∷ []) flight (subst (λ (s : MachineState). IsOneOf s.flights flight) takes.moves.2 one)) [
+  from_step place (event.Call entry) stands takes start flight one = inl (among_itself (states place).flights flight (rw takes.moves.1 at one))
+  from_step place (event.CutAt commit node stamp) stands takes start flight one = elim (in_either (states place).flights (takes.moves.0 ∷ []) flight (rw takes.moves.2 at one)) [
     | inl old ↦ inl (among_itself (states place).flights flight old)
     | inr new ↦ elim new [
-      | inl same ↦ inr (subst (BeginsAt first events states place) same (begins_at place commit (record { node = node.0; stamp = stamp.0 }) takes.moves.0 start (record { event = event.CutAt commit node stamp; stands = stands; begins = refl }) takes.moves.1))
+      | inl same ↦ inr (rw same at (begins_at place commit (record { node = node.0; stamp = stamp.0 }) takes.moves.0 start (record { event = event.CutAt commit node stamp; stands = stands; begins = refl }) takes.moves.1))
       | inr nothing ↦ absurd nothing
     ]
   ]
   from_step place (event.Opened commit) stands takes start flight one =
-      let from = from_map (opened_for commit) (states place).flights flight (subst (λ (s : MachineState). IsOneOf s.flights flight) takes.moves one) in
+      let from = from_map (opened_for commit) (states place).flights flight (rw takes.moves at one) in
       inl (record { was = from.0; there = from.1; commit = ap (λ (f : Flight). f.commit) from.2; flush = ap (λ (f : Flight). f.flush) from.2; concerned = ap (λ (f : Flight). f.concerned) from.2 })
   from_step place (event.Durable commit) stands takes start flight one =
-      inl (among_itself (states place).flights flight (in_filter (λ (f : Flight). not (nat_eq f.commit commit)) (states place).flights flight (subst (λ (s : MachineState). IsOneOf s.flights flight) takes.moves.4 one)).0)
-  from_step place (event.Fail commit) stands takes start flight one = inl (among_itself (states place).flights flight (subst (λ (s : MachineState). IsOneOf s.flights flight) takes.moves one))
-  from_step place (event.Crash kept) stands takes start flight one = absurd (subst (λ (s : MachineState). IsOneOf s.flights flight) takes.moves.2 one)
+      inl (among_itself (states place).flights flight (in_filter (λ (f : Flight). not (nat_eq f.commit commit)) (states place).flights flight (rw takes.moves.4 at one)).0)
+  from_step place (event.Fail commit) stands takes start flight one = inl (among_itself (states place).flights flight (rw takes.moves at one))
+  from_step place (event.Crash kept) stands takes start flight one = absurd (rw takes.moves.2 at one)
 
   -- a flight of the next state is one of this state, or begins here
   pub flight_from : (place : ℕ) → suc place ≤ length events → (flight : Flight) → IsOneOf (states (suc place)).flights flight → IsAmong (states place).flights flight ⊎ BeginsAt first events states place flight
@@ -90,14 +90,14 @@ module _ (first : TreeState) (events : List Event) (states : ℕ → MachineStat
 
   -- a flight of a later state was one at a place, or begins from there on
   pub flight_before : (place later : ℕ) → place ≤ later → later ≤ length events → (flight : Flight) → IsOneOf (states later).flights flight → IsAmong (states place).flights flight ⊎ ((begin : ℕ) × (place ≤ begin) × (begin < later) × IsBegun events begin flight.commit flight.flush)
-  flight_before place zero le within flight one = inl (among_itself (states place).flights flight (subst (λ (p : ℕ). IsOneOf (states p).flights flight) (sym (none_below place le)) one))
+  flight_before place zero le within flight one = inl (among_itself (states place).flights flight (rw (none_below place le) one))
   flight_before place (suc later) le within flight one = elim (below_or later place) [
-    | inl lt ↦ inl (among_itself (states place).flights flight (subst (λ (p : ℕ). IsOneOf (states p).flights flight) (sym (is_next place later le lt)) one))
+    | inl lt ↦ inl (among_itself (states place).flights flight (rw (is_next place later le lt) one))
     | inr less ↦ elim (flight_from later within flight one) [
       | inr new ↦ inr (later, less, omega arith, new.begun)
       | inl old ↦ elim (flight_before place later less (omega arith) old.was old.there) [
         | inl among ↦ inl (record { was = among.was; there = among.there; commit = among.commit ∙ old.commit; flush = among.flush ∙ old.flush; concerned = among.concerned ∙ old.concerned })
-        | inr begins ↦ inr (begins.0, begins.1, let lt = begins.2 in omega arith, subst (λ (f : Flush). IsBegun events begins.0 flight.commit f) old.flush (subst (λ (c : ℕ). IsBegun events begins.0 c old.was.flush) old.commit begins.3))
+        | inr begins ↦ inr (begins.0, begins.1, let lt = begins.2 in omega arith, rw old.flush at (rw old.commit at begins.3))
       ]
     ]
   ]

@@ -1,5 +1,5 @@
 -- Sets to which the elements of a list add nodes, one after the other.
-use Rattle.std.proofs.Common.{◌≡◌, ℕ, ◌+◌, ◌<◌, ◌≤◌, true, false, List, length, take, get_or, ◌↔◌, ◌⊎◌, inl, inr, sym, subst, ◌∙◌}
+use Rattle.std.proofs.Common.{◌≡◌, ℕ, ◌+◌, ◌<◌, ◌≤◌, true, false, List, length, take, get_or, ◌↔◌, ◌⊎◌, inl, inr, sym, ◌∙◌}
 use Rattle.std.proofs.lemmas.List.{take_all}
 use Rattle.flush_core.specs.declared.sets.NodeSet.{NodeSet}
 use Rattle.flush_core.specs.NodeSets.{has_node, with_member}
@@ -26,20 +26,20 @@ gather_more BringsIn xs i d v start before after lt is first next node = (come, 
     stay (inl own) = (next node).1 (inl ((first node).1 (inl own)))
     stay (inr (x, one, brings)) = elim (one_more xs i d v x lt is one) [
       | inl before_it ↦ (next node).1 (inl ((first node).1 (inr (x, before_it, brings))))
-      | inr e ↦ (next node).1 (inr (subst (λ y. BringsIn y node) (sym e) brings))
+      | inr e ↦ (next node).1 (inr (rw e brings))
     ]
 
 -- all of them have
 pub gather_all : {X : Type 0} (BringsIn : X → ℕ → Type 0) (xs : List X) (i : ℕ) (start set : NodeSet) → length xs ≤ i → Joins (OfSome (take i xs) BringsIn) start set → Joins (OfSome xs BringsIn) start set
-gather_all BringsIn xs i start set le joins = subst (λ l. Joins (OfSome l BringsIn) start set) (take_all i xs le) joins
+gather_all BringsIn xs i start set le joins = rw (take_all i xs le) at joins
 
 -- a node is put in
 pub join_one : (More : ℕ → Type 0) (node : ℕ) (set joined : NodeSet) → ((x : ℕ) → has_node joined x ≡ with_member node true (has_node set) x) → More node → ((x : ℕ) → More x → node ≡ x) → Joins More set joined
 join_one More node set joined put is only x = (
-  λ has. elim (with_cases node x (has_node set) (sym (put x) ∙ has)) [ inl e ↦ inr (subst More e is) | inr old ↦ inl old ],
+  λ has. elim (with_cases node x (has_node set) (sym (put x) ∙ has)) [ inl e ↦ inr (rw e at is) | inr old ↦ inl old ],
   λ from. elim from [
     | inl old ↦ put x ∙ with_kept node x (has_node set) old
-    | inr more ↦ subst (λ y. has_node joined y ≡ true) (only x more) (put node ∙ with_in node true (has_node set))
+    | inr more ↦ rw (only x more) at (put node ∙ with_in node true (has_node set))
   ],
 )
 

@@ -1,8 +1,8 @@
 -- A past to which a legal call was added is that of the longer history.
-use Rattle.std.proofs.Common.{◌≡◌, ℕ, ◌<◌, ◌≤◌, true, List, [], ◌∷◌, ◌++◌, length, take, map, inl, inr, refl, sym, ap, subst, ◌∙◌, arith}
+use Rattle.std.proofs.Common.{◌≡◌, ℕ, ◌<◌, ◌≤◌, List, [], ◌∷◌, ◌++◌, length, take, map, inl, inr, refl, sym, ap, subst, ◌∙◌, arith}
 use Rattle.std.proofs.lemmas.List.{append_assoc, append-nil, map-append}
 use Rattle.sfs_tree.specs.declared.history.Entry.{Entry}
-use Rattle.sfs_tree.specs.Tree.{TreeState, is_directory, is_alive}
+use Rattle.sfs_tree.specs.Tree.{TreeState}
 use Rattle.sfs_tree.specs.Effect.{Effect}
 use Rattle.sfs_tree.specs.Verdict.{verdict}
 use Rattle.sfs_tree.specs.Changes.{RowChange, changes_by, changes_of}
@@ -55,20 +55,20 @@ module _ (first : TreeState) (history : List Entry) (entry : Entry) (is : IsSoun
   effect = (verdict tree entry.core.0 entry.call).effect
 
   sound : IsSoundTree tree
-  sound = subst (λ (h : List Entry). IsSoundTree (tree_after first h)) prefix (histories_keep_sound first whole n is legal)
+  sound = rw prefix at (histories_keep_sound first whole n is legal)
 
   before : take n whole ≡ history → (x : RowChange) → IsChange first history x → x.stamp < n
-  before e x one = change_below first whole n legal x (subst (λ (h : List Entry). IsChange first h x) (sym e) one)
+  before e x one = change_below first whole n legal x (rw e one)
 
   same_take : (s : ℕ) → s ≤ n → take s history ≡ take s whole
   same_take s le = ap (take s) (sym prefix) ∙ take_take whole s n le
 
   -- what is kept of a change by the tree at its stamp is kept in the longer history
   still_kept : (change : OwnChange) → IsChange first history (row_change_of change) → KeepsAbove (tree_after first (take change.stamp history)) change → KeepsAbove (tree_after first (take change.stamp whole)) change
-  still_kept change one keeps = let lt = before prefix (row_change_of change) one in subst (λ (h : List Entry). KeepsAbove (tree_after first h) change) (same_take change.stamp (omega arith)) keeps
+  still_kept change one keeps = let lt = before prefix (row_change_of change) one in rw (same_take change.stamp (omega arith)) at keeps
 
   newly_kept : (change : OwnChange) → IsOneOf (changes_by tree entry.stamp.0 effect) (row_change_of change) → KeepsAbove tree change → KeepsAbove (tree_after first (take change.stamp whole)) change
-  newly_kept change one keeps = subst (λ (h : List Entry). KeepsAbove (tree_after first h) change) (sym there) keeps
+  newly_kept change one keeps = rw there keeps
     where
       there : take change.stamp whole ≡ history
       there = ap (λ s. take s whole) (stamp_of tree entry.stamp.0 effect (row_change_of change) one ∙ stamped) ∙ prefix
@@ -80,13 +80,13 @@ module _ (first : TreeState) (history : List Entry) (entry : Entry) (is : IsSoun
     births = grows.births ∙ ap (λ l. l ++ births_by entry.stamp.0 (verdict old.tree entry.core.0 entry.call).effect (verdict old.tree entry.core.0 entry.call).makes) past.births
         ∙ ap (λ (t : TreeState). births_of first history ++ births_by entry.stamp.0 (verdict t entry.core.0 entry.call).effect (verdict t entry.core.0 entry.call).makes) past.tree
         ∙ sym (births_of-push first history entry);
-    above = λ change one. elim (in_either old.changes.items grows.more change (subst (λ l. IsOneOf l change) grows.changes one)) [
-      | inl was ↦ still_kept change (subst (λ l. IsOneOf l (row_change_of change)) past.changes (in_mapped old.changes.items change was)) (past.above change was)
+    above = λ change one. elim (in_either old.changes.items grows.more change (rw grows.changes at one)) [
+      | inl was ↦ still_kept change (rw past.changes at (in_mapped old.changes.items change was)) (past.above change was)
       | inr more ↦
-          let row = subst (λ l. IsOneOf l (row_change_of change)) own (in_mapped grows.more change more) in
+          let row = rw own at (in_mapped grows.more change more) in
           let live = live_own tree entry.core.0 entry.stamp.0 sound.sound effect _ (calls_fit tree entry.core.0 entry.call sound core) (row_change_of change) row in
           newly_kept change row (subst (λ (t : TreeState). KeepsAbove t change) past.tree
-          (grows.noted change more (subst (λ (t : TreeState). is_directory t change.directory ≡ true) (sym past.tree) live.kind) (subst (λ (t : TreeState). is_alive t change.directory ≡ true) (sym past.tree) live.alive)))
+          (grows.noted change more (rw past.tree live.kind) (rw past.tree live.alive)))
     ];
   }
     where

@@ -1,10 +1,9 @@
 -- What the fsyncs of a history's first entries keep is kept in the whole history.
-use Rattle.std.proofs.Common.{◌≡◌, ℕ, suc, ◌<◌, ◌≤◌, Bool, true, false, List, take, Some, IsSome, inl, inr, refl, sym, subst, ◌∙◌, arith}
+use Rattle.std.proofs.Common.{◌≡◌, ℕ, suc, ◌<◌, ◌≤◌, Bool, true, false, List, take, IsSome, inl, inr, refl, sym, ◌∙◌, arith}
 use borrow.Author.Tests.{lt-ltb}
 use Rattle.std.specs.FinMap.{get}
 use Rattle.sfs_tree.specs.declared.history.Entry.{Entry}
-use Rattle.sfs_tree.specs.Tree.{TreeState, row_of}
-use Rattle.sfs_tree.specs.Sound.{Above}
+use Rattle.sfs_tree.specs.Tree.{TreeState}
 use Rattle.sfs_tree.specs.Changes.{RowChange, changes_of}
 use Rattle.sfs_tree.specs.History.{tree_after, IsLegal}
 use Rattle.sfs_tree.specs.Laws.{IsSoundTree}
@@ -68,7 +67,7 @@ module _ (first : TreeState) (history : List Entry) (is : IsSoundTree first) (le
       ancestors = λ change above node holder name last move within way among row placing.
           let lt = within_low change.stamp change.directory within in
           let tree = sym (same_tree first history is legal n change.stamp lt) in
-          kept.closed.ancestors change above node holder name last (move_prefix first history is legal n change lt move) within (subst (λ (w : TreeState). Above w change.directory above) tree way) among (subst (λ (w : TreeState). row_of w holder name ≡ Some node) tree row) (last_prefix node change.stamp last lt placing);
+          kept.closed.ancestors change above node holder name last (move_prefix first history is legal n change lt move) within (rw tree at way) among (rw tree at row) (last_prefix node change.stamp last lt placing);
     }
 
     born_whole : AreBorn first history cut inodes
@@ -81,7 +80,7 @@ module _ (first : TreeState) (history : List Entry) (is : IsSoundTree first) (le
         born = birth_at first history birth legal one
 
         there : IsSome (get (tree_at first history n).nodes birth.node)
-        there = subst (λ (tree : TreeState). IsSome (get tree.nodes birth.node)) (sym (tree_at-after first history n)) (nodes birth.node has)
+        there = rw (tree_at-after first history n) (nodes birth.node has)
 
     -- what the fsyncs of the first entries keep is kept in the whole history
     pub kept_whole : KeepsCut first history cut inodes
@@ -90,7 +89,7 @@ module _ (first : TreeState) (history : List Entry) (is : IsSoundTree first) (le
   -- nodes of the tree after the first entries are nodes of the tree after all
   pub nodes_whole : (n : ℕ) (inodes : ℕ → Bool) → AreNodes first (take n history) inodes → AreNodes first history inodes
   nodes_whole n inodes nodes node has =
-      let here : IsSome (get (tree_at first history n).nodes node) = subst (λ (tree : TreeState). IsSome (get tree.nodes node)) (sym (tree_at-after first history n)) (nodes node has) in
+      let here : IsSome (get (tree_at first history n).nodes node) = rw (tree_at-after first history n) (nodes node has) in
       at_end n node here
 
   -- the child of a change is a node of the tree after the history
@@ -102,9 +101,9 @@ module _ (first : TreeState) (history : List Entry) (is : IsSoundTree first) (le
   reached_node flush raised node reached = elim reached [
     | inl named ↦ elim (from_rows (is_within raised) (changes_of first history) named.directory named.name first.rows node named.row) [
       | inl before ↦ at_end 0 node (node_first first history node (is.sound.node named.directory named.name node before))
-      | inr f ↦ subst (λ (y : ℕ). IsSome (get (tree_after first history).nodes y)) f.child (child_at_end f.change f.one)
+      | inr f ↦ rw f.child at (child_at_end f.change f.one)
     ]
-    | inr file ↦ subst (λ (y : ℕ). IsSome (get (tree_after first history).nodes y)) file.2.child (child_at_end file.2.change file.2.is_change)
+    | inr file ↦ rw file.2.child at (child_at_end file.2.change file.2.is_change)
   ]
 
   -- an fsync gives inodes to nodes alone

@@ -60,13 +60,13 @@ module _ (first : TreeState) (events : List Event) (states : ℕ → MachineStat
   -- what is alive after some entries of a state's history is so after those of the whole
   pub live_whole : (place : ℕ) → place ≤ last → (flush : Flush) → flush.stamp ≤ count place → is_alive (tree_after first (take flush.stamp (states place).history)) flush.node ≡ true → HasLiveNode first whole flush
   live_whole place le flush low live =
-      subst (λ (h : List Entry). is_alive (tree_after first h) flush.node ≡ true) (ap (take flush.stamp) (sym (prefix_at place le).first_part) ∙ take_take whole flush.stamp (count place) low) live
+      rw (ap (take flush.stamp) (sym (prefix_at place le).first_part) ∙ take_take whole flush.stamp (count place) low) at live
 
   abbrev AreLive : MachineState → Type 0
   AreLive state = (flight : Flight) → IsOneOf state.flights flight → HasLiveNode first whole flight.flush
 
   live_step : (place : ℕ) (e : Event) → suc place ≤ last → slice_get events place ≡ Some e → Accepts (states place) e (states (suc place)) → IsSteady first (states (suc place)) → AreLive (states place) → AreLive (states (suc place))
-  live_step place (event.Call entry) le stands takes steady was = subst AreLive (sym takes.moves.1) was
+  live_step place (event.Call entry) le stands takes steady was = rw takes.moves.1 was
   live_step place (event.CutAt commit node stamp) le stands takes steady was = subst AreLive (sym takes.moves.2) (λ flight one. elim (in_either (states place).flights (takes.moves.0 ∷ []) flight one) [
     | inl old ↦ was flight old
     | inr new ↦ elim new [
@@ -82,19 +82,19 @@ module _ (first : TreeState) (events : List Event) (states : ℕ → MachineStat
       own = live_whole place (omega arith) flush low (alive place commit flush (record { event = event.CutAt commit node stamp; stands = stands; begins = refl }))
         where
           new_one : IsOneOf (states (suc place)).flights takes.moves.0
-          new_one = subst (λ (s : MachineState). IsOneOf s.flights takes.moves.0) (sym takes.moves.2) (in_right (states place).flights (takes.moves.0 ∷ []) takes.moves.0 (inl refl))
+          new_one = rw takes.moves.2 (in_right (states place).flights (takes.moves.0 ∷ []) takes.moves.0 (inl refl))
 
           low : stamp.0 ≤ count place
-          low = subst (λ (s : MachineState). stamp.0 ≤ length s.history) takes.moves.2 (subst (λ (f : Flush). f.stamp ≤ count (suc place)) takes.moves.1.own (steady.stamps takes.moves.0 new_one))
+          low = rw takes.moves.2 at (rw takes.moves.1.own at (steady.stamps takes.moves.0 new_one))
   live_step place (event.Opened commit) le stands takes steady was =
       subst AreLive (sym takes.moves) (λ flight one. let from = from_map (opened_for commit) (states place).flights flight one in subst (λ (f : Flight). HasLiveNode first whole f.flush) from.2 (was from.0 from.1))
-  live_step place (event.Durable commit) le stands takes steady was = subst AreLive (sym takes.moves.4) (λ flight one. was flight (in_filter (λ (f : Flight). not (nat_eq f.commit commit)) (states place).flights flight one).0)
-  live_step place (event.Fail commit) le stands takes steady was = subst AreLive (sym takes.moves) was
-  live_step place (event.Crash kept) le stands takes steady was = subst AreLive (sym takes.moves.2) (λ flight one. absurd one)
+  live_step place (event.Durable commit) le stands takes steady was = rw takes.moves.4 (λ flight one. was flight (in_filter (λ (f : Flight). not (nat_eq f.commit commit)) (states place).flights flight one).0)
+  live_step place (event.Fail commit) le stands takes steady was = rw takes.moves was
+  live_step place (event.Crash kept) le stands takes steady was = rw takes.moves.2 (λ flight one. absurd one)
 
   -- the flights of each state are of nodes that are alive at their stamps
   pub flights_live : (place : ℕ) → place ≤ last → AreLive (states place)
-  flights_live zero le = subst AreLive (sym run.begins) (λ flight one. absurd one)
+  flights_live zero le = rw run.begins (λ flight one. absurd one)
   flights_live (suc place) le =
       let there = event_there events place (omega arith) in
       live_step place there.0 le there.1 (run.steps place there.0 there.1) (steady_at first events states run (suc place) (omega arith)) (flights_live place (omega arith))
@@ -106,31 +106,31 @@ module _ (first : TreeState) (events : List Event) (states : ℕ → MachineStat
       → IsHeld first whole cut inodes
   flights_hold place le {flushes} {cut} {inodes} raised from held =
       let steady = steady_at first events states run place (omega arith) in
-      flushes_hold first whole (count place) is legal_whole (prefix_at place le).shorter (subst (λ (h : List Entry). AreRaised first h every_entry (states place).cut (states place).inodes flushes cut inodes) (sym (prefix_at place le).first_part) raised) steady.cuts (λ flush one. let f = from flush one in subst (λ (g : Flush). g.stamp ≤ count place) f.2 (steady.stamps f.0 f.1))
-      (λ flush one. let f = from flush one in subst (HasLiveNode first whole) f.2 (flights_live place le f.0 f.1)) held
+      flushes_hold first whole (count place) is legal_whole (prefix_at place le).shorter (rw (prefix_at place le).first_part raised) steady.cuts (λ flush one. let f = from flush one in rw f.2 at (steady.stamps f.0 f.1))
+      (λ flush one. let f = from flush one in rw f.2 at (flights_live place le f.0 f.1)) held
 
   abbrev IsHeldIn : MachineState → Type 0
   IsHeldIn state = IsHeld first whole state.cut state.inodes
 
   raised_held : (place : ℕ) → place ≤ last → (flushes : List Flush) (raised : MachineState) → IsRaisedBy (states place) flushes raised → ((flush : Flush) → IsOneOf flushes flush → (flight : Flight) × IsOneOf (states place).flights flight × (flight.flush ≡ flush)) → IsHeldIn (states place) → IsHeldIn raised
   raised_held place le flushes raised by from held =
-      flights_hold place le (subst (λ (f : TreeState). AreRaised f (states place).history every_entry (states place).cut (states place).inodes flushes raised.cut raised.inodes) (steady_at first events states run place (omega arith)).start by.raised) from held
+      flights_hold place le (rw (steady_at first events states run place (omega arith)).start at by.raised) from held
 
   held_step : (place : ℕ) (e : Event) → place ≤ last → Accepts (states place) e (states (suc place)) → IsHeldIn (states place) → IsHeldIn (states (suc place))
-  held_step place (event.Call entry) le takes held = subst IsHeldIn (sym takes.moves.1) held
-  held_step place (event.CutAt commit node stamp) le takes held = subst IsHeldIn (sym takes.moves.2) held
-  held_step place (event.Opened commit) le takes held = subst IsHeldIn (sym takes.moves) held
+  held_step place (event.Call entry) le takes held = rw takes.moves.1 held
+  held_step place (event.CutAt commit node stamp) le takes held = rw takes.moves.2 held
+  held_step place (event.Opened commit) le takes held = rw takes.moves held
   held_step place (event.Durable commit) le takes held =
       subst IsHeldIn (sym takes.moves.4) (raised_held place le (takes.moves.0.flush ∷ []) takes.moves.1 takes.moves.3 (λ flush one. elim one [
         | inl same ↦ (takes.moves.0, (flight_found (states place) commit takes.moves.0 takes.moves.2).0, same)
         | inr nothing ↦ absurd nothing
       ]) held)
-  held_step place (event.Fail commit) le takes held = subst IsHeldIn (sym takes.moves) held
-  held_step place (event.Crash kept) le takes held = subst IsHeldIn (sym takes.moves.2) (raised_held place le (kept_of (states place) kept.items) takes.moves.0 takes.moves.1 (λ flush one. kept_flush (states place) kept.items flush one) held)
+  held_step place (event.Fail commit) le takes held = rw takes.moves held
+  held_step place (event.Crash kept) le takes held = rw takes.moves.2 (raised_held place le (kept_of (states place) kept.items) takes.moves.0 takes.moves.1 (λ flush one. kept_flush (states place) kept.items flush one) held)
 
   -- in each state it is held over the whole history
   pub held_at : (place : ℕ) → place ≤ last → IsHeldIn (states place)
-  held_at zero le = subst IsHeldIn (sym run.begins) (first_held first whole is legal_whole)
+  held_at zero le = rw run.begins (first_held first whole is legal_whole)
   held_at (suc place) le =
       let there = event_there events place (omega arith) in
       held_step place there.0 (omega arith) (run.steps place there.0 there.1) (held_at place (omega arith))

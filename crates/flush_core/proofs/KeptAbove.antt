@@ -7,7 +7,7 @@ use Rattle.sfs_tree.specs.Changes.{RowChange, added, removed, other_side}
 use Rattle.sfs_tree.proofs.KeepsSound.{way_up}
 use Rattle.sfs_tree.proofs.Walks.{walk_is}
 use Rattle.flush_core.specs.declared.past.OwnChange.{OwnChange}
-use Rattle.flush_core.specs.Rules.{IsOneOf, MovesDirectory}
+use Rattle.flush_core.specs.Rules.{MovesDirectory}
 use Rattle.flush_core.specs.Past.{row_change_of, KeepsAbove}
 use Rattle.flush_core.specs.Plan.{KeepAllAbove, IsAboveNew}
 use Rattle.flush_core.proofs.Basics.{in_either, no_true, none_some}
@@ -36,7 +36,7 @@ noted_put tree change stamp directory to_directory name child s row new kind ali
   stand = λ v e. subst (λ (d : ℕ). Above tree d v.items) (sym (ap (λ (c : RowChange). c.directory) row)) (subst (λ l. Above tree to_directory l) (sym (walk_is tree s way.1 kind) ∙ sym (new.walk v e)) way.1);
   all = λ moves above up.
       let some = new.there (λ same. one_side to_directory directory (sym same) (λ none. moves.other (ap (λ (c : RowChange). c.other) row ∙ none))) (ap (λ (c : RowChange). is_directory tree c.child) (sym row) ∙ moves.kind) kind in
-      noted_all change.above refl some (subst (λ (d : ℕ). Above tree d above) (ap (λ (c : RowChange). c.directory) row) up);
+      noted_all change.above refl some (rw (ap (λ (c : RowChange). c.directory) row) at up);
 }
   where
     way : (above : List ℕ) × Above tree to_directory above
@@ -63,10 +63,10 @@ noted_put tree change stamp directory to_directory name child s row new kind ali
 
 -- some are noted, and one more is
 pub noted_more : (tree : TreeState) (changes more : List OwnChange) (change : OwnChange) → more ≡ changes ++ change ∷ [] → KeepAllAbove tree changes → (is_directory tree change.directory ≡ true → is_alive tree change.directory ≡ true → KeepsAbove tree change) → KeepAllAbove tree more
-noted_more tree changes more change is noted one other among kind alive = elim (in_either changes (change ∷ []) other (subst (λ l. IsOneOf l other) is among)) [
+noted_more tree changes more change is noted one other among kind alive = elim (in_either changes (change ∷ []) other (rw is at among)) [
   | inl old ↦ noted other old kind alive
   | inr new ↦ elim new [
-    | inl same ↦ subst (λ (c : OwnChange). KeepsAbove tree c) same (one (subst (λ (c : OwnChange). is_directory tree c.directory ≡ true) (sym same) kind) (subst (λ (c : OwnChange). is_alive tree c.directory ≡ true) (sym same) alive))
+    | inl same ↦ rw same at (one (rw same kind) (rw same alive))
     | inr none ↦ absurd none
   ]
 ]

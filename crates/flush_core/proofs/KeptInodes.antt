@@ -1,24 +1,24 @@
 -- What fsyncs leave of nodes that have an inode, and of those that they do not concern.
-use Rattle.std.proofs.Common.{◌≡◌, ℕ, ◌<◌, ◌≤◌, Bool, true, false, List, length, Option, Some, ◌⊎◌, inl, inr, refl, sym, ap, subst, ◌∙◌, nat_eq, arith}
+use Rattle.std.proofs.Common.{◌≡◌, ℕ, ◌<◌, ◌≤◌, Bool, true, false, List, length, Some, ◌⊎◌, inl, inr, refl, sym, ap, ◌∙◌, nat_eq, arith}
 use borrow.Author.Tests.{eqb-true, eqb-false}
 use Rattle.std.specs.FinMap.{FinMap, get, empty}
 use Rattle.sfs_base.specs.declared.numbers.Kind.{Kind}
 use Rattle.sfs_tree.specs.declared.history.Entry.{Entry}
 use Rattle.sfs_tree.specs.Order.{key_cmp}
 use Rattle.sfs_tree.specs.Tree.{TreeState, is_directory}
-use Rattle.sfs_tree.specs.Effect.{Effect, Adds}
+use Rattle.sfs_tree.specs.Effect.{Adds}
 use Rattle.sfs_tree.specs.Changes.{RowChange, changes_of}
 use Rattle.sfs_tree.specs.History.{tree_after, IsLegal}
 use Rattle.sfs_tree.specs.Laws.{IsSoundTree}
 use Rattle.flush_core.specs.Cut.{Cut, cut_of, IsWithin, is_within, rows_at_cut}
-use Rattle.flush_core.specs.Rules.{IsOneOf, IsChange, births_by}
+use Rattle.flush_core.specs.Rules.{IsChange}
 use Rattle.flush_core.specs.Closure.{every_entry, Flush, IsConcerned, member, itself, IsNamedIn, IsRaised, IsReached, IsDead, AreInodesAfter, KeepsCut, none, one_more, AreFlushed}
 use Rattle.flush_core.specs.LawsInodes.{OthersStay, StaysAsItWas, IsNeverNamed, NoneIsDead, DirectoriesAreNamed, DirectoriesStayNamed, FilesSettle}
 use Rattle.flush_core.proofs.Basics.{below_or, both, no_less, not_below}
 use Rattle.flush_core.proofs.Own.{skip}
 use Rattle.flush_core.proofs.Runs.{Run}
 use Rattle.flush_core.proofs.Raises.{cuts_rise}
-use Rattle.flush_core.proofs.Along.{birth_in, effect_at, made_at, nodes_at, run_of}
+use Rattle.flush_core.proofs.Along.{birth_in, made_at, nodes_at, run_of}
 use Rattle.flush_core.proofs.Closed.{keeps_of, seen_of, seen_end, closed_cuts_are_sound}
 use Rattle.flush_core.proofs.Children.{links_named}
 use Rattle.flush_core.proofs.Prefix.{stamp_below}
@@ -54,7 +54,7 @@ module _ (first : TreeState) (history : List Entry) (cut raised : Cut) (inodes a
       stamp = elim (raise.other node) [ inl own ↦ absurd (none (member node own)) | inr e ↦ e ];
       inode = same_inode;
       flushed = λ change one child. (
-        λ within. elim (flushed_or_concerned change one within) [ inl was ↦ was | inr concerned ↦ absurd (none (subst IsConcernedHere child concerned)) ],
+        λ within. elim (flushed_or_concerned change one within) [ inl was ↦ was | inr concerned ↦ absurd (none (rw child at concerned)) ],
         still_within change,
       );
       rows = λ directory name. (
@@ -120,7 +120,7 @@ module _ (first : TreeState) (history : List Entry) (cut raised : Cut) (inodes a
     where
       unreached : (IsReached first history every_entry flush raised flush.node → ⊥) → IsDead first history every_entry raised flush.node
       unreached none_reached = record {
-        no_root = λ root. both (root_directory first history is legal) (subst (λ (y : ℕ). is_directory (tree_after first history) y ≡ false) root file);
+        no_root = λ root. both (root_directory first history is legal) (rw root at file);
         unnamed = λ named. none_reached (inl named);
         flushed = λ change one counted child. elim (below_or change.stamp (cut_of raised change.directory)) [
           | inl lt ↦ lt
@@ -166,7 +166,7 @@ module _ (first : TreeState) (history : List Entry) (cut : Cut) (inodes : ℕ �
 
   settled : (b d : ℕ) (n : List ℕ) (mk : Kind) → run.effect b ≡ Adds d n node → run.makes b ≡ Some mk → b < cut_of cut d
   settled b d n mk adds makes =
-      kept.born (record { stamp = b; directory = d; node = node }) (birth_in first history b (record { stamp = b; directory = d; node = node }) legal (subst (λ (m : Option Kind). IsOneOf (births_by b (effect_at first history b) m) (record { stamp = b; directory = d; node = node })) (sym makes) (subst (λ (f : Effect). IsOneOf (births_by b f (Some mk)) (record { stamp = b; directory = d; node = node })) (sym adds) (inl refl)))) has kind
+      kept.born (record { stamp = b; directory = d; node = node }) (birth_in first history b (record { stamp = b; directory = d; node = node }) legal (rw makes (rw adds (inl refl)))) has kind
 
   at_end : (t d : ℕ) (n : List ℕ) → t ≡ length history → get ((seen_of first history is legal cut).rows t) (d, n) ≡ get (rows_at_cut first history cut) (d, n)
   at_end t d n e = ap (λ (k : ℕ). get ((seen_of first history is legal cut).rows k) (d, n)) e ∙ ap (λ (rows : FinMap key_cmp ℕ). get rows (d, n)) (seen_end first history is legal cut)

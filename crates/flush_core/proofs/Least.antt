@@ -1,5 +1,5 @@
 -- The least node of a list that a flight concerns.
-use Rattle.std.proofs.Common.{◌≡◌, ℕ, ◌≤◌, true, false, cond, List, [], ◌∷◌, ◌++◌, Option, Some, None, inl, inr, ◌↔◌, refl, sym, subst, ◌∙◌, arith, nat_le}
+use Rattle.std.proofs.Common.{◌≡◌, ℕ, ◌≤◌, true, false, cond, List, [], ◌∷◌, ◌++◌, Option, Some, None, inl, inr, ◌↔◌, refl, sym, ◌∙◌, arith, nat_le}
 use Rattle.std.proofs.lemmas.Bool.{leb-true, leb-false}
 use Rattle.flush_core.specs.declared.sets.NodeSet.{NodeSet}
 use Rattle.flush_core.specs.NodeSets.{has_node}
@@ -32,11 +32,11 @@ least_passed flights nodes node least is free = record {
   taken = is.taken;
   least_of = λ n other e one taken. elim (in_either nodes (node ∷ []) other one) [
     | inl old ↦ is.least_of n other e old taken
-    | inr new ↦ elim new [ inl same ↦ absurd (free (subst (IsTaken flights) (sym same) taken)) | inr nothing ↦ absurd nothing ]
+    | inr new ↦ elim new [ inl same ↦ absurd (free (rw same taken)) | inr nothing ↦ absurd nothing ]
   ];
   none = λ other e one taken. elim (in_either nodes (node ∷ []) other one) [
     | inl old ↦ is.none other e old taken
-    | inr new ↦ elim new [ inl same ↦ free (subst (IsTaken flights) (sym same) taken) | inr nothing ↦ absurd nothing ]
+    | inr new ↦ elim new [ inl same ↦ free (rw same taken) | inr nothing ↦ absurd nothing ]
   ];
 }
 
@@ -44,7 +44,7 @@ module _ (flights : List Flight) (nodes : List ℕ) (node : ℕ) (taken : IsTake
   first_one : IsLeastOf flights nodes None → IsLeastOf flights (nodes ++ node ∷ []) (Some node)
   first_one is = record {
     is_in = λ n e. in_right nodes (node ∷ []) n (inl (some_is e));
-    taken = λ n e. subst (IsTaken flights) (some_is e) taken;
+    taken = λ n e. rw (some_is e) at taken;
     least_of = λ n other e one theirs. elim (in_either nodes (node ∷ []) other one) [
       | inl old ↦ absurd (is.none other refl old theirs)
       | inr new ↦ elim new [ inl same ↦ le_of (sym (some_is e) ∙ same) | inr nothing ↦ absurd nothing ]
@@ -69,7 +69,7 @@ module _ (flights : List Flight) (nodes : List ℕ) (node : ℕ) (taken : IsTake
   less_now : (other : ℕ) → node ≤ other → IsLeastOf flights nodes (Some other) → IsLeastOf flights (nodes ++ node ∷ []) (Some node)
   less_now other le is = record {
     is_in = λ n e. in_right nodes (node ∷ []) n (inl (some_is e));
-    taken = λ n e. subst (IsTaken flights) (some_is e) taken;
+    taken = λ n e. rw (some_is e) at taken;
     least_of = λ n third e one theirs. elim (in_either nodes (node ∷ []) third one) [
       | inl old ↦ low (some_is e) (is.least_of other third refl old theirs)
       | inr new ↦ elim new [ inl same ↦ le_of (sym (some_is e) ∙ same) | inr nothing ↦ absurd nothing ]

@@ -1,5 +1,5 @@
 -- A list of fsyncs, from the cut 0 and the nodes of the first tree.
-use Rattle.std.proofs.Common.{◌≡◌, ℕ, ◌<◌, Bool, true, List, [], ◌∷◌, is_some, inl, inr, refl, sym, ap, subst, ◌∙◌, arith}
+use Rattle.std.proofs.Common.{◌≡◌, ℕ, ◌<◌, Bool, true, List, [], ◌∷◌, is_some, inl, inr, refl, sym, ap, ◌∙◌, arith}
 use borrow.Author.Tests.{ltb-true}
 use Rattle.std.specs.Option.{unwrap_or}
 use Rattle.std.specs.Ordering.{nat_cmp}
@@ -88,7 +88,7 @@ all_covered first history is legal (one_more flushes flush cut raised inodes aft
       each = λ other one. elim (in_either flushes (flush ∷ []) other one) [
         | inl old ↦ now.earlier other (was.each other old)
         | inr new ↦ elim new [
-          | inl e ↦ subst (λ (f : Flush). IsCovered first history raised f) e now.own
+          | inl e ↦ rw e at now.own
           | inr nothing ↦ absurd nothing
         ]
       ];

@@ -44,8 +44,8 @@ module _ (tree : TreeState) (core t : ℕ) (s : IsSound tree) where
   live_own (Adds d n c) (Some kind) f x one = elim one [ inl e ↦ subst (λ (y : RowChange). IsLive tree y.directory) e (record { kind = f.holder.kind; alive = f.holder.alive }) | inr none ↦ absurd none ]
   live_own (Removes d n c) None f x one = elim one [ inl e ↦ subst (λ (y : RowChange). IsLive tree y.directory) e (live_row d n c f.row) | inr none ↦ absurd none ]
   live_own (Moves p n q m c) None f x one = elim (sides tree t p n q m c x one) [
-    | inl e ↦ subst (λ (y : ℕ). IsLive tree y) (sym e) (live_row p n c f.row)
-    | inr e ↦ subst (λ (y : ℕ). IsLive tree y) (sym e) (record { kind = f.holder.kind; alive = f.holder.alive })
+    | inl e ↦ rw e (live_row p n c f.row)
+    | inr e ↦ rw e (record { kind = f.holder.kind; alive = f.holder.alive })
   ]
   live_own (Removes d n c) (Some kind) f x one = absurd f
   live_own (Moves p n q m c) (Some kind) f x one = absurd f
@@ -65,7 +65,7 @@ module _ (tree : TreeState) (core t : ℕ) (s : IsSound tree) where
           row = f.row;
           kind = kind;
           others = λ z own same. elim own [
-            | inl w ↦ some_not_none (row_of tree c n) c (subst (λ (y : ℕ). row_of tree y n ≡ Some c) (ap (λ (y : RowChange). y.directory) w ∙ same) f.row) (f.bare kind n)
+            | inl w ↦ some_not_none (row_of tree c n) c (rw (ap (λ (y : RowChange). y.directory) w ∙ same) at f.row) (f.bare kind n)
             | inr none ↦ absurd none
           ];
           gone = λ named.
@@ -79,7 +79,7 @@ module _ (tree : TreeState) (core t : ℕ) (s : IsSound tree) where
         | None ↦ λ _ h. two h
         | Some there ↦ λ row h. elim h [
           | inr rest ↦ two rest
-          | inl e ↦ subst (λ (y : RowChange). IsEnded tree (tree_with tree core (Moves p n q m c) None) (changes_by tree t (Moves p n q m c)) y) e (replaces there row (ap (λ (y : RowChange). y.ends) e ∙ ends))
+          | inl e ↦ rw e at (replaces there row (ap (λ (y : RowChange). y.ends) e ∙ ends))
         ]
       ] refl one
     where
@@ -117,7 +117,7 @@ module _ (tree : TreeState) (core t : ℕ) (s : IsSound tree) where
   came_from (Edits file edit) None f files h k x kind row = before row
   came_from (Removes d n c) None f files h k x kind row = before (removed_cases tree.rows h d k n x row).1
   came_from (Adds d n c) None f files h k x kind row = elim (added_cases tree.rows h d k n c x row) [
-    | inl new ↦ absurd (both (subst (λ (y : ℕ). is_directory tree y ≡ true) new.2 kind) (files d n c refl refl))
+    | inl new ↦ absurd (both (rw new.2 at kind) (files d n c refl refl))
     | inr old ↦ before old.1
   ]
   came_from (Adds d n c) (Some mk) f files h k x kind row = elim (added_cases tree.rows h d k n c x row) [
@@ -150,7 +150,7 @@ made_fresh tree core d n x kind f = f.fresh
 
 pub made_node : (tree : TreeState) (core : ℕ) (d : ℕ) (n : List ℕ) (x : ℕ) (kind : Kind) → Fits tree core (Adds d n x) (Some kind) → IsSome (get (tree_with tree core (Adds d n x) (Some kind)).nodes x)
 made_node tree core d n x kind f = elim (node_cases tree.nodes (next_number tree core) (record { kind = kind; bytes = [] }) x) [
-  | inl here ↦ subst IsSome (sym here.1) refl
+  | inl here ↦ rw here.1 refl
   | inr other ↦ absurd (other.0 f.number)
 ]
 
@@ -163,22 +163,22 @@ module _ (r : Run) where
 
   -- a node stays one
   pub later : (u t x : ℕ) → u ≤ t → IsSome (get (r.tree u).nodes x) → IsSome (get (r.tree t).nodes x)
-  later u zero x le some = subst (λ (k : ℕ). IsSome (get (r.tree k).nodes x)) (none_below u le) some
+  later u zero x le some = rw (none_below u le) at some
   later u (suc t) x le some = elim (below_or t u) [
-    | inl lt ↦ subst (λ (k : ℕ). IsSome (get (r.tree k).nodes x)) (is_next u t le lt) some
-    | inr less ↦ subst (λ (tree : TreeState). IsSome (get tree.nodes x)) (sym (r.next t)) (node_stays (r.tree t) (r.core t) (r.effect t) (r.makes t) x (r.fits t) (later u t x less some))
+    | inl lt ↦ rw (is_next u t le lt) at some
+    | inr less ↦ rw (r.next t) (node_stays (r.tree t) (r.core t) (r.effect t) (r.makes t) x (r.fits t) (later u t x less some))
   ]
 
   -- a making: its number is no node's before, and one's after
   fits_made : (b d : ℕ) (n : List ℕ) (x : ℕ) (kind : Kind) → r.effect b ≡ Adds d n x → r.makes b ≡ Some kind → Fits (r.tree b) (r.core b) (Adds d n x) (Some kind)
-  fits_made b d n x kind adds makes = subst (λ (m : Option Kind). Fits (r.tree b) (r.core b) (Adds d n x) m) makes (subst (λ (f : Effect). Fits (r.tree b) (r.core b) f (r.makes b)) adds (r.fits b))
+  fits_made b d n x kind adds makes = rw makes at (rw adds at (r.fits b))
 
   pub no_node_yet : (b d : ℕ) (n : List ℕ) (x : ℕ) (kind : Kind) → r.effect b ≡ Adds d n x → r.makes b ≡ Some kind → (u : ℕ) → u ≤ b → IsSome (get (r.tree u).nodes x) → ⊥
   no_node_yet b d n x kind adds makes u le some = not_none (later u b x le some) (made_fresh (r.tree b) (r.core b) d n x kind (fits_made b d n x kind adds makes))
 
   pub is_node_now : (b d : ℕ) (n : List ℕ) (x : ℕ) (kind : Kind) → r.effect b ≡ Adds d n x → r.makes b ≡ Some kind → IsSome (get (r.tree (suc b)).nodes x)
   is_node_now b d n x kind adds makes =
-      subst (λ (tree : TreeState). IsSome (get tree.nodes x)) (sym (r.next b ∙ ap (λ (f : Effect). tree_with (r.tree b) (r.core b) f (r.makes b)) adds ∙ ap (tree_with (r.tree b) (r.core b) (Adds d n x)) makes)) (made_node (r.tree b) (r.core b) d n x kind (fits_made b d n x kind adds makes))
+      rw (r.next b ∙ ap (λ (f : Effect). tree_with (r.tree b) (r.core b) f (r.makes b)) adds ∙ ap (tree_with (r.tree b) (r.core b) (Adds d n x)) makes) (made_node (r.tree b) (r.core b) d n x kind (fits_made b d n x kind adds makes))
 
   -- a node is made once
   pub made_once : (b d : ℕ) (n : List ℕ) (x : ℕ) (kind : Kind) → r.effect b ≡ Adds d n x → r.makes b ≡ Some kind → (t h : ℕ) (k : List ℕ) (other : Kind) → r.effect t ≡ Adds h k x → r.makes t ≡ Some other → b ≡ t
@@ -194,14 +194,14 @@ module _ (r : Run) where
   pub born_before : (b d : ℕ) (n : List ℕ) (x : ℕ) (kind : Kind) → r.effect b ≡ Adds d n x → r.makes b ≡ Some kind → (u : ℕ) (own : RowChange) → Made r u own → own.directory ≡ x → b < u
   born_before b d n x kind adds makes u own one same = elim (below_or b u) [
     | inl lt ↦ lt
-    | inr le ↦ absurd (no_node_yet b d n x kind adds makes u le (directory_node (r.tree u) x (subst (λ (y : ℕ). is_directory (r.tree u) y ≡ true) same (live_at u own one).kind)))
+    | inr le ↦ absurd (no_node_yet b d n x kind adds makes u le (directory_node (r.tree u) x (rw same at (live_at u own one).kind)))
   ]
 
   -- a directory that no row names is named no more
   pub stays_gone : (u x : ℕ) → IsSome (get (r.tree u).nodes x) → (IsNamed (r.tree u).rows x → ⊥) → (t : ℕ) → u ≤ t → is_directory (r.tree t) x ≡ true → IsNamed (r.tree t).rows x → ⊥
-  stays_gone u x some none zero le kind named = none (subst (λ (k : ℕ). IsNamed (r.tree k).rows x) (sym (none_below u le)) named)
+  stays_gone u x some none zero le kind named = none (rw (none_below u le) named)
   stays_gone u x some none (suc t) le kind named = elim (below_or t u) [
-    | inl lt ↦ none (subst (λ (k : ℕ). IsNamed (r.tree k).rows x) (sym (is_next u t le lt)) named)
+    | inl lt ↦ none (rw (is_next u t le lt) named)
     | inr less ↦ elim (named_before (r.tree t) (r.core t) (r.sound t) (r.effect t) (r.makes t) (r.fits t) (r.files t) named.directory named.name x (sym (ap (λ (tree : TreeState). is_directory tree x) (r.next t)) ∙ kind) (sym (ap (λ (tree : TreeState). row_of tree named.directory named.name) (r.next t)) ∙ named.row)) [
       | inl was ↦ stays_gone u x some none t less was.0 was.1
       | inr born ↦ no_node_yet t born.directory born.name x born.kind born.adds born.made u less some
@@ -213,11 +213,11 @@ module _ (r : Run) where
   ended_before t x u own one ends change same = elim (below_or u t) [
     | inl lt ↦ lt
     | inr le ↦ absurd (elim (below_or t u) [
-      | inl lt ↦ elim (alive_named (r.tree u) x.child (subst (λ (y : ℕ). is_alive (r.tree u) y ≡ true) same live.alive)) [
+      | inl lt ↦ elim (alive_named (r.tree u) x.child (rw same at live.alive)) [
         | inl root ↦ (r.sound t).unnamed x.directory x.name (ended.row ∙ ap Some root)
-        | inr named ↦ stays_gone (suc t) x.child after gone u (next_below t u lt) (subst (λ (y : ℕ). is_directory (r.tree u) y ≡ true) same live.kind) named
+        | inr named ↦ stays_gone (suc t) x.child after gone u (next_below t u lt) (rw same at live.kind) named
       ]
-      | inr ge ↦ ended.others own (subst (λ (k : ℕ). IsOneOf (changes_by (r.tree k) k (r.effect k)) own) (is_equal u t le ge) change) same
+      | inr ge ↦ ended.others own (rw (is_equal u t le ge) at change) same
     ])
   ]
     where
@@ -231,7 +231,7 @@ module _ (r : Run) where
       after = later t (suc t) x.child (omega arith) (directory_node (r.tree t) x.child ended.kind)
 
       gone : IsNamed (r.tree (suc t)).rows x.child → ⊥
-      gone named = ended.gone (subst (λ (tree : TreeState). IsNamed tree.rows x.child) (r.next t) named)
+      gone named = ended.gone (rw (r.next t) at named)
 
       next_below : (a b : ℕ) → a < b → suc a ≤ b
       next_below a b lt = omega arith
@@ -261,7 +261,7 @@ module _ (r : Run) where
           born other also too =
               let e : b ≡ t = made_once b d n x kind adds makes t h k other also too in
               let place : h ≡ d = same (sym also ∙ ap r.effect (sym e) ∙ adds) in
-              subst (λ (y : ℕ). y < cut d) (sym e) (subst (λ (y : ℕ). t < cut y) place lt)
+              rw e (rw place at lt)
             where
               same : Adds h k x ≡ Adds d n x → h ≡ d
               same q = cc

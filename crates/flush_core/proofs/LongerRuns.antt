@@ -11,7 +11,7 @@ use Rattle.flush_core.specs.declared.event.Refused.{Refused}
 use Rattle.flush_core.specs.declared.event.Refused.TheVariants as refused
 use Rattle.flush_core.specs.Cut.{Cut}
 use Rattle.flush_core.specs.Rules.{IsOneOf}
-use Rattle.flush_core.specs.Closure.{every_entry, Flush, IsRaised, AreInodesAfter, AreRaised, none, one_more}
+use Rattle.flush_core.specs.Closure.{every_entry, Flush, IsRaised, AreInodesAfter, none, one_more}
 use Rattle.flush_core.specs.Machine.{Flight, MachineState, is_flying, is_opened, flight_of, Refuses, BeginsFlight, IsRaisedBy, Accepts}
 use Rattle.flush_core.specs.LawsRuns.{AllAreTied, EmptyRuns, then_state, RunsLengthen, MayCommit, with_flight, committed, CommitsAreAccepted}
 use Rattle.flush_core.proofs.Basics.{both, no_less, no_true, none_some, not_below, some_is}
@@ -54,12 +54,12 @@ runs_lengthen first events states e new run takes = record {
     between : (place : ℕ) (f : Event) → Accepts (states place) f (states (suc place)) → place < length events → Accepts (then_state states (length events) new place) f (then_state states (length events) new (suc place))
     between place f step lt =
         subst (λ (s : MachineState). Accepts s f (then_state states (length events) new (suc place))) (sym (up_to states (length events) new place (omega arith)))
-        (subst (Accepts (states place) f) (sym (up_to states (length events) new (suc place) (omega arith))) step)
+        (rw (up_to states (length events) new (suc place) (omega arith)) step)
 
     last : (place : ℕ) (f : Event) → place ≡ length events → e ≡ f → Accepts (then_state states (length events) new place) f (then_state states (length events) new (suc place))
     last place f at same =
         subst (λ (s : MachineState). Accepts s f (then_state states (length events) new (suc place))) (sym (up_to states (length events) new place (omega arith) ∙ ap states at))
-        (subst (Accepts (states (length events)) f) (sym (behind states (length events) new (suc place) (omega arith))) (subst (λ (g : Event). Accepts (states (length events)) g new) same takes))
+        (rw (behind states (length events) new (suc place) (omega arith)) (rw same at takes))
 
 module _ (state : MachineState) (commit : ℕ) (node : NodeId) (stamp : Stamp) (flight : Flight) (may : MayCommit state commit stamp) (begins : BeginsFlight state commit (record { node = node.0; stamp = stamp.0 }) flight) where
   abbrev flush : Flush
@@ -93,7 +93,7 @@ module _ (state : MachineState) (commit : ℕ) (node : NodeId) (stamp : Stamp) (
   not_failed failed = none_some (sym may.failed ∙ failed)
 
   no_flight : (other : Flight) → IsOneOf state.flights other → ⊥
-  no_flight other one = subst (λ (l : List Flight). IsOneOf l other) may.flights one
+  no_flight other one = rw may.flights at one
 
   begin_free : (why : Refused) → Refuses state (event.CutAt commit node stamp) why → ⊥
   begin_free refused.Crashed r = both r may.goes
@@ -153,7 +153,7 @@ module _ (state : MachineState) (commit : ℕ) (node : NodeId) (stamp : Stamp) (
 
     raised_by : IsRaisedBy (now true) (flight.flush ∷ []) lifted
     raised_by = record {
-      raised = subst (λ (f : Flush). AreRaised state.first state.history every_entry state.cut state.inodes (f ∷ []) raised after) (sym begins.own) (one_more [] flush state.cut raised state.inodes after none raise sets);
+      raised = rw begins.own (one_more [] flush state.cut raised state.inodes after none raise sets);
       others = refl;
     }
 

@@ -1,5 +1,5 @@
 -- The places of marks, gathered one by one.
-use Rattle.std.proofs.Common.{◌≡◌, ◌≢◌, ℕ, zero, suc, ◌+◌, ◌<◌, ◌≤◌, ◌↔◌, Bool, true, false, cond, List, [], ◌∷◌, ◌++◌, length, get_or, ◌⊎◌, inl, inr, refl, sym, ap, subst, ◌∙◌, nat_eq, arith}
+use Rattle.std.proofs.Common.{◌≡◌, ◌≢◌, ℕ, zero, suc, ◌+◌, ◌<◌, ◌≤◌, ◌↔◌, Bool, true, false, cond, List, [], ◌∷◌, ◌++◌, length, get_or, ◌⊎◌, inl, inr, refl, sym, ap, ◌∙◌, nat_eq, arith}
 use borrow.Author.Tests.{eqb-true, eqb-false, eq-eqb}
 use Rattle.flush_core.specs.NodeSets.{with_member}
 use Rattle.flush_core.specs.Rules.{IsOneOf}
@@ -63,7 +63,7 @@ marked_within (m ∷ marks) (suc node) mark = let h = marked_within marks node m
 
 -- no place has been looked at
 pub marked_none : (marks : List Bool) (list : List ℕ) → list ≡ [] → AreMarkedBelow marks 0 list
-marked_none marks list none node = (λ one. absurd (subst (λ l. IsOneOf l node) none one), λ (lt, is). absurd (omega arith))
+marked_none marks list none node = (λ one. absurd (rw none at one), λ (lt, is). absurd (omega arith))
 
 -- all places have
 pub marked_all : (marks : List Bool) (place : ℕ) (list : List ℕ) → length marks ≤ place → AreMarkedBelow marks place list → (node : ℕ) → IsOneOf list node ↔ (get_or marks node false ≡ true)

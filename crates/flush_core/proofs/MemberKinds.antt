@@ -2,8 +2,7 @@
 use Rattle.std.proofs.Common.{◌≡◌, ℕ, Bool, true, false, List, take, Some, None, ◌⊎◌, inl, inr, refl, sym, subst, ◌∙◌}
 use Rattle.sfs_tree.specs.declared.history.Entry.{Entry}
 use Rattle.sfs_tree.specs.Tree.{TreeState, is_directory}
-use Rattle.sfs_tree.specs.Effect.{Effect}
-use Rattle.sfs_tree.specs.Changes.{RowChange, added, changes_by}
+use Rattle.sfs_tree.specs.Changes.{RowChange, added}
 use Rattle.sfs_tree.specs.Sound.{Above}
 use Rattle.sfs_tree.specs.History.{tree_after, IsLegal}
 use Rattle.sfs_tree.specs.Laws.{IsSoundTree}
@@ -32,7 +31,7 @@ module _ (first : TreeState) (history : List Entry) (is : IsSoundTree first) (le
   still_directory t node kind = (nodes_at first history t is legal node (directory_node (tree_at first history t) node kind)).1 ∙ kind
 
   pub root_directory : IsDirectory 0
-  root_directory = still_directory 0 0 (subst (λ (tree : TreeState). is_directory tree 0 ≡ true) (sym (tree_at-first first history)) is.sound.root)
+  root_directory = still_directory 0 0 (rw (tree_at-first first history) is.sound.root)
 
   -- what changes is a directory
   pub own_directory : (t : ℕ) (x : RowChange) → Made run t x → IsDirectory x.directory
@@ -40,7 +39,7 @@ module _ (first : TreeState) (history : List Entry) (is : IsSoundTree first) (le
 
   -- so is where a node is made
   birth_directory : (birth : Birth) → IsOneOf (births_of first history) birth → IsDirectory birth.directory
-  birth_directory birth one = own_directory birth.stamp (added birth.stamp birth.directory born.name birth.node None) (subst (λ (f : Effect). IsOneOf (changes_by (tree_at first history birth.stamp) birth.stamp f) (added birth.stamp birth.directory born.name birth.node None)) (sym born.adds) (inl refl))
+  birth_directory birth one = own_directory birth.stamp (added birth.stamp birth.directory born.name birth.node None) (rw born.adds (inl refl))
     where
       born : IsBornAt first history birth birth.stamp
       born = birth_at first history birth legal one
@@ -49,7 +48,7 @@ module _ (first : TreeState) (history : List Entry) (is : IsSoundTree first) (le
   other_directory : (change : RowChange) (other : ℕ) → IsChange first history change → change.other ≡ Some other → IsDirectory other
   other_directory change other one two =
       let own = other_changes (tree_at first history change.stamp) change.stamp (effect_at first history change.stamp) change other (made_at first history is legal change one) two in
-      subst IsDirectory own.2 (own_directory change.stamp own.0 own.1)
+      rw own.2 at (own_directory change.stamp own.0 own.1)
 
   ended_directory : (change : RowChange) → IsChange first history change → change.ends ≡ true → IsDirectory change.child
   ended_directory change one ends = still_directory change.stamp change.child (ended_at run change.stamp change (made_at first history is legal change one) ends).kind
@@ -69,14 +68,14 @@ module _ (first : TreeState) (history : List Entry) (is : IsSoundTree first) (le
     -- a file with an inode is the one member of its own fsync, and concerns no other node
     module _ (file : is_directory (tree_after first history) flush.node ≡ false) (has : inodes flush.node ≡ true) where
       no_change : (change : RowChange) → IsChange first history change → change.directory ≡ flush.node → ⊥
-      no_change change one same = both (subst IsDirectory same (own_directory change.stamp change (made_at first history is legal change one))) file
+      no_change change one same = both (rw same at (own_directory change.stamp change (made_at first history is legal change one))) file
 
       pub member_alone : {node : ℕ} → Closure first history counts cut inodes flush node → node ≡ flush.node
       member_alone closure.itself = refl
       member_alone (closure.other_side change other own span two) = absurd (no_change change span.is_change (member_alone own))
       member_alone (closure.ended change own span ends) = absurd (no_change change span.is_change (member_alone own))
       member_alone (closure.ancestor change above node own span move way among) = absurd (no_change change span.is_change (member_alone own))
-      member_alone (closure.birth_place birth own one none naming) = absurd (both (subst (λ (y : ℕ). inodes y ≡ true) (sym (member_alone own)) has) none)
+      member_alone (closure.birth_place birth own one none naming) = absurd (both (rw (member_alone own) has) none)
 
       pub concerned_alone : (node : ℕ) → IsConcerned first history counts cut inodes flush node → node ≡ flush.node
       concerned_alone node (closure.member _ own) = member_alone own

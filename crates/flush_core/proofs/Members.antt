@@ -61,7 +61,7 @@ other_changes tree t (Moves p n q m c) x o one two =
 pub above_directory : (tree : TreeState) → IsSound tree → {d : ℕ} {above : List ℕ} → Above tree d above → (a : ℕ) → IsOneOf above a → is_directory tree a ≡ true
 above_directory tree s at_root a one = absurd one
 above_directory tree s (below d holder name above row rest) a one = elim one [
-  | inl e ↦ subst (λ (y : ℕ). is_directory tree y ≡ true) e (s.holds holder name d row).0
+  | inl e ↦ rw e at (s.holds holder name d row).0
   | inr more ↦ above_directory tree s rest a more
 ]
 
@@ -80,7 +80,7 @@ module _ (first : TreeState) (history : List Entry) (is : IsSoundTree first) (le
     other_then : (change : RowChange) (o : ℕ) → IsChange first history change → change.stamp < flush.stamp → change.other ≡ Some o → IsThen o
     other_then change o one lt two =
         let own = other_changes (tree_at first history change.stamp) change.stamp (effect_at first history change.stamp) change o (made_at first history is legal change one) two in
-        subst IsThen own.2 (own_node own.0 change.stamp own.1 flush.stamp (omega arith))
+        rw own.2 at (own_node own.0 change.stamp own.1 flush.stamp (omega arith))
 
     above_then : (change : RowChange) (above : List ℕ) (node : ℕ) → change.stamp < flush.stamp → Above (tree_after first (take change.stamp history)) change.directory above → IsOneOf above node → IsThen node
     above_then change above node lt way among =
@@ -96,7 +96,7 @@ module _ (first : TreeState) (history : List Entry) (is : IsSoundTree first) (le
         born = birth_at first history birth legal one
 
         makes : Made run birth.stamp (added birth.stamp birth.directory born.name birth.node None)
-        makes = subst (λ (f : Effect). IsOneOf (changes_by (tree_at first history birth.stamp) birth.stamp f) (added birth.stamp birth.directory born.name birth.node None)) (sym born.adds) (inl refl)
+        makes = rw born.adds (inl refl)
 
     -- members are nodes at the stamp
     pub member_then : {node : ℕ} → Closure first history counts cut inodes flush node → IsThen node

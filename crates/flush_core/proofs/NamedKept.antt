@@ -43,8 +43,8 @@ raised_row r cut raised s now up (suc t) h k a row = elim (below_or t (cut h)) [
         change = came.0;
         made = came.1;
         child = came.3;
-        from = subst (λ (d : ℕ). cut d ≤ t) (sym came.2) le;
-        below = subst (λ (d : ℕ). t < raised d) (sym came.2) lt;
+        from = rw came.2 le;
+        below = rw came.2 lt;
       })
     ]
   ]
@@ -69,8 +69,8 @@ kept_row r cut raised s now up (suc t) h k a row = elim (below_or t (cut h)) [
           change = went.0;
           made = went.1;
           child = went.3;
-          from = subst (λ (d : ℕ). cut d ≤ t) (sym went.2) le;
-          below = subst (λ (d : ℕ). t < raised d) (sym went.2) lt;
+          from = rw went.2 le;
+          below = rw went.2 lt;
         })
       ]
     ]
@@ -95,8 +95,8 @@ module _ (first : TreeState) (history : List Entry) (counts : Counts) (flush : F
       subst (IsConcerned first history counts cut inodes flush) b.child (named b.change there.0 (record {
         is_change = change_in first history b.stamp b.change legal b.made;
         counted = all b.change.stamp (let lt = there.1 in let e = same in omega arith);
-        from = subst (λ (t : ℕ). cut_of cut b.change.directory ≤ t) (sym same) b.from;
-        below = subst (λ (t : ℕ). t < flush.stamp) (sym same) there.1;
+        from = rw same b.from;
+        below = rw same there.1;
       }))
     where
       same : b.change.stamp ≡ b.stamp
@@ -110,7 +110,7 @@ module _ (first : TreeState) (history : List Entry) (counts : Counts) (flush : F
   pub between_change : (node : ℕ) (b : IsBetween run (cut_of cut) (cut_of raised) node) → IsChange first history b.change × (cut_of cut b.change.directory ≤ b.change.stamp)
   between_change node b =
       let same = stamp_of (tree_at first history b.stamp) b.stamp (effect_at first history b.stamp) b.change b.made in
-      (change_in first history b.stamp b.change legal b.made, subst (λ (t : ℕ). cut_of cut b.change.directory ≤ t) (sym same) b.from)
+      (change_in first history b.stamp b.change legal b.made, rw same b.from)
 
   -- past the last stamp the rows are those at the cut
   at_end : (c : Cut) (d : ℕ) (m : List ℕ) → get ((seen_of first history is legal c).rows (length history)) (d, m) ≡ get (rows_at_cut first history c) (d, m)

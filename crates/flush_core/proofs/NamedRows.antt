@@ -1,5 +1,5 @@
 -- A row at a cut names a node by the changes that name it alone.
-use Rattle.std.proofs.Common.{◌≡◌, ℕ, zero, suc, ◌<◌, ◌≤◌, false, List, [], ◌∷◌, ◌++◌, take, Option, Some, None, ◌⊎◌, inl, inr, refl, sym, ap, subst, ◌∙◌, arith}
+use Rattle.std.proofs.Common.{◌≡◌, ℕ, zero, suc, ◌<◌, ◌≤◌, false, List, [], ◌∷◌, ◌++◌, take, Option, Some, None, ◌⊎◌, inl, inr, refl, sym, ap, ◌∙◌, arith}
 use Rattle.std.specs.Prelude.{◌↔◌, filter, fold}
 use Rattle.std.specs.FinMap.{FinMap, get, remove}
 use Rattle.sfs_base.specs.declared.numbers.Kind.{Kind}
@@ -97,7 +97,7 @@ module _ (first : TreeState) (history : List Entry) (n : ℕ) (node d : ℕ) (is
   by_stamp : (cut other : Cut) → PartNone cut other → (t : ℕ) (x : RowChange) → t < n → Made run t x → x.child ≡ node → x.directory ≡ d → (t < cut_of cut d) ↔ (t < cut_of other d)
   by_stamp cut other same t x lt one child dir =
       let e = stamp_of (tree_at first history t) t (effect_at first history t) x one in
-      subst (λ (k : ℕ). (t < cut_of cut k) ↔ (t < cut_of other k)) dir (subst (λ (k : ℕ). (k < cut_of cut x.directory) ↔ (k < cut_of other x.directory)) e (same x (change_in first history t x legal one) (subst (λ (k : ℕ). k < n) (sym e) lt) child dir))
+      rw dir at (rw e at (same x (change_in first history t x legal one) (rw e lt) child dir))
 
   one_way : (cut other : Cut) (name : List ℕ) → PartNone cut other → get (counted_rows_at_cut first history (below n) cut) (d, name) ≡ Some node → get (counted_rows_at_cut first history (below n) other) (d, name) ≡ Some node
   one_way cut other name same row =

@@ -1,5 +1,5 @@
 -- A node is made in a legal history exactly where the tree after it has the node and the first tree has not.
-use Rattle.std.proofs.Common.{◌≡◌, ℕ, suc, List, [], ◌∷◌, Option, Some, None, IsSome, inl, inr, refl, sym, ap, subst, ◌∙◌, arith}
+use Rattle.std.proofs.Common.{◌≡◌, ℕ, suc, List, [], ◌∷◌, Option, Some, None, IsSome, inl, inr, refl, sym, ap, ◌∙◌, arith}
 use Rattle.std.specs.FinMap.{get}
 use Rattle.sfs_base.specs.declared.numbers.Kind.{Kind}
 use Rattle.sfs_tree.specs.declared.history.Entry.{Entry}
@@ -14,7 +14,7 @@ use Rattle.sfs_tree.proofs.SoundTrees.{calls_keep_sound, calls_fit}
 use Rattle.flush_core.specs.Rules.{IsOneOf, Birth, births_by, births_of}
 use Rattle.flush_core.specs.LawsInodes.{BirthsAreNewNodes}
 use Rattle.flush_core.proofs.Basics.{in_left, in_right}
-use Rattle.flush_core.proofs.Along.{tree_at, node_first, run_of, nodes_at}
+use Rattle.flush_core.proofs.Along.{node_first, run_of, nodes_at}
 use Rattle.flush_core.proofs.Commit.{birth_at}
 use Rattle.flush_core.proofs.Lives.{no_node_yet, is_node_now}
 
@@ -43,7 +43,7 @@ made_by_effect tree core stamp (Edits file edit) None x f lacks some =
     elim (get tree.nodes file) as (λ o. get tree.nodes file ≡ o → IsSome (get (with_edit tree.nodes file edit o) x) → HasBirthIn (births_by stamp (Edits file edit) None) x) [
       | None ↦ λ _ there. no_node lacks there
       | Some node ↦ λ e there. elim (node_cases tree.nodes file (record node { bytes = edited edit node.bytes }) x) [
-        | inl here ↦ no_node (sym (ap (get tree.nodes) here.0) ∙ lacks) (subst IsSome (sym e) refl)
+        | inl here ↦ no_node (sym (ap (get tree.nodes) here.0) ∙ lacks) (rw e refl)
         | inr other ↦ no_node (other.1 ∙ lacks) there
       ]
     ] refl some
@@ -56,7 +56,7 @@ born_in first (entry ∷ history) stamp node is legal lacks some =
           let rest = born_in next history (suc stamp) node (calls_keep_sound first entry.core.0 entry.call is legal.0.core) legal.1 still some in
           (rest.0, in_right (births_by entry.stamp.0 v.effect v.makes) (births_of next history) rest.0 rest.1, rest.2)
       | Some n ↦ λ came.
-          let here = made_by_effect first entry.core.0 entry.stamp.0 v.effect v.makes node (calls_fit first entry.core.0 entry.call is legal.0.core) lacks (subst IsSome (sym came) refl) in
+          let here = made_by_effect first entry.core.0 entry.stamp.0 v.effect v.makes node (calls_fit first entry.core.0 entry.call is legal.0.core) lacks (rw came refl) in
           (here.0, in_left (births_by entry.stamp.0 v.effect v.makes) (births_of next history) here.0 here.1, here.2)
     ] refl
   where
@@ -71,8 +71,8 @@ is_new first history node is legal found =
     let birth = found.0 in
     let born = birth_at first history birth legal found.1 in
     let run = run_of first history is legal in (
-      (nodes_at first history (suc birth.stamp) is legal node (subst (λ (y : ℕ). IsSome (get (tree_at first history (suc birth.stamp)).nodes y)) found.2 (is_node_now run birth.stamp birth.directory born.name birth.node born.kind born.adds born.made))).0,
-      not_some (get first.nodes node) (λ some. no_node_yet run birth.stamp birth.directory born.name birth.node born.kind born.adds born.made 0 (omega arith) (node_first first history birth.node (subst (λ (y : ℕ). IsSome (get first.nodes y)) (sym found.2) some))),
+      (nodes_at first history (suc birth.stamp) is legal node (rw found.2 at (is_node_now run birth.stamp birth.directory born.name birth.node born.kind born.adds born.made))).0,
+      not_some (get first.nodes node) (λ some. no_node_yet run birth.stamp birth.directory born.name birth.node born.kind born.adds born.made 0 (omega arith) (node_first first history birth.node (rw found.2 some))),
     )
   where
     not_some : (o : Option Node) → (IsSome o → ⊥) → o ≡ None

@@ -1,5 +1,5 @@
 -- An fsync of a live file that has an inode leaves all inodes.
-use Rattle.std.proofs.Common.{◌≡◌, ℕ, ◌<◌, ◌≤◌, Bool, true, false, List, inl, inr, refl, sym, subst, arith}
+use Rattle.std.proofs.Common.{◌≡◌, ℕ, ◌<◌, ◌≤◌, Bool, true, false, List, inl, inr, refl, arith}
 use Rattle.std.specs.FinMap.{empty}
 use Rattle.sfs_tree.specs.declared.history.Entry.{Entry}
 use Rattle.sfs_tree.specs.Tree.{TreeState, is_alive, is_directory}
@@ -22,7 +22,7 @@ module _ (first : TreeState) (history : List Entry) (is : IsSoundTree first) (le
   -- what is alive at a stamp is the root, or something names it
   live_named : (t node : ℕ) → is_directory (tree_after first history) node ≡ false → is_alive (tree_at first history t) node ≡ true → is_directory (tree_after first history) 0 ≡ true → IsNeverNamed first history node → ⊥
   live_named t node file alive root never = elim (alive_named (tree_at first history t) node alive) [
-    | inl same ↦ both root (subst (λ (y : ℕ). is_directory (tree_after first history) y ≡ false) same file)
+    | inl same ↦ both root (rw same at file)
     | inr named ↦ elim (named_or_open first history is legal t empty (none_above t) node named) [
       | inl there ↦ never.rows (first_row first history node there)
       | inr o ↦ never.changes o.change (change_in first history o.stamp o.change legal o.made) o.child
@@ -33,7 +33,7 @@ module _ (first : TreeState) (history : List Entry) (is : IsSoundTree first) (le
     -- no directory's stamp moves
     same_stamp : (d : ℕ) → is_directory (tree_after first history) d ≡ true → cut_of raised d ≡ cut_of cut d
     same_stamp d kind = elim (raise.other d) [
-      | inl own ↦ absurd (both kind (subst (λ (y : ℕ). is_directory (tree_after first history) y ≡ false) (sym (member_alone first history is legal every_entry cut inodes flush file has own)) file))
+      | inl own ↦ absurd (both kind (rw (member_alone first history is legal every_entry cut inodes flush file has own) file))
       | inr same ↦ same
     ]
 
@@ -47,7 +47,7 @@ module _ (first : TreeState) (history : List Entry) (is : IsSoundTree first) (le
       ];
       flushed = λ change one counted child.
           let lt = dead.flushed change one counted child in
-          subst (λ (k : ℕ). change.stamp < k) (same_stamp change.directory (own_directory first history is legal change.stamp change (made_at first history is legal change one))) lt;
+          rw (same_stamp change.directory (own_directory first history is legal change.stamp change (made_at first history is legal change one))) at lt;
     }
       where
         no_less : (a b t : ℕ) → b ≡ a → a ≤ t → t < b → ⊥
@@ -56,12 +56,12 @@ module _ (first : TreeState) (history : List Entry) (is : IsSoundTree first) (le
     keeps_inodes : (IsDead first history every_entry cut flush.node → ⊥) → (node : ℕ) → after node ≡ inodes node
     keeps_inodes lives node = elim (inodes node) as (λ b. inodes node ≡ b → after node ≡ b) [
       | false ↦ λ lacks. elim (after node) as (λ b. after node ≡ b → b ≡ false) [
-        | true ↦ λ came. absurd (both (subst (λ (y : ℕ). inodes y ≡ true) (sym (alone node ((sets.enters node lacks).0 came).0)) has) lacks)
+        | true ↦ λ came. absurd (both (rw (alone node ((sets.enters node lacks).0 came).0) has) lacks)
         | false ↦ λ _. refl
       ] refl
       | true ↦ λ had. elim (after node) as (λ b. after node ≡ b → b ≡ true) [
         | true ↦ λ _. refl
-        | false ↦ λ gone. let left = (sets.leaves node had).0 gone in absurd (lives (was_dead (subst (λ (y : ℕ). IsDead first history every_entry raised y) (alone node left.0) left.1)))
+        | false ↦ λ gone. let left = (sets.leaves node had).0 gone in absurd (lives (was_dead (rw (alone node left.0) at left.1)))
       ] refl
     ] refl
       where
@@ -71,4 +71,4 @@ module _ (first : TreeState) (history : List Entry) (is : IsSoundTree first) (le
 pub files_keep_inodes : FilesKeepInodes
 files_keep_inodes first history flushes cut raised inodes after flush node is legal flushed raise sets live file has =
     keeps_inodes first history is legal cut raised inodes after flush raise sets file has (λ dead.
-    live_named first history is legal flush.stamp flush.node file (subst (λ (tree : TreeState). is_alive tree flush.node ≡ true) (sym (tree_at-after first history flush.stamp)) live) (root_directory first history is legal) (dead_unnamed first history is legal flushed flush.node has dead)) node
+    live_named first history is legal flush.stamp flush.node file (rw (tree_at-after first history flush.stamp) live) (root_directory first history is legal) (dead_unnamed first history is legal flushed flush.node has dead)) node

@@ -1,6 +1,6 @@
 -- What an effect that fits does with the row of a directory.
 use Rattle.flush_core.proofs.Basics.{both, none_some, not_none, some_is}
-use Rattle.std.proofs.Common.{◌≡◌, ◌≢◌, ℕ, true, false, List, Option, Some, None, ◌⊎◌, inl, inr, refl, sym, ap, subst, ◌∙◌}
+use Rattle.std.proofs.Common.{◌≡◌, ◌≢◌, ℕ, true, false, List, Option, Some, None, ◌⊎◌, inl, inr, refl, sym, ap, ◌∙◌}
 use Rattle.std.specs.FinMap.{get, insert, remove}
 use Rattle.sfs_base.specs.declared.numbers.Kind.{Kind}
 use Rattle.sfs_tree.specs.Tree.{TreeState, row_of, is_directory}
@@ -17,7 +17,7 @@ placed (Moves directory name to_directory to_name child) = Some child
 placed _ = None
 
 pub row_at : (tree : TreeState) (d e : ℕ) (k l : List ℕ) (x : ℕ) → d ≡ e → k ≡ l → row_of tree d k ≡ Some x → row_of tree e l ≡ Some x
-row_at tree d e k l x same names row = subst (λ (y : ℕ). row_of tree y l ≡ Some x) same (subst (λ (y : List ℕ). row_of tree d y ≡ Some x) names row)
+row_at tree d e k l x same names row = rw same at (rw names at row)
 
 module _ (tree : TreeState) (core : ℕ) (s : IsSound tree) where
   -- a directory's row after an effect was there and the effect places another child, or it places this one
@@ -27,7 +27,7 @@ module _ (tree : TreeState) (core : ℕ) (s : IsSound tree) where
   came (Removes d n c) None f h k a kind row = inl ((removed_cases tree.rows h d k n a row).1, none_some)
   came (Adds d n c) None f h k a kind row = elim (added_cases tree.rows h d k n c a row) [
     | inl new ↦ inr (ap Some (sym new.2))
-    | inr old ↦ inl (old.1, λ e. f.placeless (subst (λ (y : ℕ). is_directory tree y ≡ true) (sym (some_is e)) kind) h k (old.1 ∙ sym e))
+    | inr old ↦ inl (old.1, λ e. f.placeless (rw (some_is e) kind) h k (old.1 ∙ sym e))
   ]
   came (Moves p n q m c) None f h k a kind row = elim (added_cases (remove tree.rows (p, n)) h q k m c a row) [
     | inl new ↦ inr (ap Some (sym new.2))
@@ -63,7 +63,7 @@ module _ (tree : TreeState) (core : ℕ) (s : IsSound tree) where
   named_before (Edits file edit) None f files d n x kind row = inl (was_named (Edits file edit) None f d n x kind row)
   named_before (Removes e k c) None f files d n x kind row = inl (was_named (Removes e k c) None f d n x kind (removed_cases tree.rows d e n k x row).1)
   named_before (Adds e k c) None f files d n x kind row = elim (added_cases tree.rows d e n k c x row) [
-    | inl new ↦ absurd (both (subst (λ (y : ℕ). is_directory tree y ≡ true) new.2 kind) (files e k c refl refl))
+    | inl new ↦ absurd (both (rw new.2 at kind) (files e k c refl refl))
     | inr old ↦ inl (was_named (Adds e k c) None f d n x kind old.1)
   ]
   named_before (Moves p k q m c) None f files d n x kind row = elim (added_cases (remove tree.rows (p, k)) d q n m c x row) [

@@ -1,5 +1,5 @@
 -- The last change that places a node, found by going over the changes.
-use Rattle.std.proofs.Common.{◌≡◌, ℕ, ◌+◌, ◌<◌, List, length, take, get_or, Option, Some, None, inl, inr, refl, sym, ap, subst, arith}
+use Rattle.std.proofs.Common.{◌≡◌, ℕ, ◌+◌, ◌<◌, List, length, take, get_or, Option, Some, None, inl, inr, refl, sym, ap, arith}
 use Rattle.flush_core.specs.declared.past.OwnChange.{OwnChange}
 use Rattle.flush_core.specs.Broken.{PlacesBelow, IsLatest, later}
 use Rattle.flush_core.proofs.Basics.{below_or}
@@ -32,12 +32,12 @@ latest_more changes i node below d v lt is (Some stamp) latest places = (
 pub latest_skip : (changes : List OwnChange) (i : ℕ) (node below : ℕ) (d v : OwnChange) → i < length changes → v ≡ get_or changes i d → (last : Option ℕ) → IsLatest (take i changes) node below last → (PlacesBelow node below v → ⊥) → IsLatest (take (i + 1) changes) node below last
 latest_skip changes i node below d v lt is None none not = λ other one places. elim (one_more changes i d v other lt is one) [
   | inl before ↦ none other before places
-  | inr e ↦ not (subst (PlacesBelow node below) (sym e) places)
+  | inr e ↦ not (rw e places)
 ]
 latest_skip changes i node below d v lt is (Some stamp) latest not = (
   let was = latest.0 in (was.0, still_one changes i d was.0 lt was.1, was.2, was.3),
   λ other one places. elim (one_more changes i d v other lt is one) [
     | inl before ↦ latest.1 other before places
-    | inr e ↦ absurd (not (subst (PlacesBelow node below) (sym e) places))
+    | inr e ↦ absurd (not (rw e places))
   ],
 )

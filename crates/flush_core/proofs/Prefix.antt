@@ -1,11 +1,10 @@
 -- What a legal history's first entries have of the whole history's trees, effects, changes and births.
-use Rattle.std.proofs.Common.{◌≡◌, ℕ, zero, suc, ◌+◌, ◌<◌, ◌≤◌, false, ◌&&◌, List, [], ◌∷◌, ◌++◌, length, take, Option, Some, IsSome, inl, inr, refl, sym, ap, subst, ◌∙◌, arith}
+use Rattle.std.proofs.Common.{◌≡◌, ℕ, zero, suc, ◌+◌, ◌<◌, ◌≤◌, false, ◌&&◌, List, [], ◌∷◌, ◌++◌, length, take, IsSome, inl, inr, refl, sym, ap, ◌∙◌, arith}
 use borrow.Author.Tests.{lt-ltb}
 use Rattle.std.specs.Prelude.{filter, fold}
 use Rattle.std.proofs.lemmas.List.Elements.{filter-append}
 use Rattle.std.proofs.Math.Seq.{take-length}
 use Rattle.std.specs.FinMap.{get}
-use Rattle.sfs_base.specs.declared.numbers.Kind.{Kind}
 use Rattle.sfs_tree.specs.declared.history.Entry.{Entry}
 use Rattle.sfs_tree.specs.Tree.{TreeState, is_directory}
 use Rattle.sfs_tree.specs.Effect.{Effect, Stays, Adds}
@@ -14,7 +13,7 @@ use Rattle.sfs_tree.specs.Changes.{RowChange, changes_by, changes_of}
 use Rattle.sfs_tree.specs.History.{tree_after, tree_after_entry, IsLegalFrom, IsLegal}
 use Rattle.sfs_tree.specs.Laws.{IsSoundTree}
 use Rattle.flush_core.specs.Cut.{Cut, is_within, is_counted_within, with_own, counted_rows_at_cut}
-use Rattle.flush_core.specs.Rules.{IsOneOf, IsChange, Birth, births_by, births_of}
+use Rattle.flush_core.specs.Rules.{IsOneOf, IsChange, Birth, births_of}
 use Rattle.flush_core.specs.Closure.{every_entry}
 use Rattle.flush_core.proofs.Basics.{below_or, filter_none, filter_same, in_either, not_below}
 use Rattle.flush_core.proofs.Own.{stamp_of}
@@ -76,20 +75,20 @@ module _ (first : TreeState) (history : List Entry) (n : ℕ) (legal : IsLegal f
   pub change_below : (x : RowChange) → IsChange first (take n history) x → x.stamp < n
   change_below x one = elim (below_or x.stamp n) [
     | inl lt ↦ lt
-    | inr le ↦ absurd (subst (λ (e : Effect). IsOneOf (changes_by (tree_at first (take n history) x.stamp) x.stamp e) x) (past_effect first history x.stamp n le) (change_of first (take n history) x (legal_take first history n legal) one))
+    | inr le ↦ absurd (rw (past_effect first history x.stamp n le) at (change_of first (take n history) x (legal_take first history n legal) one))
   ]
 
   pub change_whole : (x : RowChange) → IsChange first (take n history) x → IsChange first history x
   change_whole x one =
-      change_in first history x.stamp x legal (subst (λ (l : List RowChange). IsOneOf l x) (same_changes x.stamp (change_below x one)) (change_of first (take n history) x (legal_take first history n legal) one))
+      change_in first history x.stamp x legal (rw (same_changes x.stamp (change_below x one)) at (change_of first (take n history) x (legal_take first history n legal) one))
 
   pub change_prefix : (x : RowChange) → IsChange first history x → x.stamp < n → IsChange first (take n history) x
   change_prefix x one lt =
-      change_in first (take n history) x.stamp x (legal_take first history n legal) (subst (λ (l : List RowChange). IsOneOf l x) (sym (same_changes x.stamp lt)) (change_of first history x legal one))
+      change_in first (take n history) x.stamp x (legal_take first history n legal) (rw (same_changes x.stamp lt) (change_of first history x legal one))
 
   born_in : (h : List Entry) (birth : Birth) → IsLegal first h → IsBornAt first h birth birth.stamp → IsOneOf (births_of first h) birth
   born_in h birth is born =
-      birth_in first h birth.stamp birth is (subst (λ (m : Option Kind). IsOneOf (births_by birth.stamp (effect_at first h birth.stamp) m) birth) (sym born.made) (subst (λ (f : Effect). IsOneOf (births_by birth.stamp f (Some born.kind)) birth) (sym born.adds) (inl refl)))
+      birth_in first h birth.stamp birth is (rw born.made (rw born.adds (inl refl)))
 
   -- so is a birth
   pub birth_below : (birth : Birth) → IsOneOf (births_of first (take n history)) birth → birth.stamp < n
@@ -131,7 +130,7 @@ module _ (first : TreeState) (history : List Entry) (n : ℕ) (legal : IsLegal f
 
 -- a change of a legal history lies below its length
 pub stamp_below : (first : TreeState) (history : List Entry) (x : RowChange) → IsLegal first history → IsChange first history x → x.stamp < length history
-stamp_below first history x legal one = change_below first history (length history) legal x (subst (λ (h : List Entry). IsChange first h x) (sym (take-length history)) one)
+stamp_below first history x legal one = change_below first history (length history) legal x (rw (take-length history) one)
 
 -- each change of a legal history from a stamp on has that stamp at least
 stamps_from : (first : TreeState) (history : List Entry) (stamp : ℕ) (x : RowChange) → IsLegalFrom first stamp history → IsOneOf (changes_of first history) x → stamp ≤ x.stamp

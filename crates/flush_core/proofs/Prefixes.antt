@@ -1,18 +1,17 @@
 -- An fsync does the same by a history's first entries as by the whole history where these entries count.
-use Rattle.std.proofs.Common.{◌≡◌, ℕ, suc, ◌<◌, ◌≤◌, Bool, true, List, take, IsSome, inl, inr, refl, sym, ap, subst, ◌∙◌, arith}
+use Rattle.std.proofs.Common.{◌≡◌, ℕ, suc, ◌<◌, ◌≤◌, Bool, true, List, take, IsSome, inl, inr, refl, sym, ap, ◌∙◌, arith}
 use borrow.Author.Tests.{ltb-true, lt-ltb}
-use Rattle.std.specs.FinMap.{FinMap, get}
+use Rattle.std.specs.FinMap.{get}
 use Rattle.sfs_tree.specs.declared.history.Entry.{Entry}
-use Rattle.sfs_tree.specs.Order.{key_cmp}
 use Rattle.sfs_tree.specs.Tree.{TreeState, is_alive, is_directory}
-use Rattle.sfs_tree.specs.Sound.{Above, IsSound}
+use Rattle.sfs_tree.specs.Sound.{IsSound}
 use Rattle.sfs_tree.specs.Changes.{RowChange}
 use Rattle.sfs_tree.specs.History.{tree_after, IsLegal}
 use Rattle.sfs_tree.specs.Laws.{IsSoundTree}
 use Rattle.sfs_tree.proofs.RowFacts.{alive_named}
 use Rattle.sfs_tree.proofs.KeepsNodes.{directory_node}
 use Rattle.flush_core.specs.Cut.{Cut, counted_rows_at_cut}
-use Rattle.flush_core.specs.Rules.{IsChange, IsOneOf, Birth, births_of, MovesDirectory, IsMove}
+use Rattle.flush_core.specs.Rules.{IsChange, IsOneOf, Birth, births_of, IsMove}
 use Rattle.flush_core.specs.Closure.{every_entry, Flush, HasLiveNode, InSpan, HasNaming, IsNamedIn, IsReached, IsDead}
 use Rattle.flush_core.proofs.Basics.{below_or}
 use Rattle.flush_core.proofs.Runs.{Run}
@@ -22,13 +21,13 @@ use Rattle.flush_core.proofs.Commit.{birth_at}
 use Rattle.flush_core.proofs.Views.{below, PrefixesCount}
 use Rattle.flush_core.proofs.Prefix.{take_take, change_below, change_whole, change_prefix, birth_whole, birth_prefix, kind_whole, counted_rows-take}
 use Rattle.flush_core.proofs.Children.{child_node}
-use Rattle.flush_core.specs.Runs.{CommitView}
+use Rattle.flush_core.specs.Runs.{CommitView, view_by}
 use Rattle.flush_core.proofs.Alike.{Carries, GiveAlike, are_alike}
 
 -- what is alive is a node
 pub alive_node : (tree : TreeState) (x : ℕ) → IsSound tree → is_alive tree x ≡ true → IsSome (get tree.nodes x)
 alive_node tree x sound alive = elim (alive_named tree x alive) [
-  | inl root ↦ subst (λ (y : ℕ). IsSome (get tree.nodes y)) (sym root) (directory_node tree 0 sound.root)
+  | inl root ↦ rw root (directory_node tree 0 sound.root)
   | inr named ↦ sound.node named.directory named.name x named.row
 ]
 
@@ -42,13 +41,13 @@ module _ (first : TreeState) (history : List Entry) (is : IsSoundTree first) (le
     | inr le ↦ le
     | inl lt ↦
         let born = birth_at first history birth legal one in
-        absurd (no_node_yet run birth.stamp birth.directory born.name birth.node born.kind born.adds born.made (suc x.stamp) (omega arith) (subst (λ (y : ℕ). IsSome (get (run.tree (suc x.stamp)).nodes y)) same (child_node run x.stamp x (made_at first history is legal x is_change) (suc x.stamp) (omega arith))))
+        absurd (no_node_yet run birth.stamp birth.directory born.name birth.node born.kind born.adds born.made (suc x.stamp) (omega arith) (rw same at (child_node run x.stamp x (made_at first history is legal x is_change) (suc x.stamp) (omega arith))))
   ]
 
   -- an fsync's node is one from its stamp on
   pub live_node : (flush : Flush) → HasLiveNode first history flush → (u : ℕ) → flush.stamp ≤ u → IsSome (get (tree_at first history u).nodes flush.node)
   live_node flush live u le =
-      later run flush.stamp u flush.node le (alive_node (tree_at first history flush.stamp) flush.node (sound_at first history 0 flush.stamp is legal) (subst (λ (tree : TreeState). is_alive tree flush.node ≡ true) (sym (tree_at-after first history flush.stamp)) live))
+      later run flush.stamp u flush.node le (alive_node (tree_at first history flush.stamp) flush.node (sound_at first history 0 flush.stamp is legal) (rw (tree_at-after first history flush.stamp) live))
 
   module _ (n : ℕ) where
     abbrev prefix : List Entry
@@ -95,27 +94,27 @@ module _ (first : TreeState) (history : List Entry) (is : IsSoundTree first) (le
     pub move_whole : (x : RowChange) → IsMove first prefix x → IsMove first history x
     move_whole x move = record {
       is_change = change_whole first history n legal x move.is_change;
-      moves = subst (λ (tree : TreeState). MovesDirectory tree x) (same_tree x.stamp (change_below first history n legal x move.is_change)) move.moves;
+      moves = rw (same_tree x.stamp (change_below first history n legal x move.is_change)) at move.moves;
     }
 
     pub move_prefix : (x : RowChange) → x.stamp < n → IsMove first history x → IsMove first prefix x
     move_prefix x lt move = record {
       is_change = change_prefix first history n legal x move.is_change lt;
-      moves = subst (λ (tree : TreeState). MovesDirectory tree x) (sym (same_tree x.stamp lt)) move.moves;
+      moves = rw (same_tree x.stamp lt) move.moves;
     }
 
     module _ (flush : Flush) (cut : Cut) (inodes : ℕ → Bool) (low : flush.stamp ≤ n) (live : HasLiveNode first history flush) where
       abbrev short : CommitView
-      short = record { history = prefix; counts = every_entry; cut = cut; inodes = inodes }
+      short = view_by prefix every_entry cut inodes
 
       abbrev whole : CommitView
-      whole = record { history = history; counts = below n; cut = cut; inodes = inodes }
+      whole = view_by history (below n) cut inodes
 
       to_whole : Carries first flush short whole
       to_whole = record {
         span = λ x own there span. span_whole cut flush.stamp x span;
         moves = λ x span move. move_whole x move;
-        stands = λ x above span way. subst (λ (tree : TreeState). Above tree x.directory above) (same_tree x.stamp (change_below first history n legal x span.is_change)) way;
+        stands = λ x above span way. rw (same_tree x.stamp (change_below first history n legal x span.is_change)) at way;
         births = λ birth own there l. record { one = birth_whole first history n legal birth l.one; lacks = l.lacks; naming = naming_whole cut birth.node l.naming };
       }
 
@@ -123,7 +122,7 @@ module _ (first : TreeState) (history : List Entry) (is : IsSoundTree first) (le
       to_prefix = record {
         span = λ x own there span. span_prefix cut flush.stamp x span;
         moves = λ x span move. move_prefix x (ltb-true x.stamp n span.counted) move;
-        stands = λ x above span way. subst (λ (tree : TreeState). Above tree x.directory above) (sym (same_tree x.stamp (ltb-true x.stamp n span.counted))) way;
+        stands = λ x above span way. rw (same_tree x.stamp (ltb-true x.stamp n span.counted)) way;
         births = λ birth own there l. record {
           one = birth_prefix first history n legal birth l.one (let le = born_by birth l.naming.change l.one l.naming.is_change l.naming.child in let lt = ltb-true l.naming.change.stamp n l.naming.counted in omega arith);
           lacks = l.lacks;
@@ -133,13 +132,13 @@ module _ (first : TreeState) (history : List Entry) (is : IsSoundTree first) (le
 
       module _ (raised : Cut) where
         rows_whole : (node : ℕ) → IsNamedIn (counted_rows_at_cut first prefix every_entry raised) node → IsNamedIn (counted_rows_at_cut first history (below n) raised) node
-        rows_whole node named = subst (λ (rows : FinMap key_cmp ℕ). IsNamedIn rows node) (counted_rows-take first history n raised legal) named
+        rows_whole node named = rw (counted_rows-take first history n raised legal) at named
 
         rows_prefix : (node : ℕ) → IsNamedIn (counted_rows_at_cut first history (below n) raised) node → IsNamedIn (counted_rows_at_cut first prefix every_entry raised) node
-        rows_prefix node named = subst (λ (rows : FinMap key_cmp ℕ). IsNamedIn rows node) (sym (counted_rows-take first history n raised legal)) named
+        rows_prefix node named = rw (counted_rows-take first history n raised legal) named
 
         own_kind : (node : ℕ) → node ≡ flush.node → is_directory (tree_after first history) node ≡ is_directory (tree_after first prefix) node
-        own_kind node same = kind_whole first history n legal node is (subst (λ (y : ℕ). IsSome (get (tree_at first history n).nodes y)) (sym same) (live_node flush live n low))
+        own_kind node same = kind_whole first history n legal node is (rw same (live_node flush live n low))
 
         reached_whole : (node : ℕ) → IsReached first prefix every_entry flush raised node → IsReached first history (below n) flush raised node
         reached_whole node reached = elim reached [

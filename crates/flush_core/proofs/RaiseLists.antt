@@ -66,9 +66,9 @@ module _ (first : TreeState) (history : List Entry) (counts : Counts) (cut : Cut
       record {
         before = before;
         inodes_before = inodes_before;
-        earlier = subst (λ (l : List Flush). AreRaised first history counts cut inodes l before inodes_before) same.0 was;
-        raise = subst (λ (f : Flush). IsRaised first history counts before inodes_before f raised) same.1 raise;
-        sets = subst (λ (f : Flush). AreInodesAfter first history counts before inodes_before f raised after) same.1 sets;
+        earlier = rw same.0 at was;
+        raise = rw same.1 at raise;
+        sets = rw same.1 at sets;
       }
 
   -- no fsyncs raise nothing

@@ -66,7 +66,7 @@ raise_more cut before after nodes i d v stamp lt is raises step = record { one =
 
     other : (x : ℕ) → IsOneOf (take (i + 1) nodes) x ⊎ (cut_of after x ≡ cut_of cut x)
     other x = elim (same_or_not x v) [
-      | inl e ↦ inl (subst (IsOneOf (take (i + 1) nodes)) e (next_one nodes i d v lt is))
+      | inl e ↦ inl (rw e at (next_one nodes i d v lt is))
       | inr differ ↦ elim (raises.other x) [
         | inl raised ↦ inl (still_one nodes i d x lt raised)
         | inr same ↦ inr (there x differ ∙ same)
@@ -77,7 +77,7 @@ pub raise_none : (cut : Cut) (nodes : List ℕ) (stamp : ℕ) → RaisesThose cu
 raise_none cut nodes stamp = record { one = λ x none. absurd none; other = λ x. inr refl }
 
 pub raise_whole : (cut raised : Cut) (nodes : List ℕ) (i stamp : ℕ) → length nodes ≤ i → RaisesThose cut (take i nodes) stamp raised → RaisesThose cut nodes stamp raised
-raise_whole cut raised nodes i stamp le raises = subst (λ l. RaisesThose cut l stamp raised) (take_all i nodes le) raises
+raise_whole cut raised nodes i stamp le raises = rw (take_all i nodes le) at raises
 
 -- the nodes that are settled so far, and no others have changed
 pub record AreSettled (past : Past) (raised : Cut) (inodes named : NodeSet) (own : ℕ) (nodes : List ℕ) (after : NodeSet) : Type 0 where
@@ -90,12 +90,12 @@ settle_more past raised inodes named own nodes i d v has before after lt is so_f
   settled = λ x in_list. elim (same_or_not x v) [
     | inl e ↦ subst (λ y. Settles past raised inodes named own y (has_node after y)) e (subst (Settles past raised inodes named own v) (sym (step v ∙ with_in v has (has_node before))) settles)
     | inr differ ↦ elim (one_more nodes i d v x lt is in_list) [
-      | inl earlier ↦ subst (Settles past raised inodes named own x) (sym (step x ∙ with_other v x has (has_node before) differ)) (so_far.settled x earlier)
+      | inl earlier ↦ rw (step x ∙ with_other v x has (has_node before) differ) (so_far.settled x earlier)
       | inr e ↦ absurd (differ (sym e))
     ]
   ];
   others = λ x changed. elim (same_or_not x v) [
-    | inl e ↦ subst (IsOneOf (take (i + 1) nodes)) e (next_one nodes i d v lt is)
+    | inl e ↦ rw e at (next_one nodes i d v lt is)
     | inr differ ↦ still_one nodes i d x lt (so_far.others x (λ same. changed (step x ∙ with_other v x has (has_node before) differ ∙ same)))
   ];
 }
@@ -104,7 +104,7 @@ pub settle_none : (past : Past) (raised : Cut) (inodes named : NodeSet) (own : �
 settle_none past raised inodes named own nodes after same = record { settled = λ x none. absurd none; others = λ x changed. absurd (changed (same x)) }
 
 pub settle_whole : (past : Past) (raised : Cut) (inodes named : NodeSet) (own : ℕ) (nodes : List ℕ) (i : ℕ) (after : NodeSet) → length nodes ≤ i → AreSettled past raised inodes named own (take i nodes) after → AreSettled past raised inodes named own nodes after
-settle_whole past raised inodes named own nodes i after le settled = subst (λ l. AreSettled past raised inodes named own l after) (take_all i nodes le) settled
+settle_whole past raised inodes named own nodes i after le settled = rw (take_all i nodes le) at settled
 
 module _ (first : TreeState) (history : List Entry) (past : Past) (is : IsPast first history past) (raised : Cut) (named : NodeSet) (are_named : AreNamed first history raised named) where
   -- a node that gets an inode is reached
@@ -160,7 +160,7 @@ module _ (first : TreeState) (history : List Entry) (past : Past) (is : IsPast f
   }
     where
       is_concerned : (node : ℕ) → IsOneOf listed node → IsConcerned first history every_entry cut (has_node inodes) flush node
-      is_concerned node one = (are node).0 ((list node).0 (subst (λ l. IsOneOf l node) same one))
+      is_concerned node one = (are node).0 ((list node).0 (rw same at one))
 
       in_list : (node : ℕ) → IsConcerned first history every_entry cut (has_node inodes) flush node → IsOneOf listed node
-      in_list node concerns = subst (λ l. IsOneOf l node) (sym same) ((list node).1 ((are node).1 concerns))
+      in_list node concerns = rw same ((list node).1 ((are node).1 concerns))

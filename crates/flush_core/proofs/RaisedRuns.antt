@@ -10,7 +10,7 @@ use Rattle.flush_core.specs.declared.event.Event.TheVariants as event
 use Rattle.flush_core.specs.declared.event.Refused.TheVariants as refused
 use Rattle.flush_core.specs.Cut.{Cut}
 use Rattle.flush_core.specs.Rules.{IsOneOf}
-use Rattle.flush_core.specs.Closure.{every_entry, Flush, HasLiveNode, AreRaised, none, one_more, AreFlushed}
+use Rattle.flush_core.specs.Closure.{every_entry, Flush, AreRaised, none, one_more, AreFlushed}
 use Rattle.flush_core.specs.Machine.{Flight, MachineState}
 use Rattle.flush_core.specs.Runs.{IsRun, IsBegun, AreAlive, durable_of}
 use Rattle.flush_core.specs.LawsRuns.{every_commit, RunsAreFlushed}
@@ -41,16 +41,16 @@ module _ (first : TreeState) (events : List Event) (states : ℕ → MachineStat
 
   pub begin_before : (so_many : ℕ) → so_many ≤ length events → (flight : Flight) → IsOneOf (states so_many).flights flight → (begin : ℕ) × (begin < so_many) × IsBegun events begin flight.commit flight.flush
   begin_before so_many le flight one = elim (flight_before first events states run 0 so_many (omega arith) le flight one) [
-    | inl among ↦ absurd (subst (λ (s : MachineState). IsOneOf s.flights among.was) run.begins among.there)
+    | inl among ↦ absurd (rw run.begins at among.there)
     | inr later ↦ (later.0, later.2, later.3)
   ]
 
   -- a flight's raise over the state's history is one over the whole
   raise_on : (so_many : ℕ) (flight : Flight) (raised : Cut) (after : ℕ → Bool) → so_many < last → IsOneOf (states so_many).flights flight → AreRaised first (states so_many).history every_entry (states so_many).cut (states so_many).inodes (flight.flush ∷ []) raised after → AreRaised first whole every_entry (states so_many).cut (states so_many).inodes (flight.flush ∷ []) raised after
   raise_on so_many flight raised after lt one are =
-      raised_whole first whole (length (states so_many).history) is legal prefix.shorter (subst (λ (h : List Entry). AreRaised first h every_entry (states so_many).cut (states so_many).inodes (flight.flush ∷ []) raised after) (sym prefix.first_part) are) (record {
-        low = λ flush own. elim own [ inl same ↦ subst (λ (f : Flush). f.stamp ≤ length (states so_many).history) same (steady.stamps flight one) | inr nothing ↦ absurd nothing ];
-        live = λ flush own. elim own [ inl same ↦ subst (HasLiveNode first whole) same (flights_live first events states is run alive last within so_many (omega arith) flight one) | inr nothing ↦ absurd nothing ];
+      raised_whole first whole (length (states so_many).history) is legal prefix.shorter (rw prefix.first_part are) (record {
+        low = λ flush own. elim own [ inl same ↦ rw same at (steady.stamps flight one) | inr nothing ↦ absurd nothing ];
+        live = λ flush own. elim own [ inl same ↦ rw same at (flights_live first events states is run alive last within so_many (omega arith) flight one) | inr nothing ↦ absurd nothing ];
       }) steady.cuts (held_at first events states is run alive last within so_many (omega arith))
     where
       prefix : IsPrefix (states so_many).history whole
@@ -62,7 +62,7 @@ module _ (first : TreeState) (events : List Event) (states : ℕ → MachineStat
   flushed_step : (so_many : ℕ) (e : Event) → so_many < last → slice_get events so_many ≡ Some e → ((states (suc so_many)).crashed ≡ true → ⊥) → CutStep first (states so_many) (states (suc so_many)) e → AreRaisedAt so_many → AreRaisedAt (suc so_many)
   flushed_step so_many e lt stands goes (stays cuts inodes_are no_durable) was =
       subst (λ (c : Cut). AreFlushed first whole every_entry (durable_till (suc so_many)) c (states (suc so_many)).inodes) cuts (subst (λ (i : ℕ → Bool). AreFlushed first whole every_entry (durable_till (suc so_many)) (states so_many).cut i) inodes_are
-      (subst (λ (l : List Flush). AreFlushed first whole every_entry l (states so_many).cut (states so_many).inodes) (sym (none_more first events states run last every_commit so_many e stands (no_durable (take last events) every_commit))) was))
+      (rw (none_more first events states run last every_commit so_many e stands (no_durable (take last events) every_commit)) was))
   flushed_step so_many e lt stands goes (raises durable raiser same there number are others) was =
       let whole_raise = raised_once first whole every_entry (states so_many).cut (states so_many).inodes raiser.flush (states (suc so_many)).cut (states (suc so_many)).inodes (raise_on so_many raiser (states (suc so_many)).cut (states (suc so_many)).inodes lt there are) in
       let began = begin_before so_many (omega arith) raiser there in
@@ -75,7 +75,7 @@ module _ (first : TreeState) (events : List Event) (states : ℕ → MachineStat
   goes_on_at place lt ended = let there = event_there events place lt in (run.steps place there.0 there.1).free refused.Crashed ended
 
   pub flushed_at : (so_many : ℕ) → so_many ≤ last → ((states so_many).crashed ≡ true → ⊥) → AreRaisedAt so_many
-  flushed_at zero le goes = subst (λ (s : MachineState). AreFlushed first whole every_entry [] s.cut s.inodes) (sym run.begins) none
+  flushed_at zero le goes = rw run.begins none
   flushed_at (suc so_many) le goes =
       let there = event_there events so_many (omega arith) in
       flushed_step so_many there.0 (omega arith) there.1 goes (cut_step first (states so_many) there.0 (states (suc so_many)) (steady_at first events states run so_many (omega arith)).start (run.steps so_many there.0 there.1))
@@ -86,7 +86,7 @@ runs_are_flushed first events states place later is run alive le within goes =
     let last = steady_at first events states run later within in
     let prefix = prefix_later first events states run place later le within in
     raised_whole first (states later).history (length (states place).history) is last.legal prefix.shorter
-    (subst (λ (h : List Entry). AreFlushed first h every_entry (durable_of (take place events) every_commit) (states place).cut (states place).inodes) (sym prefix.first_part) (flushed_at first events states is run alive place (omega arith) place (omega arith) (λ ended. both ended goes))) (record {
+    (rw prefix.first_part (flushed_at first events states is run alive place (omega arith) place (omega arith) (λ ended. both ended goes))) (record {
       low = λ flush one. low_at flush one;
       live = λ flush one.
           let chosen = each_chosen first events states run place every_commit place flush one in

@@ -7,6 +7,7 @@ use Rattle.sfs_tree.specs.History.{IsLegal}
 use Rattle.sfs_tree.specs.Laws.{IsSoundTree}
 use Rattle.flush_core.specs.Cut.{Cut, cut_of}
 use Rattle.flush_core.specs.Closure.{every_entry, Flush, HasLiveNode, IsRaised, AreInodesAfter, KeepsCut}
+use Rattle.flush_core.specs.Runs.{view_by}
 use Rattle.flush_core.proofs.Commit.{fsyncs_keep}
 use Rattle.flush_core.proofs.Views.{below, IsHeld, RaisesHold}
 use Rattle.flush_core.proofs.RunFacts.{raised_low}
@@ -18,7 +19,7 @@ module _ (first : TreeState) (history : List Entry) (n : ℕ) (flush : Flush) (c
   kept_after : KeepsCut first history raised after
   kept_after =
       let alike = recounts first history n (below n) every_entry flush cut inodes is legal (λ t lt. lt-ltb t n lt) (λ t lt. refl) low stamp live held in
-      fsyncs_keep first history cut raised inodes after flush is legal held.kept ((alike.raises raised).0 raise) (inodes_alike first flush (record { history = history; counts = below n; cut = cut; inodes = inodes }) (record { history = history; counts = every_entry; cut = cut; inodes = inodes }) raised after alike raise sets)
+      fsyncs_keep first history cut raised inodes after flush is legal held.kept ((alike.raises raised).0 raise) (inodes_alike first flush (view_by history (below n) cut inodes) (view_by history every_entry cut inodes) raised after alike raise sets)
 
   holds_after : IsHeld first history raised after
   holds_after = record { kept = kept_after; named = named_after first history (below n) flush cut raised inodes is legal (λ t lt. lt-ltb t n (omega arith)) raise after sets (counted_named first history n (below n) raised (λ t lt. lt-ltb t n lt) (raised_low first history (below n) cut inodes flush raised n raise low stamp)) held.named }

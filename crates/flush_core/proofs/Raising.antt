@@ -1,5 +1,5 @@
 -- What a raise leaves of cuts that agree.
-use Rattle.std.proofs.Common.{◌≡◌, ℕ, ◌<◌, ◌≤◌, Bool, true, false, List, inl, inr, refl, sym, subst, ◌∙◌, arith}
+use Rattle.std.proofs.Common.{◌≡◌, ℕ, ◌<◌, ◌≤◌, Bool, true, false, List, inl, inr, refl, sym, ◌∙◌, arith}
 use borrow.Author.Tests.{lt-ltb}
 use Rattle.std.specs.Prelude.{◌↔◌}
 use Rattle.std.proofs.Math.Nat.{le-max_left, max-le}
@@ -11,7 +11,7 @@ use Rattle.sfs_tree.specs.Laws.{IsSoundTree}
 use Rattle.flush_core.specs.Cut.{Cut, cut_of}
 use Rattle.flush_core.specs.Rules.{IsChange}
 use Rattle.flush_core.specs.Closure.{Flush, Closure, IsConcerned, member, named, IsRaised, AreInodesAfter}
-use Rattle.flush_core.specs.Runs.{CommitView, IsOneCommit, Enters, Leaves}
+use Rattle.flush_core.specs.Runs.{CommitView, IsOneCommit, Enters, Leaves, view_by}
 use Rattle.flush_core.proofs.Basics.{below_or}
 use Rattle.flush_core.proofs.Views.{below, Agree}
 use Rattle.flush_core.proofs.Agree.{stamp_same, leave_same, agrees}
@@ -41,13 +41,13 @@ module _ (first : TreeState) (history : List Entry) (n : ℕ) (flush : Flush) (c
   same_unflushed : (x : RowChange) → IsChange first history x → x.stamp < n → x.child ≡ node → (cut_of cut x.directory ≤ x.stamp) ↔ (cut_of raised x.directory ≤ x.stamp)
   same_unflushed x one lt child = elim (raise.other x.directory) [
     | inl own ↦ (past_span own, below_raised own)
-    | inr e ↦ (λ le. subst (λ (k : ℕ). k ≤ x.stamp) (sym e) le, λ le. subst (λ (k : ℕ). k ≤ x.stamp) e le)
+    | inr e ↦ (λ le. rw e le, λ le. rw e at le)
   ]
     where
       past_span : Closure first history (below n) cut inodes flush x.directory → cut_of cut x.directory ≤ x.stamp → cut_of raised x.directory ≤ x.stamp
       past_span own from = elim (below_or x.stamp flush.stamp) [
-        | inl less ↦ absurd (none (subst (IsConcerned first history (below n) cut inodes flush) child (named x own (record { is_change = one; counted = lt-ltb x.stamp n lt; from = from; below = less }))))
-        | inr more ↦ subst (λ (k : ℕ). k ≤ x.stamp) (sym (raise.member x.directory own)) (max-le from more)
+        | inl less ↦ absurd (none (rw child at (named x own (record { is_change = one; counted = lt-ltb x.stamp n lt; from = from; below = less }))))
+        | inr more ↦ rw (raise.member x.directory own) (max-le from more)
       ]
 
       below_raised : Closure first history (below n) cut inodes flush x.directory → cut_of raised x.directory ≤ x.stamp → cut_of cut x.directory ≤ x.stamp
@@ -61,10 +61,10 @@ module _ (first : TreeState) (history : List Entry) (n : ℕ) (is : IsSoundTree 
     (raised other_raised : Cut) (after other_after : ℕ → Bool) (raise : IsRaised first history (below n) cut inodes flush raised) (other_raise : IsRaised first history (below n) other other_inodes flush other_raised)
     (sets : AreInodesAfter first history (below n) cut inodes flush raised after) (other_sets : AreInodesAfter first history (below n) other other_inodes flush other_raised other_after) (node : ℕ) (a : Agree first history n cut other inodes other_inodes node) where
   abbrev view : CommitView
-  view = record { history = history; counts = below n; cut = cut; inodes = inodes }
+  view = view_by history (below n) cut inodes
 
   abbrev other_view : CommitView
-  other_view = record { history = history; counts = below n; cut = other; inodes = other_inodes }
+  other_view = view_by history (below n) other other_inodes
 
   one_commit : IsOneCommit first flush view other_view
   one_commit = agrees first history n flush cut other inodes other_inodes is legal agree

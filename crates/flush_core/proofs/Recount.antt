@@ -1,5 +1,5 @@
 -- An fsync does the same, however the entries past all cuts are counted.
-use Rattle.std.proofs.Common.{◌≡◌, ℕ, zero, suc, ◌+◌, ◌<◌, ◌≤◌, Bool, true, false, ◌&&◌, List, length, IsSome, ◌⊎◌, inl, inr, refl, sym, ap, subst, ◌∙◌, nat_lt, arith}
+use Rattle.std.proofs.Common.{◌≡◌, ℕ, zero, suc, ◌+◌, ◌<◌, ◌≤◌, Bool, true, false, ◌&&◌, List, length, IsSome, ◌⊎◌, inl, inr, refl, sym, ap, ◌∙◌, nat_lt, arith}
 use borrow.Author.Tests.{ltb-true}
 use Rattle.std.specs.Prelude.{fold}
 use Rattle.std.specs.FinMap.{FinMap, get}
@@ -13,6 +13,7 @@ use Rattle.sfs_tree.proofs.RowFacts.{IsNamed}
 use Rattle.flush_core.specs.Cut.{Cut, cut_of, is_within, is_counted_within, with_own, rows_at_cut, counted_rows_at_cut}
 use Rattle.flush_core.specs.Rules.{IsChange}
 use Rattle.flush_core.specs.Closure.{Counts, Flush, HasLiveNode, HasNaming, IsNamedIn, IsReached, IsDead}
+use Rattle.flush_core.specs.Runs.{view_by}
 use Rattle.flush_core.proofs.Basics.{and_false, below_or, both, filter_same, no_less, plus_zero}
 use Rattle.flush_core.proofs.Own.{stamp_of}
 use Rattle.flush_core.proofs.Runs.{Run, Seen}
@@ -52,7 +53,7 @@ counted_rows-low first history k counts cut all low = ap (fold with_own first.ro
 
 -- and what a row at the cut names is named by the entries that count
 pub counted_named : (first : TreeState) (history : List Entry) (k : ℕ) (counts : Counts) (cut : Cut) → CountBelow k counts → ((node : ℕ) → cut_of cut node ≤ k) → (node : ℕ) → IsNamedIn (rows_at_cut first history cut) node → IsNamedIn (counted_rows_at_cut first history counts cut) node
-counted_named first history k counts cut all low node named = subst (λ (rows : FinMap key_cmp ℕ). IsNamedIn rows node) (sym (counted_rows-low first history k counts cut all low)) named
+counted_named first history k counts cut all low node named = rw (counted_rows-low first history k counts cut all low) named
 
 module _ (first : TreeState) (history : List Entry) (is : IsSoundTree first) (legal : IsLegal first history) (k : ℕ) where
   abbrev run : Run
@@ -65,7 +66,7 @@ module _ (first : TreeState) (history : List Entry) (is : IsSoundTree first) (le
     is_change = change_in first history o.stamp o.change legal o.made;
     counted = ap counts same ∙ all o.stamp o.before;
     child = o.child;
-    unflushed = subst (λ (t : ℕ). cut_of cut o.change.directory ≤ t) (sym same) o.unflushed;
+    unflushed = rw same o.unflushed;
   }
     where
       same : o.change.stamp ≡ o.stamp
@@ -95,9 +96,9 @@ module _ (first : TreeState) (history : List Entry) (is : IsSoundTree first) (le
     | inl lt ↦ inr (record { change = naming.change; is_change = naming.is_change; counted = all naming.change.stamp lt; child = naming.child; unflushed = naming.unflushed })
     | inr le ↦
         let x = naming.change in
-        elim (late_naming cut low x naming.is_change le (subst (λ (y : ℕ). IsSome (get (tree_at first history k).nodes y)) (sym naming.child) some)) [
-          | inl named ↦ inl (subst (λ (y : ℕ). IsNamedIn (rows_at_cut first history cut) y) naming.child named)
-          | inr o ↦ inr (subst (λ (y : ℕ). HasNaming first history other cut y) naming.child (open_naming other cut x.child all o))
+        elim (late_naming cut low x naming.is_change le (rw naming.child some)) [
+          | inl named ↦ inl (rw naming.child at named)
+          | inr o ↦ inr (rw naming.child at (open_naming other cut x.child all o))
         ]
   ]
 
@@ -106,7 +107,7 @@ module _ (first : TreeState) (history : List Entry) (is : IsSoundTree first) (le
     at_k node some = later run flush.stamp k node stamp some
 
     module _ (counts other : Counts) (all : CountBelow k counts) (other_all : CountBelow k other) where
-      carries : Carries first flush (record { history = history; counts = counts; cut = cut; inodes = inodes }) (record { history = history; counts = other; cut = cut; inodes = inodes })
+      carries : Carries first flush (view_by history counts cut inodes) (view_by history other cut inodes)
       carries = record {
         span = λ x own there span. record { is_change = span.is_change; counted = other_all x.stamp (let lt = span.below in omega arith); from = span.from; below = span.below };
         moves = λ x span move. move;
@@ -126,7 +127,7 @@ module _ (first : TreeState) (history : List Entry) (is : IsSoundTree first) (le
         same_rows = counted_rows-low first history k counts raised all raised_at_most ∙ sym (counted_rows-low first history k other raised other_all raised_at_most)
 
         named_other : (node : ℕ) → IsNamedIn (counted_rows_at_cut first history counts raised) node → IsNamedIn (counted_rows_at_cut first history other raised) node
-        named_other node named = subst (λ (rows : FinMap key_cmp ℕ). IsNamedIn rows node) same_rows named
+        named_other node named = rw same_rows at named
 
         reached_other : (node : ℕ) → IsSome (get (tree_at first history k).nodes node) → IsReached first history counts flush raised node → IsReached first history other flush raised node
         reached_other node some reached = elim reached [
@@ -143,8 +144,8 @@ module _ (first : TreeState) (history : List Entry) (is : IsSoundTree first) (le
           unnamed = λ named. dead.unnamed (named_other node named);
           flushed = λ x one counted child. elim (below_or x.stamp k) [
             | inl lt ↦ dead.flushed x one (other_all x.stamp lt) child
-            | inr le ↦ absurd (elim (late_naming raised raised_at_most x one le (subst (λ (y : ℕ). IsSome (get (tree_at first history k).nodes y)) (sym child) some)) [
-              | inl named ↦ dead.unnamed (named_other node (counted_named first history k counts raised all raised_at_most node (subst (λ (y : ℕ). IsNamedIn (rows_at_cut first history raised) y) child named)))
+            | inr le ↦ absurd (elim (late_naming raised raised_at_most x one le (rw child some)) [
+              | inl named ↦ dead.unnamed (named_other node (counted_named first history k counts raised all raised_at_most node (rw child at named)))
               | inr o ↦
                   let naming = open_naming other raised x.child other_all o in
                   let within = dead.flushed naming.change naming.is_change naming.counted (naming.child ∙ child) in

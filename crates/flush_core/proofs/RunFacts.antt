@@ -10,7 +10,7 @@ use Rattle.std.proofs.Math.Nat.{max-le}
 use Rattle.std.proofs.Math.Seq.{take-length, take-append_seam}
 use Rattle.sfs_tree.specs.declared.history.Entry.{Entry}
 use Rattle.sfs_tree.specs.Tree.{TreeState}
-use Rattle.sfs_tree.specs.History.{tree_after, MayCome, IsLegal}
+use Rattle.sfs_tree.specs.History.{MayCome, IsLegal}
 use Rattle.sfs_tree.proofs.Histories.{IsLegal-push}
 use Rattle.flush_core.specs.declared.event.Event.{Event}
 use Rattle.flush_core.specs.declared.event.Event.TheVariants as event
@@ -44,7 +44,7 @@ pub found_in : {X : Type 0} (w : X → Bool) (xs : List X) (x : X) → find w xs
 found_in w [] x found = absurd (none_some found)
 found_in {X} w (y ∷ xs) x found =
     elim (w y) as (λ b. w y ≡ b → cond b (Some y) (find w xs) ≡ Some x → IsOneOf (y ∷ xs) x × (w x ≡ true)) [
-      | true ↦ λ t f. let same = some_is f in (inl same, subst (λ (z : X). w z ≡ true) same t)
+      | true ↦ λ t f. let same = some_is f in (inl same, rw same at t)
       | false ↦ λ t f. let rest = found_in w xs x f in (inr rest.0, rest.1)
     ] refl found
   where
@@ -57,7 +57,7 @@ in_filter w [] x one = absurd one
 in_filter {X} w (y ∷ xs) x one =
     elim (w y) as (λ b. w y ≡ b → IsOneOf (cond b (y ∷ filter w xs) (filter w xs)) x → IsOneOf (y ∷ xs) x × (w x ≡ true)) [
       | true ↦ λ t h. elim h [
-        | inl same ↦ (inl same, subst (λ (z : X). w z ≡ true) same t)
+        | inl same ↦ (inl same, rw same at t)
         | inr more ↦ let rest = in_filter w xs x more in (inr rest.0, rest.1)
       ]
       | false ↦ λ t h. let rest = in_filter w xs x h in (inr rest.0, rest.1)
@@ -130,9 +130,9 @@ module _ (first : TreeState) where
       → IsSteady first (record raised { flights = flights; crashed = crashed })
   raised_steady old raised flushes flights crashed by is stamps among apart = record {
     start = ap (λ (s : MachineState). s.first) by.others ∙ is.start;
-    legal = subst (IsLegal first) (sym same) is.legal;
-    cuts = λ node. subst (λ (h : List Entry). cut_of raised.cut node ≤ length h) (sym same) (cuts_stay_low old.first old.history _ (length old.history) by.raised is.cuts stamps node);
-    stamps = λ flight one. subst (λ (h : List Entry). flight.flush.stamp ≤ length h) (sym same) (is.stamps flight (among flight one));
+    legal = rw same is.legal;
+    cuts = λ node. rw same (cuts_stay_low old.first old.history _ (length old.history) by.raised is.cuts stamps node);
+    stamps = λ flight one. rw same (is.stamps flight (among flight one));
     used = λ flight one. subst (λ (l : List ℕ). IsOneOf l flight.commit) (sym (ap (λ (s : MachineState). s.used) by.others)) (is.used flight (among flight one));
     apart = apart;
   }
@@ -143,7 +143,7 @@ module _ (first : TreeState) where
   called_steady : (old : MachineState) (entry : Entry) → MayCome (tree_now old) (length old.history) entry → IsSteady first old → IsSteady first (record old { history = old.history ++ entry ∷ [] })
   called_steady old entry may is = record {
     start = is.start;
-    legal = IsLegal-push first old.history entry is.legal (subst (λ (f : TreeState). MayCome (tree_after f old.history) (length old.history) entry) is.start may);
+    legal = IsLegal-push first old.history entry is.legal (rw is.start at may);
     cuts = λ node. let le = is.cuts node in let e = length_more old.history entry in omega arith;
     stamps = λ flight one. let le = is.stamps flight one in let e = length_more old.history entry in omega arith;
     used = is.used;
@@ -169,7 +169,7 @@ module _ (first : TreeState) where
         | inr nothing ↦ absurd nothing
       ]
     ];
-    apart = apart_more old.flights flight is.apart (λ other one same. new (subst (IsOneOf old.used) (same ∙ begins.number) (is.used other one)));
+    apart = apart_more old.flights flight is.apart (λ other one same. new (rw (same ∙ begins.number) at (is.used other one)));
   }
 
   opened_steady : (old : MachineState) (commit : ℕ) → IsSteady first old → IsSteady first (record old { flights = map (opened_for commit) old.flights })
@@ -184,25 +184,25 @@ module _ (first : TreeState) where
 
   -- an event keeps it
   steady_step : (old : MachineState) (e : Event) (new : MachineState) → Accepts old e new → IsSteady first old → IsSteady first new
-  steady_step old (event.Call entry) new takes is = subst (IsSteady first) (sym takes.moves.1) (called_steady old entry takes.moves.0 is)
+  steady_step old (event.Call entry) new takes is = rw takes.moves.1 (called_steady old entry takes.moves.0 is)
   steady_step old (event.CutAt commit node stamp) new takes is =
-      subst (IsSteady first) (sym takes.moves.2) (begun_steady old commit (record { node = node.0; stamp = stamp.0 }) takes.moves.0 takes.moves.1 low (λ used. takes.free (refused.Used commit) (used, refl)) is)
+      rw takes.moves.2 (begun_steady old commit (record { node = node.0; stamp = stamp.0 }) takes.moves.0 takes.moves.1 low (λ used. takes.free (refused.Used commit) (used, refl)) is)
     where
       low : stamp.0 ≤ length old.history
       low = elim (below_or (length old.history) stamp.0) [ inl lt ↦ absurd (takes.free (refused.Late stamp) (lt, refl)) | inr le ↦ le ]
-  steady_step old (event.Opened commit) new takes is = subst (IsSteady first) (sym takes.moves) (opened_steady old commit is)
+  steady_step old (event.Opened commit) new takes is = rw takes.moves (opened_steady old commit is)
   steady_step old (event.Durable commit) new takes is =
       subst (IsSteady first) (sym takes.moves.4) (raised_steady old takes.moves.1 (flight.flush ∷ []) (filter (λ (other : Flight). not (nat_eq other.commit commit)) old.flights) takes.moves.1.crashed takes.moves.3 is (λ flush one. elim one [
-        | inl same ↦ subst (λ (f : Flush). f.stamp ≤ length old.history) same (is.stamps flight (flight_found old commit flight takes.moves.2).0)
+        | inl same ↦ rw same at (is.stamps flight (flight_found old commit flight takes.moves.2).0)
         | inr nothing ↦ absurd nothing
       ]) (λ other one. (in_filter (λ (f : Flight). not (nat_eq f.commit commit)) old.flights other one).0) (apart_filter (λ (f : Flight). not (nat_eq f.commit commit)) old.flights is.apart))
     where
       flight : Flight
       flight = takes.moves.0
   steady_step old (event.Fail commit) new takes is =
-      subst (IsSteady first) (sym takes.moves) (record { start = is.start; legal = is.legal; cuts = is.cuts; stamps = is.stamps; used = is.used; apart = is.apart })
+      rw takes.moves (record { start = is.start; legal = is.legal; cuts = is.cuts; stamps = is.stamps; used = is.used; apart = is.apart })
   steady_step old (event.Crash kept) new takes is =
-      subst (IsSteady first) (sym takes.moves.2) (raised_steady old takes.moves.0 (kept_of old kept.items) [] true takes.moves.1 is (λ flush one. let from = kept_flush old kept.items flush one in subst (λ (f : Flush). f.stamp ≤ length old.history) from.2 (is.stamps from.0 from.1)) (λ flight one. absurd one) tt)
+      rw takes.moves.2 (raised_steady old takes.moves.0 (kept_of old kept.items) [] true takes.moves.1 is (λ flush one. let from = kept_flush old kept.items flush one in rw from.2 at (is.stamps from.0 from.1)) (λ flight one. absurd one) tt)
 
   start_steady : IsSteady first (start_of first)
   start_steady = record {
@@ -216,7 +216,7 @@ module _ (first : TreeState) where
 
   -- each state of a run is steady
   pub steady_at : (events : List Event) (states : ℕ → MachineState) → IsRun first events states → (place : ℕ) → place ≤ length events → IsSteady first (states place)
-  steady_at events states run zero le = subst (IsSteady first) (sym run.begins) start_steady
+  steady_at events states run zero le = rw run.begins start_steady
   steady_at events states run (suc place) le =
       let there = event_there events place (omega arith) in
       steady_step (states place) there.0 (states (suc place)) (run.steps place there.0 there.1) (steady_at events states run place (omega arith))
@@ -236,20 +236,20 @@ prefix_more history entry = record { first_part = take-append_seam history (entr
 
 -- an event leaves the history or makes it longer
 pub prefix_step : (old : MachineState) (e : Event) (new : MachineState) → Accepts old e new → IsPrefix old.history new.history
-prefix_step old (event.Call entry) new takes = subst (λ (s : MachineState). IsPrefix old.history s.history) (sym takes.moves.1) (prefix_more old.history entry)
-prefix_step old (event.CutAt commit node stamp) new takes = subst (λ (s : MachineState). IsPrefix old.history s.history) (sym takes.moves.2) (prefix_itself old.history)
-prefix_step old (event.Opened commit) new takes = subst (λ (s : MachineState). IsPrefix old.history s.history) (sym takes.moves) (prefix_itself old.history)
+prefix_step old (event.Call entry) new takes = rw takes.moves.1 (prefix_more old.history entry)
+prefix_step old (event.CutAt commit node stamp) new takes = rw takes.moves.2 (prefix_itself old.history)
+prefix_step old (event.Opened commit) new takes = rw takes.moves (prefix_itself old.history)
 prefix_step old (event.Durable commit) new takes =
-    subst (λ (s : MachineState). IsPrefix old.history s.history) (sym takes.moves.4) (subst (λ (h : List Entry). IsPrefix old.history h) (sym (ap (λ (s : MachineState). s.history) takes.moves.3.others)) (prefix_itself old.history))
-prefix_step old (event.Fail commit) new takes = subst (λ (s : MachineState). IsPrefix old.history s.history) (sym takes.moves) (prefix_itself old.history)
+    rw takes.moves.4 (rw (ap (λ (s : MachineState). s.history) takes.moves.3.others) (prefix_itself old.history))
+prefix_step old (event.Fail commit) new takes = rw takes.moves (prefix_itself old.history)
 prefix_step old (event.Crash kept) new takes =
-    subst (λ (s : MachineState). IsPrefix old.history s.history) (sym takes.moves.2) (subst (λ (h : List Entry). IsPrefix old.history h) (sym (ap (λ (s : MachineState). s.history) takes.moves.1.others)) (prefix_itself old.history))
+    rw takes.moves.2 (rw (ap (λ (s : MachineState). s.history) takes.moves.1.others) (prefix_itself old.history))
 
 -- each state's history is the first part of a later one's
 pub prefix_later : (first : TreeState) (events : List Event) (states : ℕ → MachineState) → IsRun first events states → (place later : ℕ) → place ≤ later → later ≤ length events → IsPrefix (states place).history (states later).history
-prefix_later first events states run place zero le within = subst (λ (p : ℕ). IsPrefix (states p).history (states 0).history) (sym (none_below place le)) (prefix_itself (states 0).history)
+prefix_later first events states run place zero le within = rw (none_below place le) (prefix_itself (states 0).history)
 prefix_later first events states run place (suc later) le within = elim (below_or later place) [
-  | inl lt ↦ subst (λ (p : ℕ). IsPrefix (states p).history (states (suc later)).history) (sym (is_next place later le lt)) (prefix_itself (states (suc later)).history)
+  | inl lt ↦ rw (is_next place later le lt) (prefix_itself (states (suc later)).history)
   | inr less ↦
       let there = event_there events later (omega arith) in
       prefix_onward (states place).history (states later).history (states (suc later)).history (prefix_later first events states run place later less (omega arith)) (prefix_step (states later) there.0 (states (suc later)) (run.steps later there.0 there.1))

@@ -1,7 +1,5 @@
 -- In each state of a run the cut is closed, and directories with an inode are born.
 use Rattle.std.proofs.Common.{ℕ, zero, suc, ◌≤◌, List, [], ◌∷◌, ◌++◌, length, take, sym, ap, subst, arith}
-use Rattle.std.specs.FinMap.{FinMap}
-use Rattle.sfs_tree.specs.Order.{key_cmp}
 use Rattle.std.proofs.Math.Seq.{take-append_seam}
 use Rattle.sfs_tree.specs.declared.history.Entry.{Entry}
 use Rattle.sfs_tree.specs.Tree.{TreeState}
@@ -10,7 +8,7 @@ use Rattle.sfs_tree.specs.Laws.{IsSoundTree}
 use Rattle.flush_core.specs.declared.event.Event.{Event}
 use Rattle.flush_core.specs.declared.event.Event.TheVariants as event
 use Rattle.flush_core.specs.Cut.{cut_of}
-use Rattle.flush_core.specs.Closure.{every_entry, Flush, IsNamedIn, AreRaised}
+use Rattle.flush_core.specs.Closure.{Flush}
 use Rattle.flush_core.specs.Machine.{MachineState, start_of, kept_of, IsRaisedBy, Accepts}
 use Rattle.flush_core.specs.Runs.{IsRun}
 use Rattle.flush_core.specs.Laws.{RunsKeep}
@@ -30,32 +28,32 @@ module _ (first : TreeState) (is : IsSoundTree first) where
   -- a call leaves what was kept
   call_keeps : (old : MachineState) (entry : Entry) → IsLegal first (old.history ++ entry ∷ []) → ((node : ℕ) → cut_of old.cut node ≤ length old.history) → IsKeptIn first old → IsKeptWell first (old.history ++ entry ∷ []) old.cut old.inodes
   call_keeps old entry legal low was =
-      let before : IsKeptWell first (take (length old.history) (old.history ++ entry ∷ [])) old.cut old.inodes = subst (λ (h : List Entry). IsKeptWell first h old.cut old.inodes) (sym (take-append_seam old.history (entry ∷ []))) was in
+      let before : IsKeptWell first (take (length old.history) (old.history ++ entry ∷ [])) old.cut old.inodes = rw (take-append_seam old.history (entry ∷ [])) was in
       record {
         kept = kept_whole first (old.history ++ entry ∷ []) is legal (length old.history) old.cut old.inodes low before.nodes before.kept;
         nodes = nodes_whole first (old.history ++ entry ∷ []) is legal (length old.history) old.inodes before.nodes;
-        named = λ node row. before.named node (subst (λ (rows : FinMap key_cmp ℕ). IsNamedIn rows node) (sym (rows_at_cut-take first (old.history ++ entry ∷ []) (length old.history) old.cut legal low)) row);
+        named = λ node row. before.named node (rw (rows_at_cut-take first (old.history ++ entry ∷ []) (length old.history) old.cut legal low) row);
       }
 
   -- so do raises
   raise_keeps : (old raised : MachineState) (flushes : List Flush) → IsSteady first old → IsRaisedBy old flushes raised → IsKeptIn first old → IsKeptIn first raised
   raise_keeps old raised flushes steady by was =
       subst (λ (h : List Entry). IsKeptWell first h raised.cut raised.inodes) (sym (ap (λ (s : MachineState). s.history) by.others))
-      (flushes_keep first old.history is steady.legal (subst (λ (f : TreeState). AreRaised f old.history every_entry old.cut old.inodes flushes raised.cut raised.inodes) steady.start by.raised) was)
+      (flushes_keep first old.history is steady.legal (rw steady.start at by.raised) was)
 
   -- an event keeps it
   kept_step : (old : MachineState) (e : Event) (new : MachineState) → Accepts old e new → IsSteady first old → IsSteady first new → IsKeptIn first old → IsKeptIn first new
   kept_step old (event.Call entry) new takes steady after was =
-      subst (IsKeptIn first) (sym takes.moves.1) (call_keeps old entry (subst (λ (s : MachineState). IsLegal first s.history) takes.moves.1 after.legal) steady.cuts was)
-  kept_step old (event.CutAt commit node stamp) new takes steady after was = subst (IsKeptIn first) (sym takes.moves.2) was
-  kept_step old (event.Opened commit) new takes steady after was = subst (IsKeptIn first) (sym takes.moves) was
-  kept_step old (event.Durable commit) new takes steady after was = subst (IsKeptIn first) (sym takes.moves.4) (raise_keeps old takes.moves.1 (takes.moves.0.flush ∷ []) steady takes.moves.3 was)
-  kept_step old (event.Fail commit) new takes steady after was = subst (IsKeptIn first) (sym takes.moves) was
-  kept_step old (event.Crash kept) new takes steady after was = subst (IsKeptIn first) (sym takes.moves.2) (raise_keeps old takes.moves.0 (kept_of old kept.items) steady takes.moves.1 was)
+      rw takes.moves.1 (call_keeps old entry (rw takes.moves.1 at after.legal) steady.cuts was)
+  kept_step old (event.CutAt commit node stamp) new takes steady after was = rw takes.moves.2 was
+  kept_step old (event.Opened commit) new takes steady after was = rw takes.moves was
+  kept_step old (event.Durable commit) new takes steady after was = rw takes.moves.4 (raise_keeps old takes.moves.1 (takes.moves.0.flush ∷ []) steady takes.moves.3 was)
+  kept_step old (event.Fail commit) new takes steady after was = rw takes.moves was
+  kept_step old (event.Crash kept) new takes steady after was = rw takes.moves.2 (raise_keeps old takes.moves.0 (kept_of old kept.items) steady takes.moves.1 was)
 
   -- each state of a run is kept
   pub kept_at : (events : List Event) (states : ℕ → MachineState) → IsRun first events states → (place : ℕ) → place ≤ length events → IsKeptIn first (states place)
-  kept_at events states run zero le = subst (IsKeptIn first) (sym run.begins) start_kept
+  kept_at events states run zero le = rw run.begins start_kept
   kept_at events states run (suc place) le =
       let there = event_there events place (omega arith) in
       kept_step (states place) there.0 (states (suc place)) (run.steps place there.0 there.1) (steady_at first events states run place (omega arith)) (steady_at first events states run (suc place) le) (kept_at events states run place (omega arith))

@@ -6,10 +6,9 @@ use Rattle.sfs_base.specs.declared.numbers.Kind.{Kind}
 use Rattle.sfs_tree.specs.Order.{key_cmp}
 use Rattle.sfs_tree.specs.Tree.{TreeState, row_of, is_directory}
 use Rattle.sfs_tree.specs.Effect.{Effect, Adds, Moves, tree_with}
-use Rattle.sfs_tree.specs.Changes.{RowChange, added, removed, other_side, changes_by}
+use Rattle.sfs_tree.specs.Changes.{RowChange, added, removed, other_side}
 use Rattle.sfs_tree.proofs.RowFacts.{IsNamed, added_there}
 use Rattle.sfs_tree.proofs.Holders.{directory_stays}
-use Rattle.flush_core.specs.Rules.{IsOneOf}
 use Rattle.flush_core.proofs.Basics.{below_or, no_less, not_below}
 use Rattle.flush_core.proofs.Own.{skip, keep, folds, stamp_of, goes_in, comes_in}
 use Rattle.flush_core.proofs.Placed.{placed, came, named_before, row_stays}
@@ -47,7 +46,7 @@ module _ (r : Run) (cut : ℕ → ℕ) (s : Seen r cut) where
       ∙ ap (λ (tree : TreeState). row_of tree d n) (sym (r.next t))
     where
       within : (x : RowChange) → x.stamp ≡ t → x.directory ≡ d → below_cut cut x ≡ true
-      within x stamp same = lt-ltb x.stamp (cut x.directory) (subst (λ (k : ℕ). k < cut x.directory) (sym stamp) (subst (λ (k : ℕ). t < cut k) (sym same) (omega arith)))
+      within x stamp same = lt-ltb x.stamp (cut x.directory) (rw stamp (rw same (omega arith)))
 
   -- from its cut on its rows stay
   pub behind : (t d : ℕ) (n : List ℕ) → cut d ≤ t → get (s.rows (suc t)) (d, n) ≡ get (s.rows t) (d, n)
@@ -56,7 +55,7 @@ module _ (r : Run) (cut : ℕ → ℕ) (s : Seen r cut) where
       ∙ skip (below_cut cut) d n (s.rows t) (changes_at r t) (λ x one same. past x (stamp_of (r.tree t) t (r.effect t) x one) same)
     where
       past : (x : RowChange) → x.stamp ≡ t → x.directory ≡ d → below_cut cut x ≡ false
-      past x stamp same = not_below x.stamp (cut x.directory) (subst (λ (k : ℕ). cut x.directory ≤ k) (sym stamp) (subst (λ (k : ℕ). cut k ≤ t) (sym same) le))
+      past x stamp same = not_below x.stamp (cut x.directory) (rw stamp (rw same le))
 
   -- the kind that a named node has at the next stamp it has at this one
   kind_before : (t d : ℕ) (n : List ℕ) (x : ℕ) → row_of (r.tree t) d n ≡ Some x → is_directory (r.tree (suc t)) x ≡ true → is_directory (r.tree t) x ≡ true
@@ -114,16 +113,16 @@ module _ (r : Run) (cut : ℕ → ℕ) (s : Seen r cut) where
     pub other_end : (t p : ℕ) (n : List ℕ) (q : ℕ) (m : List ℕ) (c : ℕ) → r.effect t ≡ Moves p n q m c → t < cut p → t < cut q
     other_end t p n q m c e lt =
         elim (nat_eq p q) as (λ b. nat_eq p q ≡ b → t < cut q) [
-          | true ↦ λ same. subst (λ (k : ℕ). t < cut k) (eqb-true _ _ same) lt
-          | false ↦ λ apart. keeps.renames t (removed t p n c (other_side p q) false) q (subst (λ (f : Effect). IsOneOf (changes_by (r.tree t) t f) (removed t p n c (other_side p q) false)) (sym e) (goes_in (r.tree t) t p n q m c)) (ap (λ b. Rattle.std.proofs.Common.cond b None (Some q)) apart) lt
+          | true ↦ λ same. rw (eqb-true _ _ same) at lt
+          | false ↦ λ apart. keeps.renames t (removed t p n c (other_side p q) false) q (rw e (goes_in (r.tree t) t p n q m c)) (ap (λ b. Rattle.std.proofs.Common.cond b None (Some q)) apart) lt
         ] refl
 
     -- a move below the cut of its new directory lies below that of the old one
     pub first_end : (t p : ℕ) (n : List ℕ) (q : ℕ) (m : List ℕ) (c : ℕ) → r.effect t ≡ Moves p n q m c → t < cut q → t < cut p
     first_end t p n q m c e lt =
         elim (nat_eq q p) as (λ b. nat_eq q p ≡ b → t < cut p) [
-          | true ↦ λ same. subst (λ (k : ℕ). t < cut k) (eqb-true _ _ same) lt
-          | false ↦ λ apart. keeps.renames t (added t q m c (other_side q p)) p (subst (λ (f : Effect). IsOneOf (changes_by (r.tree t) t f) (added t q m c (other_side q p))) (sym e) (comes_in (r.tree t) t p n q m c)) (ap (λ b. Rattle.std.proofs.Common.cond b None (Some p)) apart) lt
+          | true ↦ λ same. rw (eqb-true _ _ same) at lt
+          | false ↦ λ apart. keeps.renames t (added t q m c (other_side q p)) p (rw e (comes_in (r.tree t) t p n q m c)) (ap (λ b. Rattle.std.proofs.Common.cond b None (Some p)) apart) lt
         ] refl
 
     -- a directory that was made below the cut of its birth place is named where the tree names it

@@ -10,7 +10,7 @@ use Rattle.flush_core.specs.Cut.{Cut, cut_of}
 use Rattle.flush_core.specs.Rules.{IsOneOf}
 use Rattle.flush_core.specs.Closure.{every_entry, Flush, HasLiveNode, IsConcerned, IsRaised, AreInodesAfter, AreRaised, none, one_more}
 use Rattle.flush_core.specs.Machine.{Flight, MachineState}
-use Rattle.flush_core.specs.Runs.{IsRun, IsBegun, AreAlive, AreApart, view_of, IsOneCommit}
+use Rattle.flush_core.specs.Runs.{IsRun, IsBegun, AreAlive, AreApart, view_of, IsOneCommit, view_by}
 use Rattle.flush_core.proofs.Basics.{in_left, in_right}
 use Rattle.flush_core.proofs.Views.{below, AreAlike, IsHeld, Agree}
 use Rattle.flush_core.proofs.Listed.{from_map}
@@ -54,10 +54,10 @@ module _ (first : TreeState) (events : List Event) (states : ℕ → MachineStat
 
   -- an fsync does by a state's history what it does by the whole one
   pub whole_alike : (place : ℕ) → place ≤ last → (flush : Flush) (cut : Cut) (inodes : ℕ → Bool) → flush.stamp ≤ count place → HasLiveNode first whole flush → ((node : ℕ) → cut_of cut node ≤ count place) → IsHeld first whole cut inodes
-      → AreAlike first flush (record { history = (states place).history; counts = every_entry; cut = cut; inodes = inodes }) (record { history = whole; counts = below all; cut = cut; inodes = inodes })
+      → AreAlike first flush (view_by ((states place).history) every_entry cut inodes) (view_by whole (below all) cut inodes)
   whole_alike place le flush cut inodes low live cuts held =
-      alike_on first flush (record { history = (states place).history; counts = every_entry; cut = cut; inodes = inodes }) (record { history = whole; counts = below (count place); cut = cut; inodes = inodes }) (record { history = whole; counts = below all; cut = cut; inodes = inodes })
-      (subst (λ (h : List Entry). AreAlike first flush (record { history = h; counts = every_entry; cut = cut; inodes = inodes }) (record { history = whole; counts = below (count place); cut = cut; inodes = inodes })) prefix.first_part (prefixes_count first whole (count place) flush cut inodes is legal_whole prefix.shorter low live))
+      alike_on first flush (view_by ((states place).history) every_entry cut inodes) (view_by whole (below (count place)) cut inodes) (view_by whole (below all) cut inodes)
+      (rw prefix.first_part at (prefixes_count first whole (count place) flush cut inodes is legal_whole prefix.shorter low live))
       (recounts first whole (count place) (below (count place)) (below all) flush cut inodes is legal_whole (λ t lt. lt-ltb t (count place) lt) (λ t lt. lt-ltb t all (let more = prefix.shorter in omega arith)) cuts low live held)
     where
       prefix : IsPrefix (states place).history whole
@@ -68,7 +68,7 @@ module _ (first : TreeState) (events : List Event) (states : ℕ → MachineStat
   live_begun place commit flush le begun = live_whole first events states is run alive last within place le flush (begun_low first events states run place commit flush begun) (alive place commit flush begun)
 
   -- as a commit begins, it does by the whole history what it does by its state's
-  pub begun_alike : (place commit : ℕ) (flush : Flush) → place ≤ last → IsBegun events place commit flush → AreAlike first flush (view_of (states place)) (record { history = whole; counts = below all; cut = (states place).cut; inodes = (states place).inodes })
+  pub begun_alike : (place commit : ℕ) (flush : Flush) → place ≤ last → IsBegun events place commit flush → AreAlike first flush (view_of (states place)) (view_by whole (below all) ((states place).cut) ((states place).inodes))
   begun_alike place commit flush le begun =
       whole_alike place le flush (states place).cut (states place).inodes (begun_low first events states run place commit flush begun) (live_begun place commit flush le begun) (steady_at first events states run place (omega arith)).cuts (held_at first events states is run alive last within place le)
 
@@ -80,7 +80,7 @@ module _ (first : TreeState) (events : List Event) (states : ℕ → MachineStat
     pub agree : (node : ℕ) → flight.concerned node ≡ true → Agree first whole all (states begin).cut cut (states begin).inodes inodes node
 
   module _ (flight : Flight) (cut : Cut) (inodes : ℕ → Bool) (s : Stays flight cut inodes) where
-    stays_alike : AreAlike first flight.flush (view_of (states s.begin)) (record { history = whole; counts = below all; cut = (states s.begin).cut; inodes = (states s.begin).inodes })
+    stays_alike : AreAlike first flight.flush (view_of (states s.begin)) (view_by whole (below all) ((states s.begin).cut) ((states s.begin).inodes))
     stays_alike = begun_alike s.begin flight.commit flight.flush s.earlier s.at.begun
 
     then_concerned : (node : ℕ) → IsConcerned first whole (below all) (states s.begin).cut (states s.begin).inodes flight.flush node → flight.concerned node ≡ true
@@ -94,9 +94,9 @@ module _ (first : TreeState) (events : List Event) (states : ℕ → MachineStat
     stays_concerned node concerned = then_concerned node (concerned_back first whole all is legal_whole flight.flush (states s.begin).cut cut (states s.begin).inodes inodes agree_then node concerned)
 
     -- and makes the commit that it would have made
-    pub stays_one : IsOneCommit first flight.flush (view_of (states s.begin)) (record { history = whole; counts = below all; cut = cut; inodes = inodes })
+    pub stays_one : IsOneCommit first flight.flush (view_of (states s.begin)) (view_by whole (below all) cut inodes)
     stays_one =
-        alike_then first flight.flush (view_of (states s.begin)) (record { history = whole; counts = below all; cut = (states s.begin).cut; inodes = (states s.begin).inodes }) (record { history = whole; counts = below all; cut = cut; inodes = inodes }) stays_alike
+        alike_then first flight.flush (view_of (states s.begin)) (view_by whole (below all) ((states s.begin).cut) ((states s.begin).inodes)) (view_by whole (below all) cut inodes) stays_alike
         (agrees first whole all flight.flush (states s.begin).cut cut (states s.begin).inodes inodes is legal_whole agree_then)
 
   -- a flight that concerns none of its nodes leaves it so, when it raises the cut
@@ -111,7 +111,7 @@ module _ (first : TreeState) (events : List Event) (states : ℕ → MachineStat
         (raise_apart first whole all raiser.flush cut raised inodes after ((alike.raises raised).0 raise) (inodes_alike first raiser.flush _ _ raised after alike raise sets) node (λ also. apart node (stays_concerned raiser cut inodes theirs node also) concerned));
   }
     where
-      alike : AreAlike first raiser.flush (record { history = (states place).history; counts = every_entry; cut = cut; inodes = inodes }) (record { history = whole; counts = below all; cut = cut; inodes = inodes })
+      alike : AreAlike first raiser.flush (view_by ((states place).history) every_entry cut inodes) (view_by whole (below all) cut inodes)
       alike = whole_alike place le raiser.flush cut inodes low (live_begun theirs.begin raiser.commit raiser.flush theirs.earlier theirs.at.begun) cuts held
 
   -- All flights of a state stay so, and no two concern one node.
@@ -129,10 +129,10 @@ module _ (first : TreeState) (events : List Event) (states : ℕ → MachineStat
       (others_stay place le kept was split.before split.images before_among apart_both.0 flight one (λ other it. differ other (older other it)))
       (kept.apart own flight (among own own_one) one (differ own own_one))
       (steady.stamps own (among own own_one))
-      (cuts_stay_low first (states place).history every_entry (count place) was steady.cuts (λ f it. let g = from f it in subst (λ (h : Flush). h.stamp ≤ count place) g.2 (steady.stamps g.0 g.1)))
+      (cuts_stay_low first (states place).history every_entry (count place) was steady.cuts (λ f it. let g = from f it in rw g.2 at (steady.stamps g.0 g.1)))
       (flights_hold first events states is run alive last within place le was from (held_at first events states is run alive last within place le))
-      (subst (λ (f : Flush). IsRaised first (states place).history every_entry before inodes_before f raised) split.image raise)
-      (subst (λ (f : Flush). AreInodesAfter first (states place).history every_entry before inodes_before f raised after) split.image sets)
+      (rw split.image at raise)
+      (rw split.image at sets)
     where
       split : HasLast (λ (f : Flight). f.flush) others flushes flush
       split = map_last (λ (f : Flight). f.flush) others flushes flush e
@@ -144,7 +144,7 @@ module _ (first : TreeState) (events : List Event) (states : ℕ → MachineStat
       steady = steady_at first events states run place (omega arith)
 
       older : (other : Flight) → IsOneOf split.before other → IsOneOf others other
-      older other it = subst (λ (l : List Flight). IsOneOf l other) (sym split.whole) (in_left split.before (split.last ∷ []) other it)
+      older other it = rw split.whole (in_left split.before (split.last ∷ []) other it)
 
       own_one : IsOneOf others own
       own_one = subst (λ (l : List Flight). IsOneOf l split.last) (sym split.whole) (in_right split.before (split.last ∷ []) split.last (inl refl))
@@ -153,7 +153,7 @@ module _ (first : TreeState) (events : List Event) (states : ℕ → MachineStat
       before_among other it = among other (older other it)
 
       apart_both : AreApart split.before × ((other : Flight) → IsOneOf split.before other → other.commit ≢ split.last.commit)
-      apart_both = apart_last split.before split.last (subst AreApart split.whole apart)
+      apart_both = apart_last split.before split.last (rw split.whole at apart)
 
       from : (f : Flush) → IsOneOf flushes f → (g : Flight) × IsOneOf (states place).flights g × (g.flush ≡ f)
-      from f it = let found = from_map (λ (g : Flight). g.flush) split.before f (subst (λ (l : List Flush). IsOneOf l f) split.images it) in (found.0, before_among found.0 found.1, found.2)
+      from f it = let found = from_map (λ (g : Flight). g.flush) split.before f (rw split.images at it) in (found.0, before_among found.0 found.1, found.2)

@@ -14,7 +14,7 @@ use Rattle.sfs_tree.specs.Verdict.{verdict, or_else, answered}
 use Rattle.sfs_tree.specs.Sound.{IsSound}
 use Rattle.sfs_tree.specs.Step.{IsReadable}
 use Rattle.sfs_tree.specs.Changes.{is_own_below, with_change, RowChange}
-use Rattle.sfs_tree.specs.History.{MayCome, IsLegal, IsDue, IsFsyncReply, flushes, tree_after, is_ok_reply}
+use Rattle.sfs_tree.specs.History.{MayCome, IsLegal, IsDue, flushes, tree_after, is_ok_reply}
 use Rattle.sfs_tree.specs.Laws.{IsSoundTree}
 use Rattle.sfs_tree.proofs.Cores.{cores_stay}
 use Rattle.sfs_tree.proofs.Histories.{IsLegal-push}
@@ -34,13 +34,13 @@ use Rattle.flush_core.proofs.Legal.{comes_at}
 -- the tree of a past that is ready is sound, and has the first tree's cores
 module _ (first : TreeState) (entries : List Entry) (past : Past) (ready : IsReadyPast first entries past) where
   pub now_sound : IsSoundTree (tree_after first entries)
-  now_sound = subst (λ (h : List Entry). IsSoundTree (tree_after first h)) (take_all (length entries) entries (omega arith)) (histories_keep_sound first entries (length entries) ready.sound ready.legal)
+  now_sound = rw (take_all (length entries) entries (omega arith)) at (histories_keep_sound first entries (length entries) ready.sound ready.legal)
 
   pub past_sound : IsSound past.tree
-  past_sound = subst IsSound (sym ready.is_past.tree) now_sound.sound
+  past_sound = rw ready.is_past.tree now_sound.sound
 
   pub past_core : (core : ℕ) → core < length first.made → core < length past.tree.made
-  past_core core less = subst (λ n. core < n) (sym (ap (λ (t : TreeState). length t.made) ready.is_past.tree ∙ cores_stay first entries)) less
+  past_core core less = rw (ap (λ (t : TreeState). length t.made) ready.is_past.tree ∙ cores_stay first entries) less
 
   -- with an entry that may come it is that of one call more
   pub joined_ready : (entry : Entry) → MayCome (tree_after first entries) (length entries) entry → (new : Past) → Grows past entry new → IsReadyPast first (entries ++ entry ∷ []) new
@@ -64,10 +64,10 @@ module _ (first : TreeState) (entries : List Entry) (i : ℕ) (entry d : Entry) 
   pub next_ready : (old new : Past) → IsReadyPast first (take i entries) old → Grows old entry new → IsReadyPast first (take (i + 1) entries) new
   next_ready old new ready grows =
       subst (λ (l : List Entry). IsReadyPast first l new) (sym (take_more entries i d less ∙ ap (λ (x : Entry). take i entries ++ x ∷ []) (sym is)))
-      (joined_ready first (take i entries) old ready entry (subst (λ s. MayCome (tree_after first (take i entries)) s entry) (sym there) next_may) new grows)
+      (joined_ready first (take i entries) old ready entry (rw there next_may) new grows)
 
   pub next_core : (past : Past) → IsReadyPast first (take i entries) past → entry.core.0 < length past.tree.made
-  next_core past ready = subst (λ (t : TreeState). entry.core.0 < length t.made) (sym ready.is_past.tree) next_may.core
+  next_core past ready = rw ready.is_past.tree next_may.core
 
 -- an fsync of a live node is answered Ok
 flush_ok : (tree : TreeState) (core : ℕ) (c : Call) → flushes tree c ≡ true → (verdict tree core c).reply ≡ reply.Ok
@@ -98,18 +98,18 @@ may_come tree stamp core c within = record {
     answer = (verdict tree core.0 c).reply
 
     due : (b : Bool) → flushes tree c ≡ b → IsDue b (verdict tree core.0 c).reply (verdict tree core.0 c).reply
-    due true e = subst IsFsyncReply (sym (flush_ok tree core.0 c e)) tt
+    due true e = rw (flush_ok tree core.0 c e) tt
     due false e = refl
 
     known : (b : Bool) → flushes tree c ≡ b → IsSome {T = ℕ} (cond b (Some 0) None) ↔ IsTrue (b && is_ok_reply (verdict tree core.0 c).reply)
-    known true e = subst (λ (r : Reply). IsSome {T = ℕ} (Some 0) ↔ IsTrue (true && is_ok_reply r)) (sym (flush_ok tree core.0 c e)) (λ _. refl, λ _. refl)
+    known true e = rw (flush_ok tree core.0 c e) (λ _. refl, λ _. refl)
     known false e = (λ some. some, λ is. is)
 
 -- so may the next call of a story
 pub called : (story : StoryState) (past : Past) → IsReadyPast story.first story.history past → (core : CoreId) (c : Call) → core.0 < length story.first.made → (entry : Entry) → entry ≡ answered_entry past.tree (length story.history) core c → MayCome (end_of story) (length story.history) entry
 called story past ready core c within entry is =
     subst (MayCome (end_of story) (length story.history)) (sym (is ∙ ap (λ (t : TreeState). answered_entry t (length story.history) core c) ready.is_past.tree))
-    (may_come (end_of story) (length story.history) core c (subst (λ (n : ℕ). core.0 < n) (sym (cores_stay story.first story.history)) within))
+    (may_come (end_of story) (length story.history) core c (rw (cores_stay story.first story.history) within))
 
 -- an entry that may come joins what a story keeps
 pub still_standing : (first : TreeState) (entries : List Entry) (kept : Option Past) (entry : Entry) (new : Past) → IsStanding first entries kept → IsReadable entry.call → IsReadyPast first (entries ++ entry ∷ []) new → IsStanding first (entries ++ entry ∷ []) (Some new)
@@ -118,9 +118,9 @@ still_standing first entries kept entry new stands own ready = record {
   legal = ready.legal;
   readable = λ other one. elim (in_either entries (entry ∷ []) other one) [
     | inl was ↦ stands.readable other was
-    | inr next ↦ elim next [ inl e ↦ subst (λ (x : Entry). IsReadable x.call) e own | inr none ↦ absurd none ]
+    | inr next ↦ elim next [ inl e ↦ rw e at own | inr none ↦ absurd none ]
   ];
-  ready = λ past is. subst (IsReadyPast first (entries ++ entry ∷ [])) (same_some is) ready;
+  ready = λ past is. rw (same_some is) at ready;
 }
   where
     same_some : {a b : Past} → Some a ≡ Some b → a ≡ b

@@ -15,7 +15,7 @@ use Rattle.flush_core.specs.Cut.{Cut, cut_of}
 use Rattle.flush_core.specs.Rules.{IsOneOf}
 use Rattle.flush_core.specs.Closure.{Counts, every_entry, Flush, HasLiveNode, IsConcerned, IsRaised, AreInodesAfter, AreRaised, none, one_more, AreFlushed}
 use Rattle.flush_core.specs.Machine.{Flight, MachineState}
-use Rattle.flush_core.specs.Runs.{IsRun, IsBegun, AreAlive, view_of, IsOneCommit, AreTied, CountEnough}
+use Rattle.flush_core.specs.Runs.{IsRun, IsBegun, AreAlive, view_of, IsOneCommit, AreTied, CountEnough, view_by}
 use Rattle.flush_core.specs.Laws.{CommitsAreTied}
 use Rattle.flush_core.proofs.Basics.{below_or, in_left, in_right}
 use Rattle.flush_core.proofs.Views.{below, AreAlike, IsHeld, Agree}
@@ -108,7 +108,7 @@ module _ (first : TreeState) (events : List Event) (states : ℕ → MachineStat
       none_above node = elim (below_or most (cut_of empty node)) [ inl lt ↦ nothing_within most node lt | inr le ↦ le ]
 
   -- an fsync does by the entries that count what it does by all
-  counted_alike : (own : Flush) (cut : Cut) (inodes : ℕ → Bool) → IsFit own → ((node : ℕ) → cut_of cut node ≤ most) → IsHeld first whole cut inodes → AreAlike first own (record { history = whole; counts = counts; cut = cut; inodes = inodes }) (record { history = whole; counts = below all; cut = cut; inodes = inodes })
+  counted_alike : (own : Flush) (cut : Cut) (inodes : ℕ → Bool) → IsFit own → ((node : ℕ) → cut_of cut node ≤ most) → IsHeld first whole cut inodes → AreAlike first own (view_by whole counts cut inodes) (view_by whole (below all) cut inodes)
   counted_alike own cut inodes fit low held = recounts first whole most counts (below all) own cut inodes is legal all_count (λ t lt. lt-ltb t all (let le = most_low in omega arith)) low fit.low fit.live held
 
   their_held : {flushes : List Flush} {cut : Cut} {inodes : ℕ → Bool} → TheirCuts flushes cut inodes → ((own : Flush) → IsOneOf flushes own → IsFit own) → IsHeld first whole cut inodes
@@ -148,7 +148,7 @@ module _ (first : TreeState) (events : List Event) (states : ℕ → MachineStat
     its : Stays first events states is run alive (length events) within raiser (states from).cut (states from).inodes
     its = (stay_apart first events states is run alive (length events) within from from_within).each raiser there
 
-    its_alike : AreAlike first raiser.flush (view_of (states from)) (record { history = whole; counts = below all; cut = (states from).cut; inodes = (states from).inodes })
+    its_alike : AreAlike first raiser.flush (view_of (states from)) (view_by whole (below all) ((states from).cut) ((states from).inodes))
     its_alike =
         whole_alike first events states is run alive (length events) within from from_within raiser.flush (states from).cut (states from).inodes (steady.stamps raiser there) (live_begun first events states is run alive (length events) within its.begin raiser.commit raiser.flush its.earlier its.at.begun) steady.cuts
         (held_at first events states is run alive (length events) within from from_within)
@@ -173,12 +173,12 @@ module _ (first : TreeState) (events : List Event) (states : ℕ → MachineStat
     untied_step untied cut inodes flushed node awaited =
         agree_on first whole all (states (suc from)).cut (states from).cut cut (states (suc from)).inodes (states from).inodes inodes node
         (agree_back first whole all (states from).cut (states (suc from)).cut (states from).inodes (states (suc from)).inodes node (raise_apart first whole all raiser.flush (states from).cut (states (suc from)).cut (states from).inodes (states (suc from)).inodes raise sets node (λ concerned. untied_apart first events states is run alive within place commit flush tied begun tied_are from lt raiser there stands untied node awaited (concerns node concerned))))
-        (again cut inodes (subst (λ (l : List Flush). TheirCuts l cut inodes) (none_more first events states run place tied from (event.Durable raiser.commit) stands (not_chosen (take place events) tied raiser.commit untied)) flushed) node (still node awaited))
+        (again cut inodes (rw (none_more first events states run place tied from (event.Durable raiser.commit) stands (not_chosen (take place events) tied raiser.commit untied)) at flushed) node (still node awaited))
 
     -- a tied one raises both
     its_begin : (begin : ℕ) × (begin < place) × IsBegun events begin raiser.commit raiser.flush
     its_begin = elim (flight_before first events states run 0 from (omega arith) from_within raiser there) [
-      | inl among ↦ absurd (subst (λ (s : MachineState). IsOneOf s.flights among.was) run.begins among.there)
+      | inl among ↦ absurd (rw run.begins at among.there)
       | inr later ↦ (later.0, let less = later.2 in omega arith, later.3)
     ]
 
@@ -191,18 +191,18 @@ module _ (first : TreeState) (events : List Event) (states : ℕ → MachineStat
         last = raised_last first whole counts empty (λ x. is_some (get first.nodes x)) flushed (tied_till from) raiser.flush (one_durable first events states run place tied from raiser.commit its_begin.0 raiser.flush stands ties its_begin.1 its_begin.2)
 
         now_one : IsOneOf (tied_till (suc from)) raiser.flush
-        now_one = subst (λ (l : List Flush). IsOneOf l raiser.flush) (sym (one_durable first events states run place tied from raiser.commit its_begin.0 raiser.flush stands ties its_begin.1 its_begin.2)) (in_right (tied_till from) (raiser.flush ∷ []) raiser.flush (inl refl))
+        now_one = rw (one_durable first events states run place tied from raiser.commit its_begin.0 raiser.flush stands ties its_begin.1 its_begin.2) (in_right (tied_till from) (raiser.flush ∷ []) raiser.flush (inl refl))
 
         fit : (own : Flush) → IsOneOf (tied_till from) own → IsFit own
         fit = tied_fit from (omega arith)
 
-        alike : AreAlike first raiser.flush (record { history = whole; counts = counts; cut = last.before; inodes = last.inodes_before }) (record { history = whole; counts = below all; cut = last.before; inodes = last.inodes_before })
+        alike : AreAlike first raiser.flush (view_by whole counts last.before last.inodes_before) (view_by whole (below all) last.before last.inodes_before)
         alike = counted_alike raiser.flush last.before last.inodes_before (tied_fit (suc from) (omega arith) raiser.flush now_one) (cuts_low last.earlier fit) (their_held last.earlier fit)
 
   agree_step : (from : ℕ) (e : Event) → from < place → slice_get events from ≡ Some e → CutStep first (states from) (states (suc from)) e → AgreeAll from → AgreeAll (suc from)
   agree_step from e lt stands (stays cuts inodes_are no_durable) again = λ cut inodes flushed node awaited.
       subst (λ (c : Cut). Agree first whole all c cut (states (suc from)).inodes inodes node) cuts (subst (λ (i : ℕ → Bool). Agree first whole all (states from).cut cut i inodes node) inodes_are
-      (again cut inodes (subst (λ (l : List Flush). TheirCuts l cut inodes) (none_more first events states run place tied from e stands (no_durable (take place events) tied)) flushed) node (still_awaited first events states is run alive within place commit flush tied begun tied_are from node awaited)))
+      (again cut inodes (rw (none_more first events states run place tied from e stands (no_durable (take place events) tied)) at flushed) node (still_awaited first events states is run alive within place commit flush tied begun tied_are from node awaited)))
   agree_step from e lt stands (raises durable raiser same there number are others) again =
       elim (tied raiser.commit) as (λ b. tied raiser.commit ≡ b → AgreeAll (suc from)) [
         | true ↦ λ ties. tied_step from lt again raiser there here are ties
@@ -225,7 +225,7 @@ module _ (first : TreeState) (events : List Event) (states : ℕ → MachineStat
       agree_step from there.0 (omega arith) there.1 (cut_step first (states from) there.0 (states (suc from)) (steady_at first events states run from (omega arith)).start (run.steps from there.0 there.1)) (agree_at from (omega arith))
 
   module _ (cut : Cut) (inodes : ℕ → Bool) (flushed : TheirCuts (tied_till place) cut inodes) where
-    own_alike : AreAlike first flush (view_of (states place)) (record { history = whole; counts = below all; cut = (states place).cut; inodes = (states place).inodes })
+    own_alike : AreAlike first flush (view_of (states place)) (view_by whole (below all) ((states place).cut) ((states place).inodes))
     own_alike = begun_alike first events states is run alive (length events) within place commit flush (let less = place_within in omega arith) begun
 
     agree_own : (node : ℕ) → IsConcerned first whole (below all) (states place).cut (states place).inodes flush node → Agree first whole all (states place).cut cut (states place).inodes inodes node
@@ -234,12 +234,12 @@ module _ (first : TreeState) (events : List Event) (states : ℕ → MachineStat
     fit : (own : Flush) → IsOneOf (tied_till place) own → IsFit own
     fit = tied_fit place (omega arith)
 
-    tied_commit : IsOneCommit first flush (view_of (states place)) (record { history = whole; counts = counts; cut = cut; inodes = inodes })
+    tied_commit : IsOneCommit first flush (view_of (states place)) (view_by whole counts cut inodes)
     tied_commit =
-        alike_then first flush (view_of (states place)) (record { history = whole; counts = below all; cut = (states place).cut; inodes = (states place).inodes }) (record { history = whole; counts = counts; cut = cut; inodes = inodes }) own_alike
-        (then_alike first flush (record { history = whole; counts = below all; cut = (states place).cut; inodes = (states place).inodes }) (record { history = whole; counts = below all; cut = cut; inodes = inodes }) (record { history = whole; counts = counts; cut = cut; inodes = inodes })
+        alike_then first flush (view_of (states place)) (view_by whole (below all) ((states place).cut) ((states place).inodes)) (view_by whole counts cut inodes) own_alike
+        (then_alike first flush (view_by whole (below all) ((states place).cut) ((states place).inodes)) (view_by whole (below all) cut inodes) (view_by whole counts cut inodes)
         (agrees first whole all flush (states place).cut cut (states place).inodes inodes is legal agree_own)
-        (alike_back first flush (record { history = whole; counts = counts; cut = cut; inodes = inodes }) (record { history = whole; counts = below all; cut = cut; inodes = inodes }) (counted_alike flush cut inodes own_fit (cuts_low flushed fit) (their_held flushed fit))))
+        (alike_back first flush (view_by whole counts cut inodes) (view_by whole (below all) cut inodes) (counted_alike flush cut inodes own_fit (cuts_low flushed fit) (their_held flushed fit))))
 
 pub commits_are_tied : CommitsAreTied
 commits_are_tied first events states place commit flush tied counts cut inodes is run alive begun tied_are enough flushed = tied_commit first events states is run alive (omega arith) place commit flush tied begun tied_are counts enough cut inodes flushed

@@ -9,7 +9,7 @@ use Rattle.sfs_tree.specs.Laws.{IsSoundTree}
 use Rattle.flush_core.specs.Cut.{Cut, cut_of, IsWithin, rows_at_cut, counted_rows_at_cut}
 use Rattle.flush_core.specs.Rules.{IsChange}
 use Rattle.flush_core.specs.Closure.{Counts, every_entry, Flush, HasLiveNode, Closure, IsNamedIn, IsRaised, IsReached, IsDead, AreInodesAfter, KeepsCut}
-use Rattle.flush_core.specs.Runs.{CommitView, Concerns, Raises, IsOneCommit}
+use Rattle.flush_core.specs.Runs.{CommitView, Concerns, Raises, IsOneCommit, view_by}
 
 -- the entries below a stamp count
 abbrev pub below : ℕ → Counts
@@ -35,7 +35,7 @@ pub record IsHeld (first : TreeState) (history : List Entry) (cut : Cut) (inodes
 abbrev pub PrefixesCount : Type 0
 PrefixesCount = (first : TreeState) (history : List Entry) (n : ℕ) (flush : Flush) (cut : Cut) (inodes : ℕ → Bool) → IsSoundTree first → IsLegal first history → n ≤ length history
     → flush.stamp ≤ n → HasLiveNode first history flush
-    → AreAlike first flush (record { history = take n history; counts = every_entry; cut = cut; inodes = inodes }) (record { history = history; counts = below n; cut = cut; inodes = inodes })
+    → AreAlike first flush (view_by (take n history) every_entry cut inodes) (view_by history (below n) cut inodes)
 
 -- Two ways to count that both count all below a stamp, up to which all cuts and the fsync lie.
 abbrev pub Recounts : Type 0
@@ -43,7 +43,7 @@ Recounts = (first : TreeState) (history : List Entry) (k : ℕ) (counts other : 
     → ((t : ℕ) → t < k → counts t ≡ true) → ((t : ℕ) → t < k → other t ≡ true)
     → ((node : ℕ) → cut_of cut node ≤ k) → flush.stamp ≤ k → HasLiveNode first history flush
     → IsHeld first history cut inodes
-    → AreAlike first flush (record { history = history; counts = counts; cut = cut; inodes = inodes }) (record { history = history; counts = other; cut = cut; inodes = inodes })
+    → AreAlike first flush (view_by history counts cut inodes) (view_by history other cut inodes)
 
 -- what a raise keeps, over the whole history
 abbrev pub RaisesHold : Type 0
@@ -66,5 +66,5 @@ pub record Agree (first : TreeState) (history : List Entry) (n : ℕ) (cut other
 -- Cuts that agree on what an fsync concerns.
 abbrev pub Agrees : Type 0
 Agrees = (first : TreeState) (history : List Entry) (n : ℕ) (flush : Flush) (cut other : Cut) (inodes other_inodes : ℕ → Bool) → IsSoundTree first → IsLegal first history
-    → ((node : ℕ) → Concerns first flush (record { history = history; counts = below n; cut = cut; inodes = inodes }) node → Agree first history n cut other inodes other_inodes node)
-    → IsOneCommit first flush (record { history = history; counts = below n; cut = cut; inodes = inodes }) (record { history = history; counts = below n; cut = other; inodes = other_inodes })
+    → ((node : ℕ) → Concerns first flush (view_by history (below n) cut inodes) node → Agree first history n cut other inodes other_inodes node)
+    → IsOneCommit first flush (view_by history (below n) cut inodes) (view_by history (below n) other other_inodes)

@@ -1,5 +1,5 @@
 -- The way up from a directory: each row that names a node of it stands in the next.
-use Rattle.std.proofs.Common.{◌≡◌, ℕ, zero, suc, ◌<◌, ◌≤◌, true, List, ◌∷◌, length, slice_index, Some, inl, inr, sym, ap, subst, ◌∙◌, arith}
+use Rattle.std.proofs.Common.{◌≡◌, ℕ, zero, suc, ◌<◌, ◌≤◌, true, List, ◌∷◌, length, slice_index, Some, inl, inr, sym, ap, ◌∙◌, arith}
 use Rattle.sfs_tree.specs.Tree.{TreeState, row_of, is_directory}
 use Rattle.sfs_tree.specs.Sound.{Above, at_root, below, IsSound}
 use Rattle.flush_core.specs.Broken.{IsNext}
@@ -31,4 +31,4 @@ next_on_way tree s _ _ (below start h up_name above up rest) kind node holder na
 -- where no place of the way has what is looked for, no directory and the next have it
 pub none_on_way : (Is : ℕ → ℕ → Type 0) (start : ℕ) (above : List ℕ) (i : ℕ) → length above ≤ i → ((place : ℕ) → place < i → Is (slice_index (start ∷ above) place) (slice_index above place) → ⊥) → (node holder : ℕ) → IsNext start above node holder → Is node holder → ⊥
 none_on_way Is start above i le none node holder next is =
-    none next.place (let lt = next.within in omega arith) (subst (λ (n : ℕ). Is n (slice_index above next.place)) next.node_is (subst (Is node) next.holder_is is))
+    none next.place (let lt = next.within in omega arith) (rw next.node_is at (rw next.holder_is at is))

@@ -1,5 +1,5 @@
 -- What fsyncs raise over the first entries of a history they raise over the whole of it.
-use Rattle.std.proofs.Common.{◌≡◌, ℕ, ◌≤◌, Bool, false, List, [], ◌∷◌, ◌++◌, length, take, Option, Some, None, IsSome, option_map, inl, inr, refl, sym, ap, subst, ◌∙◌}
+use Rattle.std.proofs.Common.{◌≡◌, ℕ, ◌≤◌, Bool, false, List, [], ◌∷◌, ◌++◌, length, take, Option, Some, None, IsSome, option_map, inl, inr, refl, sym, ap, ◌∙◌}
 use borrow.Author.Tests.{lt-ltb}
 use Rattle.std.specs.Option.{option_map_or}
 use Rattle.std.specs.FinMap.{get, empty}
@@ -14,6 +14,7 @@ use Rattle.flush_core.specs.Cut.{Cut, cut_of, tree_at_cut}
 use Rattle.flush_core.specs.Rules.{IsOneOf}
 use Rattle.flush_core.specs.Closure.{every_entry, Flush, AreRaised, none, one_more}
 use Rattle.flush_core.specs.LawsGrowth.{AreAmongFirst, FlushesGrow, HasMoreNodes, CutTreesGrow}
+use Rattle.flush_core.specs.Runs.{view_by}
 use Rattle.flush_core.proofs.Basics.{below_or, in_left, in_right}
 use Rattle.flush_core.proofs.Along.{tree_at-after, nodes_at}
 use Rattle.flush_core.proofs.Views.{below, IsHeld}
@@ -49,7 +50,7 @@ module _ (first : TreeState) (history : List Entry) (n : ℕ) (is : IsSoundTree 
       let old = earlier flushes flush are in
       let low_before = cuts_stay_low first (take n history) every_entry n was low old.low in
       let held_before = flushes_hold first history n is legal within was low old.low old.live held in
-      let alike = alike_on first flush (record { history = take n history; counts = every_entry; cut = before; inodes = inodes_before }) (record { history = history; counts = below n; cut = before; inodes = inodes_before }) (record { history = history; counts = every_entry; cut = before; inodes = inodes_before })
+      let alike = alike_on first flush (view_by (take n history) every_entry before inodes_before) (view_by history (below n) before inodes_before) (view_by history every_entry before inodes_before)
           (prefixes_count first history n flush before inodes_before is legal within (are.low flush own) (are.live flush own))
           (recounts first history n (below n) every_entry flush before inodes_before is legal (λ t lt. lt-ltb t n lt) (λ t lt. refl) low_before (are.low flush own) (are.live flush own) held_before) in
       one_more flushes flush before raised inodes_before after (raised_whole was old low held) ((alike.raises raised).0 raise) (inodes_alike first flush _ _ raised after alike raise sets)
@@ -84,12 +85,12 @@ module _ (first : TreeState) (history : List Entry) (n : ℕ) (cut : Cut) (is : 
       ∙ sym (node_at_cut_is first short cut x)
     where
       there : IsSome (get (tree_after first history).nodes x) × (is_directory (tree_after first history) x ≡ is_directory (tree_after first short) x)
-      there = subst (λ (tree : TreeState). IsSome (get (tree_after first history).nodes x) × (is_directory (tree_after first history) x ≡ is_directory tree x)) (tree_at-after first history n) (nodes_at first history n is legal x (subst (λ (tree : TreeState). IsSome (get tree.nodes x)) (sym (tree_at-after first history n)) some))
+      there = rw (tree_at-after first history n) at (nodes_at first history n is legal x (rw (tree_at-after first history n) some))
 
   more_nodes : HasMoreNodes (tree_at_cut first short cut) (tree_at_cut first history cut)
   more_nodes = record {
     rows = sym (rows_at_cut-take first history n cut legal low);
-    nodes = λ x some. same_node x (was_there (get (tree_after first short).nodes x) (bytes_at first short x (cut_of cut x)) (subst IsSome (node_at_cut_is first short cut x) some));
+    nodes = λ x some. same_node x (was_there (get (tree_after first short).nodes x) (bytes_at first short x (cut_of cut x)) (rw (node_at_cut_is first short cut x) at some));
   }
     where
       was_there : (o : Option Node) (bytes : List ℕ) → IsSome (option_map (with_bytes bytes) o) → IsSome o

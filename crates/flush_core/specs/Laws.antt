@@ -13,7 +13,7 @@ use Rattle.flush_core.specs.Covers.{ArePlaced, IsCovered, CoversMore, IsAcknowle
 use Rattle.flush_core.specs.declared.event.Event.{Event}
 use Rattle.flush_core.specs.Closure.{Counts, every_entry, Flush, HasNode, IsNamedIn, IsRaised, AreInodesAfter, KeepsCut, AreRaised, AreFlushed}
 use Rattle.flush_core.specs.Machine.{Flight, MachineState}
-use Rattle.flush_core.specs.Runs.{IsRun, IsBegun, AreAlive, AreApart, Flies, view_of, IsOneCommit, AreTied, CountEnough, durable_of}
+use Rattle.flush_core.specs.Runs.{IsRun, IsBegun, AreAlive, AreApart, Flies, view_of, IsOneCommit, AreTied, CountEnough, durable_of, view_by}
 
 -- In the tree at a cut a directory has its rows at its own stamp.
 abbrev pub DirectoriesAreCut : Type 0
@@ -97,7 +97,7 @@ FlightsStay = (first : TreeState) (events : List Event) (states : ℕ → Machin
     → AreApart others
     → ((other : Flight) → IsOneOf others other → IsOneOf (states later).flights other × (other.commit ≢ commit))
     → AreRaised first (states later).history every_entry (states later).cut (states later).inodes (map (λ (other : Flight). other.flush) others) cut inodes
-    → IsOneCommit first flush (view_of (states place)) (record { history = (states later).history; counts = every_entry; cut = cut; inodes = inodes })
+    → IsOneCommit first flush (view_of (states place)) (view_by ((states later).history) every_entry cut inodes)
 
 -- A commit is the one that it would have been, had only those commits come before it to which it is tied, and counted only some of
 -- the whole history's entries.
@@ -108,4 +108,4 @@ CommitsAreTied = (first : TreeState) (events : List Event) (states : ℕ → Mac
     → AreTied first events states commit tied
     → CountEnough events commit flush tied counts
     → AreFlushed first (states (length events)).history counts (durable_of (take place events) tied) cut inodes
-    → IsOneCommit first flush (view_of (states place)) (record { history = (states (length events)).history; counts = counts; cut = cut; inodes = inodes })
+    → IsOneCommit first flush (view_of (states place)) (view_by ((states (length events)).history) counts cut inodes)

@@ -50,9 +50,13 @@ pub record CommitView : Type 0 where
   pub cut : Cut
   pub inodes : ℕ → Bool
 
+-- a history, the entries that count, a cut and the nodes with an inode as a view
+abbrev pub view_by : List Entry → Counts → Cut → (ℕ → Bool) → CommitView
+view_by history counts cut inodes = record { history = history; counts = counts; cut = cut; inodes = inodes }
+
 -- what a state's fsyncs go by
 abbrev pub view_of : MachineState → CommitView
-view_of state = record { history = state.history; counts = every_entry; cut = state.cut; inodes = state.inodes }
+view_of state = view_by state.history every_entry state.cut state.inodes
 
 -- the nodes that an fsync concerns
 abbrev pub Concerns : TreeState → Flush → CommitView → ℕ → Type 0

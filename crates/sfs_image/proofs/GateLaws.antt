@@ -1,20 +1,18 @@
 -- A gate that opens, and one that shuts.
-use Rattle.std.proofs.Common.{◌≡◌, ◌≢◌, ℕ, ◌+◌, ◌*◌, ◌<◌, ◌≤◌, List, All, Option, None, Some, option_map, refl, sym, ap, ◌∙◌, subst, arith, inl, inr}
+use Rattle.std.proofs.Common.{◌≡◌, ◌≢◌, ℕ, ◌+◌, ◌*◌, ◌<◌, ◌≤◌, List, All, Option, None, Some, refl, sym, ap, ◌∙◌, subst, arith, inl, inr, ◌⊎◌}
 use Rattle.std.specs.Prelude.{unwrap_or}
 use Rattle.std.proofs.lemmas.Bool.{cases_eq}
 use Rattle.sfs_image.specs.Bytes.{part}
 use Rattle.sfs_image.specs.ImageOf.{InodePart, Transaction, part_given, given, with_opened, with_slot, HasBody, IsSlotOf, HaveOwnStamps, IsImageOf, PointsToData}
-use Rattle.sfs_image.specs.ImageWrites.{AgreesOutside, OpensGate, ShutsGate}
+use Rattle.sfs_image.specs.ImageWrites.{MayShut, IsFullTable, HasRecordsOf, IsOldest, AgreesOutside, OpensGate, ShutsGate}
 use Rattle.sfs_image.specs.Laws.{IsShutAfter}
 use Rattle.sfs_image.specs.Part.{Part, IsGathered, pointer_at}
 use Rattle.sfs_image.specs.Settled.{table_byte, Stamped, image_block, slot_byte, slot_count, journal_slot, table_record}
 use Rattle.sfs_image.specs.Super.{Layout, slot_blocks}
 use Rattle.sfs_image.proofs.FrameLaws.{part_apart, part_changes, whole_kept}
-use Rattle.sfs_image.proofs.GivenLaws.{with_slot-same, with_slot-other, given_has, given_aside, given_newer, given_behind}
+use Rattle.sfs_image.proofs.GivenLaws.{given_alone, given_by, given_from, found_has, stamp_given, with_slot-same, with_slot-other, given_has, given_aside, given_newer, given_behind}
 use Rattle.sfs_image.proofs.KeptLaws.{sound_kept, divided_kept, gathered_kept, slots_apart, slot_before_table, slot_before_data}
 use Rattle.sfs_image.proofs.LayoutLaws.{divided}
-use Rattle.sfs_image.proofs.NewestLaws.{newest_none, newest_greatest}
-use Rattle.sfs_image.proofs.BytesLaws.{None-option_map}
 
 -- the gate's byte, as one of its slot
 at_gate : (layout : Layout) (k : ℕ) (old new : List ℕ) → AgreesOutside (slot_byte layout k) 1 old new → AgreesOutside (slot_byte layout k + 0) 1 old new
@@ -160,31 +158,13 @@ module _ (layout : Layout) (opened : ℕ → Option Transaction) (parts : ℕ �
           sym (unwrapped (parts i) (given_behind layout opened k shuts.within i part is.stamps
           (λ j other ours h apart gives has. shuts.may.older i j other ours h apart gives has) there))
 
-  -- what the transaction gives that alone gives it
-  alone : (i : ℕ) (ours : Stamped Part) → part_given i (opened k) ≡ Some ours → given layout (with_slot opened k None) i ≡ None →
-      given layout opened i ≡ Some ours.value
-  alone i ours gives none =
-      ap (option_map (λ newest. newest.value))
-      (newest_greatest (λ j. part_given i (opened j)) 0 (slot_count layout) k ours (record {
-        low = omega arith;
-        high = let h = shuts.within in omega arith;
-        here = gives;
-        others = λ j other low high apart there. absurd (none_other j other low high apart there);
-      }))
-    where
-      none_other : (j : ℕ) (other : Stamped Part) → 0 ≤ j → j < 0 + slot_count layout → j ≢ k → part_given i (opened j) ≡ Some other → ⊥
-      none_other j other low high apart there =
-          let gone = newest_none (λ m. part_given i (with_slot opened k None m)) 0 (slot_count layout) (None-option_map (λ newest. newest.value) _ none) j low high in
-          let stays : part_given i (with_slot opened k None j) ≡ Some other = ap (part_given i) (with_slot-other opened k None j apart) ∙ there in
-          cc
-
   in_table : (i : ℕ) → i < layout.inodes → given layout (with_slot opened k None) i ≡ None → (o : Option (Stamped Part)) → part_given i (opened k) ≡ o →
       table_record layout old i ≡ (with_opened layout opened parts i).raw
   in_table i h none None aside =
       let before : given layout opened i ≡ None = sym (given_aside layout opened k shuts.within None i (sym aside)) ∙ none in
       is.table i h before ∙ sym (ap (λ (o : Option Part). (unwrap_or o (parts i)).raw) before)
   in_table i h none (Some ours) gives =
-      shuts.may.table i ours h gives none ∙ sym (ap (λ (part : Part). part.raw) (unwrapped (parts i) (alone i ours gives none)))
+      shuts.may.table i ours h gives none ∙ sym (ap (λ (part : Part). part.raw) (unwrapped (parts i) (given_alone layout opened k shuts.within i ours gives none)))
 
   shut_then : IsImageOf layout (with_slot opened k None) (with_opened layout opened parts) new
   shut_then = record {
@@ -199,6 +179,15 @@ module _ (layout : Layout) (opened : ℕ → Option Transaction) (parts : ℕ �
     pointers = λ i h. subst (PointsToData layout) (sym (same_then i)) (is.pointers i h);
   }
 
+-- the table's record of an inode that a transaction gives, where it has those of all of them
+record_given_is : (layout : Layout) (one : Transaction) (image : List ℕ) (i : ℕ) (ours : Stamped Part) → HasRecordsOf layout one image →
+    part_given i (Some one) ≡ Some ours → table_record layout image i ≡ ours.value.raw
+record_given_is layout one image i ours records gives =
+    let found = given_from i one ours gives in
+    let place : found.0.inode ≡ i = found.2 in
+    ap (table_record layout image) (sym place) ∙ found_has (λ (inner : InodePart). table_record layout image inner.inode ≡ inner.part.raw) _ one.parts found.0 records found.1
+    ∙ ap (λ (part : Part). part.raw) (sym found.3)
+
 pub gate_opens : (layout : Layout) (opened : ℕ → Option Transaction) (parts : ℕ → Part) (k : ℕ) (one : Transaction) (old new : List ℕ) →
     IsImageOf layout opened parts old → OpensGate layout opened k one old new → IsImageOf layout (with_slot opened k (Some one)) parts new
 gate_opens = opens_then
@@ -209,3 +198,23 @@ gate_shuts layout opened parts k old new is shuts = record {
   stands = shut_then layout opened parts k old new is shuts;
   same = same_then layout opened parts k old new is shuts;
 }
+
+pub oldest_may_shut : (layout : Layout) (opened : ℕ → Option Transaction) (parts : ℕ → Part) (k : ℕ) (one : Transaction) (image : List ℕ) → k < slot_count layout →
+    opened k ≡ Some one → IsOldest layout opened k one → (IsFullTable layout opened parts image) ⊎ (HasRecordsOf layout one image) → MayShut layout opened k image
+oldest_may_shut layout opened parts k one image within open_with oldest has = record {
+  older = λ i j other ours h apart gives own.
+      let giver = given_by i (opened j) other gives in
+      let mine = stamp_given i one ours (sym (ap (part_given i) open_with) ∙ own) in
+      let theirs = giver.2 in
+      let order = oldest j giver.0 h apart giver.1 in
+      omega arith;
+  table = λ i ours h own none. elim has [
+    | inl full ↦ full i h ∙ ap (λ (part : Part). part.raw) (unwrapped (parts i) (given_alone layout opened k within i ours own none))
+    | inr records ↦ record_given_is layout one image i ours records (sym (ap (part_given i) open_with) ∙ own)
+  ];
+}
+
+pub tables_stay_full : (layout : Layout) (opened : ℕ → Option Transaction) (parts : ℕ → Part) (k : ℕ) (old new : List ℕ) → IsImageOf layout opened parts old →
+    ShutsGate layout opened k old new → IsFullTable layout opened parts old → IsFullTable layout (with_slot opened k None) (with_opened layout opened parts) new
+tables_stay_full layout opened parts k old new is shuts full i h =
+    record_stays layout k old new shuts.within shuts.written i ∙ full i h ∙ ap (λ (part : Part). part.raw) (sym (same_then layout opened parts k old new is shuts i))

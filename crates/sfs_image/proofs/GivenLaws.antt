@@ -1,14 +1,14 @@
 -- What the open slots give an inode once a transaction has come to them, or has gone.
-use Rattle.std.proofs.Common.{◌≡◌, ◌≢◌, ℕ, ◌<◌, Bool, eqb, List, [], ◌∷◌, map, All, Option, None, Some, option_map, refl, sym, ap, ◌∙◌, subst, arith, inl, inr}
+use Rattle.std.proofs.Common.{◌≡◌, ◌≢◌, ℕ, ◌+◌, ◌<◌, ◌≤◌, Bool, true, eqb, List, [], ◌∷◌, map, All, Option, None, Some, option_map, refl, sym, ap, ◌∙◌, subst, arith, inl, inr}
 use Rattle.std.specs.List.{range_with_len, find}
 use Rattle.std.proofs.lemmas.List.Elements.{All-head, All-tail}
-use Rattle.std.proofs.lemmas.Bool.{cases_Bool, cases_eq, cond-true, cond-false, eq-eqb, ne_eqb}
+use Rattle.std.proofs.lemmas.Bool.{cases_Bool, cases_eq, cond-true, cond-false, eqb-true, eq-eqb, ne_eqb}
 use Rattle.sfs_image.specs.ImageOf.{InodePart, Transaction, part_given, given, with_slot, HaveOwnStamps}
 use Rattle.sfs_image.specs.Part.{Part}
 use Rattle.sfs_image.specs.Settled.{Stamped, newest, slot_count}
 use Rattle.sfs_image.specs.Super.{Layout}
-use Rattle.sfs_image.proofs.BytesLaws.{option_map-Some}
-use Rattle.sfs_image.proofs.NewestLaws.{newest_same, newest_from, newest_greatest, newest_max, IsGreatest}
+use Rattle.sfs_image.proofs.BytesLaws.{option_map-Some, None-option_map}
+use Rattle.sfs_image.proofs.NewestLaws.{newest_same, newest_from, newest_none, newest_greatest, newest_max, IsGreatest}
 
 -- the slot that was changed, and each other
 pub with_slot-same : (opened : ℕ → Option Transaction) (k : ℕ) (one : Option Transaction) → with_slot opened k one k ≡ one
@@ -28,13 +28,30 @@ given_by i None ours is = absurd cc
 given_by i (Some one) ours is = (one, refl, stamp_given i one ours is)
 
 -- what each element has is had by the one that is found
-found_has : {X : Type 0} (P : X → Type 0) (test : X → Bool) (xs : List X) (x : X) → All P xs → find test xs ≡ Some x → P x
+pub found_has : {X : Type 0} (P : X → Type 0) (test : X → Bool) (xs : List X) (x : X) → All P xs → find test xs ≡ Some x → P x
 found_has P test [] x all is = absurd cc
 found_has P test (y ∷ xs) x all is =
     elim (cases_Bool (test y)) [
       | inl passes ↦ (let e : Some y ≡ Some x = sym (cond-true (test y) (Some y) (find test xs) passes) ∙ is in let same : y ≡ x = cc in subst P same (All-head P y xs all))
       | inr fails ↦ found_has P test xs x (All-tail P y xs all) (sym (cond-false (test y) (Some y) (find test xs) fails) ∙ is)
     ]
+
+-- what passes a test is found
+found_passes : {X : Type 0} (test : X → Bool) (xs : List X) (x : X) → find test xs ≡ Some x → test x ≡ true
+found_passes test [] x is = absurd cc
+found_passes test (y ∷ xs) x is =
+    elim (cases_Bool (test y)) [
+      | inl passes ↦ (let e : Some y ≡ Some x = sym (cond-true (test y) (Some y) (find test xs) passes) ∙ is in
+          let same : y ≡ x = cc in sym (ap test same) ∙ passes)
+      | inr fails ↦ found_passes test xs x (sym (cond-false (test y) (Some y) (find test xs) fails) ∙ is)
+    ]
+
+-- what a transaction gives an inode is the part of an entry of it
+pub given_from : (i : ℕ) (one : Transaction) (ours : Stamped Part) → part_given i (Some one) ≡ Some ours →
+    (inner : InodePart) × (find (λ own. eqb own.inode i) one.parts ≡ Some inner) × (inner.inode ≡ i) × (ours.value ≡ inner.part)
+given_from i one ours is =
+    let found = option_map-Some _ (find (λ own. eqb own.inode i) one.parts) ours is in
+    (found.0, found.1, eqb-true found.0.inode i (found_passes (λ own. eqb own.inode i) one.parts found.0 found.1), ap (λ (s : Stamped Part). s.value) found.2)
 
 -- what each part of a transaction has is had by the one that it gives
 pub given_has : (P : Part → Type 0) (i : ℕ) (one : Transaction) (ours : Stamped Part) → All (λ (inner : InodePart). P inner.part) one.parts →
@@ -116,3 +133,21 @@ module _ (layout : Layout) (opened : ℕ → Option Transaction) (k : ℕ) (with
       (newest_greatest (λ j. part_given i (opened j)) 0 (slot_count layout) from.0 top.0
       (still_greatest i from.0 top.0 stamps below stays.0 stays.1 top.1 (λ ours is. older from.0 top.0 ours below stays.0 stays.1 is)))
       ∙ ap Some (sym top.2)
+
+  -- what a transaction gives that alone gives it
+  pub given_alone : (i : ℕ) (ours : Stamped Part) → part_given i (opened k) ≡ Some ours → given layout (with_slot opened k None) i ≡ None →
+      given layout opened i ≡ Some ours.value
+  given_alone i ours gives none =
+      ap (option_map (λ newest. newest.value))
+      (newest_greatest (λ j. part_given i (opened j)) 0 (slot_count layout) k ours (record {
+        low = omega arith;
+        high = omega arith;
+        here = gives;
+        others = λ j other low high apart there. absurd (none_other j other low high apart there);
+      }))
+    where
+      none_other : (j : ℕ) (other : Stamped Part) → 0 ≤ j → j < 0 + slot_count layout → j ≢ k → part_given i (opened j) ≡ Some other → ⊥
+      none_other j other low high apart there =
+          let gone = newest_none (λ m. part_given i (with_slot opened k None m)) 0 (slot_count layout) (None-option_map (λ newest. newest.value) _ none) j low high in
+          let stays : part_given i (with_slot opened k None j) ≡ Some other = ap (part_given i) (with_slot-other opened k None j apart) ∙ there in
+          cc

@@ -1,14 +1,14 @@
 -- An image that stands for parts: its settled parts are those with what the open slots give, and nothing is wrong in its
 -- superblock and journals.
-use Rattle.std.proofs.Common.{◌≡◌, ◌≢◌, ℕ, zero, suc, ◌+◌, ◌^◌, ◌<◌, ◌≤◌, Bool, false, eqb, ltb, List, [], ◌∷◌, map, Option, None, Some, option_map, refl, sym, ap, ◌∙◌, subst, arith, inl, inr}
-use Rattle.std.specs.Prelude.{unwrap_or, false}
+use Rattle.std.proofs.Common.{cond, true, ◌≡◌, ◌≢◌, ℕ, zero, suc, ◌+◌, ◌^◌, ◌<◌, ◌≤◌, Bool, false, eqb, ltb, List, [], ◌∷◌, map, Option, None, Some, option_map, refl, sym, ap, ◌∙◌, subst, arith, inl, inr}
+use Rattle.std.specs.Prelude.{unwrap_or}
 use Rattle.std.specs.Option.{option_or}
 use Rattle.std.specs.List.{range_with_len, flat_map, find, list_any}
 use Rattle.std.proofs.lemmas.Bool.{cases_Bool, cond-true, cond-false, le-ltb, ne_eqb, or_from}
 use Rattle.std.proofs.lemmas.List.{map-append}
 use Rattle.std.proofs.lemmas.List.Folds.{list_any-append}
 use Rattle.sfs_image.specs.Bytes.{part, fault_at}
-use Rattle.sfs_image.specs.ImageOf.{InodePart, Transaction, transaction_body, part_given, given, with_opened, HasBody, IsSlotOf, IsImageOf, PointsToData, FreshBlock, StandIn, TurnsInto}
+use Rattle.sfs_image.specs.ImageOf.{MayBeSlotOf, opened_among, InodePart, Transaction, transaction_body, part_given, given, with_opened, HasBody, IsSlotOf, IsImageOf, PointsToData, FreshBlock, StandIn, TurnsInto}
 use Rattle.sfs_image.specs.Journal.{Entry, head_of, numbers_fault, numbers_of, journal_fault, AreEntries, HasEntries}
 use Rattle.sfs_image.specs.Laws.{IsReadAs}
 use Rattle.sfs_image.specs.Part.{Part, part_of, IsGathered}
@@ -103,7 +103,7 @@ sound_slot inodes stamps (Some one) slot is fresh =
     ∙ is.whole.numbers
 
 -- a default in the place of nothing, behind a function
-unwrap_made : {A B : Type 0} (f : A → B) (o : Option A) (default : B) (one : A) → (o ≡ None → default ≡ f one) →
+pub unwrap_made : {A B : Type 0} (f : A → B) (o : Option A) (default : B) (one : A) → (o ≡ None → default ≡ f one) →
     unwrap_or (option_map f o) default ≡ f (unwrap_or o one)
 unwrap_made f None default one is = is refl
 unwrap_made f (Some x) default one is = refl
@@ -178,3 +178,15 @@ pub fresh_make : (layout : Layout) (opened : ℕ → Option Transaction) (parts 
     IsImageOf layout opened parts image → i < layout.inodes → TurnsInto fresh (with_opened layout opened parts i) new → StandIn (image_block image) fresh →
     IsGathered (image_block image) new
 fresh_make layout opened parts image i fresh new is below turns stand = turns (image_block image) stand (is.gathered i below)
+
+-- Where each slot may be that of a transaction, each is, of those whose gates are open.
+pub slots_by_gates : (layout : Layout) (may : ℕ → Option Transaction) (image : List ℕ) (k : ℕ) → MayBeSlotOf layout.inodes (may k) (journal_slot layout image k) →
+    IsSlotOf layout.inodes (opened_among layout may image k) (journal_slot layout image k)
+slots_by_gates layout may image k has = go (may k) has (head_of (part 0 4096 (journal_slot layout image k))).gate refl
+  where
+    go : (o : Option Transaction) → MayBeSlotOf layout.inodes o (journal_slot layout image k) → (gate : Bool) →
+        (head_of (part 0 4096 (journal_slot layout image k))).gate ≡ gate → IsSlotOf layout.inodes (cond gate o None) (journal_slot layout image k)
+    go None shut true gate = shut
+    go None shut false gate = shut
+    go (Some one) whole true gate = record { gate = gate; whole = whole }
+    go (Some one) whole false gate = gate

@@ -1,3 +1,4 @@
+pub mod AcceptedLaws
 pub mod Basics
 pub mod BytesLaws
 pub mod EntriesLaws
@@ -12,8 +13,10 @@ pub mod LayoutLaws
 pub mod NewestLaws
 pub mod PartLaws
 pub mod PiecesLaws
+pub mod RuleFacts
 pub mod RuleLaws
 pub mod SettledLaws
+pub mod ShownLaws
 pub mod SlotBlockLaws
 pub mod SlotLaws
 pub mod SuperLaws

@@ -1,6 +1,6 @@
 -- Laws of pieces of one length, one behind another.
 use Rattle.std.proofs.Common.{◌≡◌, ℕ, zero, suc, ◌+◌, ◌*◌, ◌^◌, ◌<◌, ◌≤◌, List, [], ◌∷◌, ◌++◌, take, drop, map, length, get_or, slice_index, Option, None, Some, add-one, refl, sym, ap, ◌∙◌, subst, arith, inl, inr}
-use Rattle.std.proofs.lemmas.List.{length-drop, length-append, take_at, drop_at, drop-drop, append_assoc, same_lists, append-nil, get_or_default, take_all}
+use Rattle.std.proofs.lemmas.List.{length-drop, length-append, take_at, drop_at, drop-drop, append_assoc, same_lists, append-nil, get_or_default, get_or_append_left, get_or-append-add, take_all}
 use Rattle.std.proofs.lemmas.List.FromFn.{length-map-range_with_len, get_or-map-range_with_len, map-range_with_len_more}
 use Rattle.std.proofs.lemmas.List.Concat.{flat_map-append}
 use Rattle.std.proofs.Math.Seq.{take-add}
@@ -41,7 +41,7 @@ flat_map-parts f g m bytes (suc n) same =
     ∙ sym (ap (λ (c : ℕ). take c bytes) next ∙ take-add (m * n) m bytes)
 
 -- where the first of n is none each is none, and the other way round
-pub first_of-None : (n : ℕ) (f : ℕ → Option ℕ) → first_of n f ≡ None → (k : ℕ) → k < n → f k ≡ None
+pub first_of-None : {A : Type 0} (n : ℕ) (f : ℕ → Option A) → first_of n f ≡ None → (k : ℕ) → k < n → f k ≡ None
 first_of-None zero f none k h = absurd (omega arith)
 first_of-None (suc n) f none k h =
     let both = option_or-None (first_of n f) (f n) none in
@@ -109,8 +109,34 @@ part-flat_map f m d (x ∷ xs) tail (suc k) lens h =
     let here : m * suc k ≡ m + m * k = omega arith in
     rw (here, append_assoc (f x) (flat_map f xs) tail, sym (drop-drop (m * k) m (f x ++ (flat_map f xs ++ tail))), behind) ih
 
--- how long pieces are that have m bytes each
-pub length-pieces : {X : Type 0} (f : X → List ℕ) (m : ℕ) (d : X) (xs : List X) → ((j : ℕ) → j < length xs → length (f (get_or xs j d)) ≡ m) → length (flat_map f xs) ≡ m * length xs
+-- an element of one of pieces that have m elements each
+pub get_or-pieces : {X A : Type 0} (f : X → List A) (m : ℕ) (d : X) (e : A) (xs : List X) → ((j : ℕ) → j < length xs → length (f (get_or xs j d)) ≡ m) →
+    (n k : ℕ) → n < length xs → k < m → get_or (flat_map f xs) (m * n + k) e ≡ get_or (f (get_or xs n d)) k e
+get_or-pieces f m d e [] lens n k h below = absurd (omega arith)
+get_or-pieces f m d e (x ∷ xs) lens zero k h below =
+    let first : m * zero + k ≡ k = omega arith in
+    ap (λ (i : ℕ). get_or (f x ++ flat_map f xs) i e) first ∙ get_or_append_left (f x) (flat_map f xs) e k (let long = lens 0 (omega arith) in omega arith)
+get_or-pieces f m d e (x ∷ xs) lens (suc n) k h below =
+    let long = lens 0 (omega arith) in
+    let later : m * suc n + k ≡ length (f x) + (m * n + k) = omega arith in
+    ap (λ (i : ℕ). get_or (f x ++ flat_map f xs) i e) later
+    ∙ get_or-append-add (f x) (flat_map f xs) (m * n + k) e
+    ∙ get_or-pieces f m d e xs (λ j l. lens (suc j) (omega arith)) n k (omega arith) below
+
+-- the first of n that is some, and those before it
+pub first_of-Some : {A : Type 0} (n : ℕ) (f : ℕ → Option A) (x : A) → first_of n f ≡ Some x → (k : ℕ) × (k < n) × (f k ≡ Some x) × ((j : ℕ) → j < k → f j ≡ None)
+first_of-Some zero f x is = absurd cc
+first_of-Some {A = A} (suc n) f x is = go (first_of n f) refl (first_of-Some n f x)
+  where
+    go : (o : Option A) → first_of n f ≡ o → (first_of n f ≡ Some x → (k : ℕ) × (k < n) × (f k ≡ Some x) × ((j : ℕ) → j < k → f j ≡ None)) →
+        (k : ℕ) × (k < suc n) × (f k ≡ Some x) × ((j : ℕ) → j < k → f j ≡ None)
+    go None none found = (n, omega arith, sym (ap (λ (o : Option A). option_or o (f n)) none) ∙ is, first_of-None n f none)
+    go (Some y) some found =
+        let one = found (some ∙ sym (ap (λ (o : Option A). option_or o (f n)) some) ∙ is) in
+        (one.0, (let h = one.1 in omega arith), one.2, one.3)
+
+-- how long pieces are that have m elements each
+pub length-pieces : {X A : Type 0} (f : X → List A) (m : ℕ) (d : X) (xs : List X) → ((j : ℕ) → j < length xs → length (f (get_or xs j d)) ≡ m) → length (flat_map f xs) ≡ m * length xs
 length-pieces f m d [] lens = omega arith
 length-pieces f m d (x ∷ xs) lens =
     let ih = length-pieces f m d xs (λ j l. lens (suc j) (omega arith)) in

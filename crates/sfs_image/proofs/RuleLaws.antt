@@ -1,8 +1,10 @@
 -- What the rules on bytes and pointers say.
 use Rattle.std.proofs.Common.{◌≡◌, ◌≢◌, ℕ, ◌<◌, ◌≤◌, Bool, true, false, not, eqb, leb, ◌&&◌, ◌||◌, List, length, slice_index, Option, None, Some, is_some, refl, sym, ap, ◌∙◌, arith, inl, inr}
+use Rattle.std.specs.Prelude.{◌↔◌}
 use Rattle.std.proofs.lemmas.Bool.{cases_Bool, cases_lt, cases_order, cond_both, cond-false, ne_eqb, eqb-true, eqb-false, and_left, and_right, and_parts, or_from, or_parts, or_cases, not_from_true, not_from_false, both_ways, leb-true, ltb-true, le-leb, lt-ltb, or_left, or_right, and_from}
 use Rattle.sfs_image.specs.Inode.{inode_fault}
 use Rattle.sfs_image.specs.ImageOf.{PointsToData}
+use Rattle.sfs_image.specs.LawsOfParts.{PointsWell}
 use Rattle.sfs_image.specs.Part.{Part, part_of, inode_in, pointer_at, is_free_part, is_file_part, is_directory_part}
 use Rattle.sfs_image.specs.Rules.{any_below, breaks_record, is_data_block, is_good_pointer, first_covered, breaks_pointers, stands_below, is_held_before, HasBlockAt, breaks_apart, breaks_bytes_rule}
 use Rattle.sfs_image.specs.Seen.{PLACES}
@@ -11,7 +13,7 @@ use Rattle.sfs_image.proofs.Basics.{any_below-none, any_below-from}
 use Rattle.sfs_image.proofs.PartLaws.{free_has_none, none_past_places}
 
 -- where both of two tests are not passed and the first is passed the second is not
-second_fails : (x y : Bool) → (x && y) ≡ false → x ≡ true → y ≡ false
+pub second_fails : (x y : Bool) → (x && y) ≡ false → x ≡ true → y ≡ false
 second_fails true y fails passes = fails
 second_fails false y fails passes = absurd cc
 
@@ -83,37 +85,48 @@ rule_from_apart parts i apart =
           (any_below-from p _ (λ q before. ne_eqb _ _ (λ same. let both = apart i p q (omega arith) within (omega arith) (eqb-false _ _ some) (sym same) in let e = both.1 in omega arith))))
     ]))
 
+-- a test that its negation fails
+pub passes_then : (b : Bool) → not b ≡ false → b ≡ true
+passes_then true h = refl
+passes_then false h = absurd cc
+
+-- where one of two tests passes and the first fails the second passes
+second_passes : (x y : Bool) → (x || y) ≡ true → x ≡ false → y ≡ true
+second_passes x y passes fails = elim (or_cases x y passes) [ inl first ↦ absurd (both_ways x fails first) | inr second ↦ second ]
+
 -- Where an inode in use keeps the fourth rule each pointer names a block of the data area and covers a byte below the size.
 pub good_from_rule : (layout : Layout) (part : Part) (p : ℕ) → breaks_pointers layout part ≡ false → is_free_part part ≡ false → p < PLACES →
-    pointer_at part p ≢ 0 →
-    (data_start layout ≤ pointer_at part p) × (pointer_at part p < layout.blocks) × (first_covered p < (inode_in part).size)
+    pointer_at part p ≢ 0 → PointsWell layout part p
 good_from_rule layout part p keeps used within there =
-    let each = second_fails (not (is_free_part part)) (any_below PLACES (λ place. not (is_good_pointer layout part place))) keeps (not_from_false (is_free_part part) used) in
-    let good = not_false_true (is_good_pointer layout part p) (any_below-none PLACES (λ place. not (is_good_pointer layout part place)) each p within) in
-    let both = and_parts (is_data_block layout (pointer_at part p)) _ (some_passes (eqb (pointer_at part p) 0) _ good (ne_eqb (pointer_at part p) 0 there)) in
+    let test = λ (place : ℕ). not (is_good_pointer layout part place) in
+    let each = second_fails (not (is_free_part part)) (any_below PLACES test) keeps (not_from_false (is_free_part part) used) in
+    let good = passes_then (is_good_pointer layout part p) (any_below-none PLACES test each p within) in
+    let both =
+    and_parts (is_data_block layout (pointer_at part p)) _ (second_passes (eqb (pointer_at part p) 0) _ good (ne_eqb (pointer_at part p) 0 there)) in
     let ends = and_parts (leb (data_start layout) (pointer_at part p)) _ both.0 in
-    (leb-true (data_start layout) (pointer_at part p) ends.0, ltb-true (pointer_at part p) layout.blocks ends.1, ltb-true (first_covered p) (inode_in part).size both.1)
-  where
-    not_false_true : (b : Bool) → not b ≡ false → b ≡ true
-    not_false_true true h = refl
-    not_false_true false h = absurd cc
-
-    some_passes : (x y : Bool) → (x || y) ≡ true → x ≡ false → y ≡ true
-    some_passes x y passes fails = elim (or_cases x y passes) [ inl first ↦ absurd (both_ways x fails first) | inr second ↦ second ]
+    record {
+      low = leb-true (data_start layout) (pointer_at part p) ends.0;
+      high = ltb-true (pointer_at part p) layout.blocks ends.1;
+      covers = ltb-true (first_covered p) (inode_in part).size both.1;
+    }
 
 -- An inode keeps the fourth rule where each of its pointers does so.
-pub rule_from_good : (layout : Layout) (part : Part) →
-    ((p : ℕ) → p < PLACES → pointer_at part p ≢ 0 → (data_start layout ≤ pointer_at part p) × (pointer_at part p < layout.blocks) × (first_covered p < (inode_in part).size)) → breaks_pointers layout part ≡ false
+pub rule_from_good : (layout : Layout) (part : Part) → ((p : ℕ) → p < PLACES → pointer_at part p ≢ 0 → PointsWell layout part p) →
+    breaks_pointers layout part ≡ false
 rule_from_good layout part good =
     and_right (not (is_free_part part)) _
     (any_below-from PLACES _
     (λ p within. not_from_true (is_good_pointer layout part p)
     (elim (cases_Bool (eqb (pointer_at part p) 0)) [
       | inl hole ↦ or_left (eqb (pointer_at part p) 0) _ hole
-      | inr some ↦ (let facts = good p within (eqb-false _ _ some) in
-          or_right (eqb (pointer_at part p) 0) _
-          (and_from _ _ (and_from _ _ (le-leb (data_start layout) (pointer_at part p) facts.0) (lt-ltb (pointer_at part p) layout.blocks facts.1)) (lt-ltb (first_covered p) (inode_in part).size facts.2)))
+      | inr some ↦ (let points = good p within (eqb-false _ _ some) in
+          let inside = and_from _ _ (le-leb (data_start layout) (pointer_at part p) points.low) (lt-ltb (pointer_at part p) layout.blocks points.high) in
+          or_right (eqb (pointer_at part p) 0) _ (and_from _ _ inside (lt-ltb (first_covered p) (inode_in part).size points.covers)))
     ])))
+
+pub pointers_say : (layout : Layout) (part : Part) → is_free_part part ≡ false →
+    (breaks_pointers layout part ≡ false) ↔ ((place : ℕ) → place < PLACES → pointer_at part place ≢ 0 → PointsWell layout part place)
+pointers_say layout part used = ((λ keeps p within there. good_from_rule layout part p keeps used within there), rule_from_good layout part)
 
 -- A part that keeps the first and the fourth rule points to data.
 pub points_to_data : (layout : Layout) (store : ℕ → List ℕ) (raw : List ℕ) → length raw ≡ 512 → breaks_record (part_of store raw) ≡ false →
@@ -123,7 +136,7 @@ points_to_data layout store raw len first fourth place there =
     elim (cases_Bool (is_free_part (part_of store raw))) [
       | inl free ↦ absurd (there (free_has_none store raw len (none_from_fault (inode_fault raw) first) (eqb-true (slice_index raw 0) 0 free) place))
       | inr used ↦ elim (cases_lt place PLACES) [
-        | inl within ↦ (let facts = good_from_rule layout (part_of store raw) place fourth used within there in (facts.0, facts.1))
+        | inl within ↦ (let facts = good_from_rule layout (part_of store raw) place fourth used within there in (facts.low, facts.high))
         | inr past ↦ absurd (there (none_past_places store raw place past))
       ]
     ]

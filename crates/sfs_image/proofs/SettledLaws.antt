@@ -4,10 +4,11 @@ use Rattle.std.specs.Prelude.{unwrap_or}
 use Rattle.std.specs.List.{range_with_len}
 use Rattle.sfs_image.specs.Bytes.{part}
 use Rattle.sfs_image.specs.Journal.{head_of}
-use Rattle.sfs_image.specs.Laws.{record_at}
-use Rattle.sfs_image.specs.Settled.{Stamped, newest, body_in, open_body, open_bodies, record_in, held, journal_slot, slot_count, table_record, settled}
+use Rattle.sfs_image.specs.Laws.{record_at, IsFirstFault}
+use Rattle.sfs_image.specs.Settled.{SlotFault, slot_fault_of, journal_fault_of, Stamped, newest, body_in, open_body, open_bodies, record_in, held, journal_slot, slot_count, table_record, settled}
 use Rattle.sfs_image.specs.Super.{Layout}
 use Rattle.sfs_image.proofs.NewestLaws.{IsOnce, newest_of_pieces, newest_greatest, none_newest}
+use Rattle.sfs_image.proofs.PiecesLaws.{first_of-Some}
 use Rattle.sfs_image.proofs.NewestLaws.IsOnce.{nothing, once}
 
 -- an open slot shows its body's record, and a closed one nothing
@@ -43,3 +44,8 @@ pub settled_tables : (layout : Layout) (image : List ℕ) (i : ℕ) → ((k : �
 settled_tables layout image i none =
     ap (λ (o : Option (List ℕ)). unwrap_or o (table_record layout image i))
     (held_by_slots layout image i ∙ ap (option_map (λ newest. newest.value)) (none_newest (record_at layout image i) 0 (slot_count layout) (λ k low high. none k (omega arith))))
+
+pub journal_faults_first : (layout : Layout) (image : List ℕ) (fault : SlotFault) → journal_fault_of layout image ≡ Some fault → (k : ℕ) × IsFirstFault layout image k fault
+journal_faults_first layout image fault is =
+    let first = first_of-Some (slot_count layout) (slot_fault_of layout image) fault is in
+    (first.0, record { within = first.1; here = first.2; before = first.3 })

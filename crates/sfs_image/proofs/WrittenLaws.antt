@@ -1,12 +1,12 @@
 -- Writes to the data, the table and the slots of an image that stands for parts.
-use Rattle.std.proofs.Common.{ℕ, ◌+◌, ◌*◌, ◌<◌, ◌≤◌, List, Option, sym, ap, ◌∙◌, subst, arith, inl, inr}
+use Rattle.std.proofs.Common.{◌≡◌, None, Some, ℕ, ◌+◌, ◌*◌, ◌<◌, ◌≤◌, List, Option, sym, ap, ◌∙◌, subst, arith, inl, inr}
 use Rattle.std.proofs.lemmas.Bool.{cases_eq}
 use Rattle.sfs_image.specs.ImageOf.{Transaction, given, with_opened, IsShut, IsSlotOf, IsImageOf}
-use Rattle.sfs_image.specs.ImageWrites.{WritesData, WritesRecord, WritesBody, AgreesOutside, LiesApart}
+use Rattle.sfs_image.specs.ImageWrites.{LeavesGate, WritesData, WritesRecord, WritesBody, AgreesOutside, LiesApart}
 use Rattle.sfs_image.specs.Part.{Part, pointer_at}
 use Rattle.sfs_image.specs.Settled.{table_byte, slot_byte, slot_count, journal_slot}
 use Rattle.sfs_image.specs.Super.{Layout, slot_blocks}
-use Rattle.sfs_image.proofs.FrameLaws.{part_apart, part_changes, gate_kept}
+use Rattle.sfs_image.proofs.FrameLaws.{part_apart, part_changes, gate_kept, whole_kept}
 use Rattle.sfs_image.proofs.KeptLaws.{aside_kept, slots_apart, slot_before_table, slot_before_data, table_behind_slots, records_apart, table_before_data, data_behind_slots, data_behind_table}
 use Rattle.sfs_image.proofs.LayoutLaws.{divided}
 
@@ -65,6 +65,19 @@ module _ (layout : Layout) (opened : ℕ → Option Transaction) (parts : ℕ �
       (subst (λ (o : Option Transaction). IsSlotOf layout.inodes o (journal_slot layout new k)) (sym to.shut)
       (gate_kept to.from to.n (journal_slot layout old k) (journal_slot layout new k) slot to.behind ∙ was))
 
+  -- a write at a gate that leaves the gate what it was keeps all parts
+  gate_left : (k : ℕ) → LeavesGate layout k old new → IsImageOf layout opened parts new
+  gate_left k to = slot_kept k 0 1 here_on to.within (omega arith) (go (opened k) (is.slots k to.within))
+    where
+      here_on : AgreesOutside (slot_byte layout k + 0) 1 old new
+      here_on = subst (λ (at : ℕ). AgreesOutside at 1 old new) (let none : slot_byte layout k ≡ slot_byte layout k + 0 = omega arith in none) to.written
+
+      go : (o : Option Transaction) → IsSlotOf layout.inodes o (journal_slot layout old k) → IsSlotOf layout.inodes o (journal_slot layout new k)
+      go None shut = to.gate ∙ shut
+      go (Some one) was =
+          let slot = part_changes (slot_byte layout k) 0 1 (4096 * slot_blocks layout.inodes) old new here_on (omega arith) in
+          record { gate = to.gate ∙ was.gate; whole = whole_kept 1 layout.inodes (journal_slot layout old k) (journal_slot layout new k) slot (omega arith) one was.whole }
+
 -- A write to the data keeps what an image stands for.
 pub data_written : (layout : Layout) (opened : ℕ → Option Transaction) (parts : ℕ → Part) (old new : List ℕ) → IsImageOf layout opened parts old →
     WritesData layout opened parts old new → IsImageOf layout opened parts new
@@ -79,3 +92,8 @@ table_written layout opened parts i old new is to = record_kept layout opened pa
 pub body_written : (layout : Layout) (opened : ℕ → Option Transaction) (parts : ℕ → Part) (k : ℕ) (old new : List ℕ) → IsImageOf layout opened parts old →
     WritesBody layout opened k old new → IsImageOf layout opened parts new
 body_written layout opened parts k old new is to = behind_kept layout opened parts old new is k to
+
+-- So does one at a gate that leaves the gate what it was.
+pub gate_written : (layout : Layout) (opened : ℕ → Option Transaction) (parts : ℕ → Part) (k : ℕ) (old new : List ℕ) → IsImageOf layout opened parts old →
+    LeavesGate layout k old new → IsImageOf layout opened parts new
+gate_written layout opened parts k old new is to = gate_left layout opened parts old new is k to

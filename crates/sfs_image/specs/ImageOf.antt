@@ -3,8 +3,8 @@ use Rattle.std.specs.Prelude.{◌≡◌, ◌≢◌, ℕ, ◌<◌, ◌≤◌, ◌
 use Rattle.std.specs.List.{range_with_len, find}
 use Rattle.sfs_image.specs.Bytes.{part}
 use Rattle.sfs_image.specs.Journal.{head_of, numbers_of, numbers_fault}
-use Rattle.sfs_image.specs.Part.{Part, IsGathered, pointer_at}
-use Rattle.sfs_image.specs.Settled.{Body, Stamped, newest, body_in, image_block, journal_slot, layout_of, slot_count, super_fault_of, table_record}
+use Rattle.sfs_image.specs.Part.{Part, part_of, IsGathered, pointer_at}
+use Rattle.sfs_image.specs.Settled.{Body, Stamped, newest, body_in, image_block, journal_slot, layout_of, slot_count, super_fault_of, table_record, journal_fault_of, parts_of}
 use Rattle.sfs_image.specs.Super.{Layout, data_start}
 
 -- an inode and its part
@@ -55,6 +55,15 @@ abbrev pub IsSlotOf : ℕ → Option Transaction → List ℕ → Type 0
 IsSlotOf inodes None slot = IsShut slot
 IsSlotOf inodes (Some one) slot = IsOpenWith inodes one slot
 
+-- what a slot may be: closed, or with the whole body of a transaction, whatever its gate says
+abbrev pub MayBeSlotOf : ℕ → Option Transaction → List ℕ → Type 0
+MayBeSlotOf inodes None slot = IsShut slot
+MayBeSlotOf inodes (Some one) slot = HasBody inodes one slot
+
+-- of the transactions that may be open, those of the slots whose gates are open in an image
+abbrev pub opened_among : Layout → (ℕ → Option Transaction) → List ℕ → ℕ → Option Transaction
+opened_among layout may image k = if (head_of (part 0 4096 (journal_slot layout image k))).gate then may k else None
+
 -- no two open slots have one commit stamp
 abbrev pub HaveOwnStamps : Layout → (ℕ → Option Transaction) → Type 0
 HaveOwnStamps layout opened =
@@ -76,6 +85,27 @@ pub record IsImageOf (layout : Layout) (opened : ℕ → Option Transaction) (pa
   pub table : (i : ℕ) → i < layout.inodes → given layout opened i ≡ None → table_record layout image i ≡ (parts i).raw
   pub gathered : (i : ℕ) → i < layout.inodes → IsGathered (image_block image) (with_opened layout opened parts i)
   pub pointers : (i : ℕ) → i < layout.inodes → PointsToData layout (with_opened layout opened parts i)
+
+-- the transaction of an open slot of an image: its body's inodes, with the parts that their records gather there
+abbrev pub transaction_in : Layout → List ℕ → ℕ → Option Transaction
+transaction_in layout image k =
+    let slot = journal_slot layout image k in
+    let body = body_in layout.inodes slot in
+    if (head_of (part 0 4096 slot)).gate
+    then Some (record { stamp = body.stamp; parts = map (λ entry. record { inode = entry.inode; part = part_of (image_block image) entry.bytes }) body.entries })
+    else None
+
+-- the parts that the records of the inode table gather in an image
+abbrev pub table_parts : Layout → List ℕ → ℕ → Part
+table_parts layout image i = part_of (image_block image) (table_record layout image i)
+
+-- Nothing is wrong in an image's superblock, which has this layout, nor in its journals, and the pointers of its settled parts name
+-- blocks of the data area.
+pub record IsAccepted (layout : Layout) (image : List ℕ) : Type 0 where
+  pub super : super_fault_of image ≡ None
+  pub divided : layout_of image ≡ layout
+  pub journals : journal_fault_of layout image ≡ None
+  pub pointers : (i : ℕ) → i < layout.inodes → PointsToData layout (parts_of layout image i)
 
 -- the slots of a disk with another transaction, or none, in one of them
 abbrev pub with_slot : (ℕ → Option Transaction) → ℕ → Option Transaction → ℕ → Option Transaction

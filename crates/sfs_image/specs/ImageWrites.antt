@@ -34,6 +34,18 @@ pub record MayShut (layout : Layout) (opened : ℕ → Option Transaction) (k : 
   pub table : (i : ℕ) (ours : Stamped Part) → i < layout.inodes → part_given i (opened k) ≡ Some ours → given layout (with_slot opened k None) i ≡ None →
       table_record layout image i ≡ ours.value.raw
 
+-- the table has the record of each inode's part, with what the open slots give
+abbrev pub IsFullTable : Layout → (ℕ → Option Transaction) → (ℕ → Part) → List ℕ → Type 0
+IsFullTable layout opened parts image = (i : ℕ) → i < layout.inodes → table_record layout image i ≡ (with_opened layout opened parts i).raw
+
+-- the table has the records of a transaction's parts
+abbrev pub HasRecordsOf : Layout → Transaction → List ℕ → Type 0
+HasRecordsOf layout one image = All (λ (inner : InodePart). table_record layout image inner.inode ≡ inner.part.raw) one.parts
+
+-- no open slot has a lesser commit stamp than slot k, which is open with a transaction
+abbrev pub IsOldest : Layout → (ℕ → Option Transaction) → ℕ → Transaction → Type 0
+IsOldest layout opened k one = (j : ℕ) (other : Transaction) → j < slot_count layout → j ≢ k → opened j ≡ Some other → one.stamp < other.stamp
+
 -- A write to the data area, apart from the blocks of all parts.
 pub record WritesData (layout : Layout) (opened : ℕ → Option Transaction) (parts : ℕ → Part) (old new : List ℕ) : Type 0 where
   pub at : ℕ
@@ -61,6 +73,12 @@ pub record WritesBody (layout : Layout) (opened : ℕ → Option Transaction) (k
   pub fits : from + n ≤ 4096 * slot_blocks layout.inodes
   pub behind : 1 ≤ from
   pub shut : opened k ≡ None
+
+-- A write of one byte at the gate of slot k leaves the gate what it was, as a torn one may.
+pub record LeavesGate (layout : Layout) (k : ℕ) (old new : List ℕ) : Type 0 where
+  pub within : k < slot_count layout
+  pub written : AgreesOutside (slot_byte layout k) 1 old new
+  pub gate : (head_of (part 0 4096 (journal_slot layout new k))).gate ≡ (head_of (part 0 4096 (journal_slot layout old k))).gate
 
 -- A write of one byte at the gate of slot k, which is closed and has the whole body of a transaction, opens it.
 pub record OpensGate (layout : Layout) (opened : ℕ → Option Transaction) (k : ℕ) (one : Transaction) (old new : List ℕ) : Type 0 where

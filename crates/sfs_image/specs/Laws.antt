@@ -1,13 +1,11 @@
 -- The laws of images, each of which a function of the module laws proves.
-use Rattle.std.specs.Prelude.{◌≡◌, ◌≢◌, ℕ, ◌+◌, ◌*◌, ◌/◌, ◌%◌, ◌<◌, ◌≤◌, ◌^◌, false, true, List, Option, None, Some, slice_index, if◌then◌else◌}
+use Rattle.std.specs.Prelude.{◌≡◌, ◌≢◌, ◌⊎◌, ℕ, ◌+◌, ◌*◌, ◌/◌, ◌%◌, ◌<◌, ◌≤◌, ◌^◌, List, Option, None, Some, if◌then◌else◌}
 use Rattle.sfs_image.specs.Bytes.{part}
-use Rattle.sfs_image.specs.ImageOf.{Transaction, with_opened, with_slot, IsImageOf, FreshBlock, StandIn, TurnsInto}
-use Rattle.sfs_image.specs.ImageWrites.{WritesData, WritesRecord, WritesBody, OpensGate, ShutsGate}
+use Rattle.sfs_image.specs.ImageOf.{MayBeSlotOf, opened_among, IsSlotOf, IsAccepted, transaction_in, table_parts, Transaction, with_opened, with_slot, IsImageOf, FreshBlock, StandIn, TurnsInto}
+use Rattle.sfs_image.specs.ImageWrites.{IsFullTable, HasRecordsOf, IsOldest, MayShut, LeavesGate, WritesData, WritesRecord, WritesBody, OpensGate, ShutsGate}
 use Rattle.sfs_image.specs.Journal.{Entry, head_of, entries_of, numbers_of, numbers_fault, number_byte, record_byte, records_start, AreEntries, HasEntries}
-use Rattle.sfs_image.specs.Part.{Part, IsGathered, part_of, pointer_at, file_byte, is_free_part}
-use Rattle.sfs_image.specs.Rules.{HasBlockAt, breaks_bytes_rule}
-use Rattle.sfs_image.specs.Seen.{FILE_BLOCKS}
-use Rattle.sfs_image.specs.Settled.{image_block, Stamped, body_in, record_in, journal_slot, slot_byte, slot_count, table_byte, table_record, settled, parts_of, super_fault_of, journal_fault_of}
+use Rattle.sfs_image.specs.Part.{Part, IsGathered}
+use Rattle.sfs_image.specs.Settled.{SlotFault, slot_fault_of, image_block, Stamped, body_in, record_in, journal_slot, slot_byte, slot_count, table_byte, table_record, settled, parts_of, super_fault_of, journal_fault_of}
 use Rattle.sfs_image.specs.Super.{Layout, slot_blocks, slot_start, table_start, data_start}
 
 -- The parts of a disk lie one behind another: within a slot the numbers of all inodes behind the head's block, and their records
@@ -62,31 +60,16 @@ abbrev pub SettledIsTables : Type 0
 SettledIsTables = (layout : Layout) (image : List ℕ) (i : ℕ) → ((k : ℕ) → k < slot_count layout → record_at layout image i k ≡ None)
     → settled layout image i ≡ table_record layout image i
 
--- A byte of a file is 0 where its block has no pointer.
-abbrev pub HolesAreZeros : Type 0
-HolesAreZeros = (store : ℕ → List ℕ) (raw : List ℕ) (place : ℕ) → place < 4096 * FILE_BLOCKS → pointer_at (part_of store raw) (place / 4096) ≡ 0
-    → file_byte (part_of store raw) place ≡ 0
+-- the first slot with a wrong place, and that place
+pub record IsFirstFault (layout : Layout) (image : List ℕ) (k : ℕ) (fault : SlotFault) : Type 0 where
+  pub within : k < slot_count layout
+  pub here : slot_fault_of layout image k ≡ Some fault
+  pub before : (j : ℕ) → j < k → slot_fault_of layout image j ≡ None
 
--- A byte of a file is that of the block that its block's pointer names.
-abbrev pub BytesAreTheBlocks : Type 0
-BytesAreTheBlocks = (store : ℕ → List ℕ) (raw : List ℕ) (place : ℕ) → place < 4096 * FILE_BLOCKS → pointer_at (part_of store raw) (place / 4096) ≢ 0
-    → file_byte (part_of store raw) place ≡ slice_index (store (pointer_at (part_of store raw) (place / 4096))) (place % 4096)
-
--- A part is the same in each store that has the same blocks where the part has pointers.
-abbrev pub PartsAreWhatTheyReach : Type 0
-PartsAreWhatTheyReach = (store other : ℕ → List ℕ) (raw : List ℕ)
-    → ((place : ℕ) → pointer_at (part_of store raw) place ≢ 0 → other (pointer_at (part_of store raw) place) ≡ store (pointer_at (part_of store raw) place))
-    → part_of other raw ≡ part_of store raw
-
--- A free inode, other than inode 0, breaks no rule but the first.
-abbrev pub FreeInodesBreakNone : Type 0
-FreeInodesBreakNone = (rule : ℕ) (layout : Layout) (parts : ℕ → Part) (i : ℕ) → rule ≢ 1 → i ≢ 0 → is_free_part (parts i) ≡ true
-    → breaks_bytes_rule rule layout parts i ≡ false
-
--- Where inodes keep the fifth rule each block stands at one place of one of those in use.
-abbrev pub BlocksHaveOnePlace : Type 0
-BlocksHaveOnePlace = (parts : ℕ → Part) (i j p q : ℕ) → HasBlockAt parts i p → HasBlockAt parts j q → pointer_at (parts i) p ≡ pointer_at (parts j) q
-    → (i ≡ j) × (p ≡ q)
+-- The fault of an image's journals is that of the first slot that has one.
+abbrev pub JournalFaultsAreFirst : Type 0
+JournalFaultsAreFirst = (layout : Layout) (image : List ℕ) (fault : SlotFault) → journal_fault_of layout image ≡ Some fault
+    → (k : ℕ) × IsFirstFault layout image k fault
 
 -- what is read of an image that stands for parts: nothing wrong in its superblock and its journals, and those settled parts
 pub record IsReadAs (layout : Layout) (opened : ℕ → Option Transaction) (parts : ℕ → Part) (image : List ℕ) : Type 0 where
@@ -98,6 +81,15 @@ pub record IsReadAs (layout : Layout) (opened : ℕ → Option Transaction) (par
 abbrev pub ImagesStandForParts : Type 0
 ImagesStandForParts = (layout : Layout) (opened : ℕ → Option Transaction) (parts : ℕ → Part) (image : List ℕ) → IsImageOf layout opened parts image
     → IsReadAs layout opened parts image
+
+-- Where each slot may be that of a transaction, each is, of those whose gates are open.
+abbrev pub GatesSayWhichAreOpen : Type 0
+GatesSayWhichAreOpen = (layout : Layout) (may : ℕ → Option Transaction) (image : List ℕ) (k : ℕ) → MayBeSlotOf layout.inodes (may k) (journal_slot layout image k)
+    → IsSlotOf layout.inodes (opened_among layout may image k) (journal_slot layout image k)
+
+-- An image in which nothing is wrong up to where its pointers point stands for the parts of its table, with its open slots open.
+abbrev pub AcceptedImagesStand : Type 0
+AcceptedImagesStand = (layout : Layout) (image : List ℕ) → IsAccepted layout image → IsImageOf layout (transaction_in layout image) (table_parts layout image) image
 
 -- A write to the data area, whole or torn, apart from the blocks of all parts keeps what an image stands for.
 abbrev pub DataWritesKeep : Type 0
@@ -113,6 +105,11 @@ TableWritesKeep = (layout : Layout) (opened : ℕ → Option Transaction) (parts
 abbrev pub BodyWritesKeep : Type 0
 BodyWritesKeep = (layout : Layout) (opened : ℕ → Option Transaction) (parts : ℕ → Part) (k : ℕ) (old new : List ℕ) → IsImageOf layout opened parts old
     → WritesBody layout opened k old new → IsImageOf layout opened parts new
+
+-- A write at a gate that leaves the gate what it was keeps what an image stands for.
+abbrev pub LeftGatesKeep : Type 0
+LeftGatesKeep = (layout : Layout) (opened : ℕ → Option Transaction) (parts : ℕ → Part) (k : ℕ) (old new : List ℕ) → IsImageOf layout opened parts old
+    → LeavesGate layout k old new → IsImageOf layout opened parts new
 
 -- Where fresh blocks stand in an image that turn the part of an inode into a new one, the image has all that the new part reaches.
 abbrev pub FreshBlocksMakeParts : Type 0
@@ -136,3 +133,13 @@ abbrev pub ShutGatesKeep : Type 0
 ShutGatesKeep = (layout : Layout) (opened : ℕ → Option Transaction) (parts : ℕ → Part) (k : ℕ) (old new : List ℕ) → IsImageOf layout opened parts old
     → ShutsGate layout opened k old new
     → IsShutAfter layout opened parts k new
+
+-- The slot with the least commit stamp may be closed where the table has the records of all parts, or those of its own.
+abbrev pub OldestMayShut : Type 0
+OldestMayShut = (layout : Layout) (opened : ℕ → Option Transaction) (parts : ℕ → Part) (k : ℕ) (one : Transaction) (image : List ℕ) → k < slot_count layout
+    → opened k ≡ Some one → IsOldest layout opened k one → (IsFullTable layout opened parts image) ⊎ (HasRecordsOf layout one image) → MayShut layout opened k image
+
+-- A table that has the records of all parts has them once a gate has shut.
+abbrev pub TablesStayFull : Type 0
+TablesStayFull = (layout : Layout) (opened : ℕ → Option Transaction) (parts : ℕ → Part) (k : ℕ) (old new : List ℕ) → IsImageOf layout opened parts old
+    → ShutsGate layout opened k old new → IsFullTable layout opened parts old → IsFullTable layout (with_slot opened k None) (with_opened layout opened parts) new

@@ -1,8 +1,16 @@
+// What is proved of the definitions: each function's contract is a law.
 ghost use Rattle.std.specs.Prelude.{◌≡◌, ℕ, None, false};
 ghost use Rattle.sfs_image.specs.Format.{IsFormat};
 ghost use Rattle.sfs_image.specs.Inode.{IsInode, inode_of, inode_fault, inode_bytes, ArePointers, pointers_of, pointers_bytes};
 ghost use Rattle.sfs_image.specs.Journal.{Head, IsHead, head_of, head_bytes};
-ghost use Rattle.sfs_image.specs.Laws.{FreshBlocksMakeParts, LayoutsDivide, SlotsAreNumbered, EntriesAreReadAgain, SettledIsNewest, SettledIsTables, HolesAreZeros, BytesAreTheBlocks, PartsAreWhatTheyReach, FreeInodesBreakNone, BlocksHaveOnePlace, ImagesStandForParts, DataWritesKeep, TableWritesKeep, BodyWritesKeep, OpenedGatesAdd, ShutGatesKeep};
+ghost use Rattle.sfs_image.specs.Laws.{AcceptedImagesStand, LeftGatesKeep, GatesSayWhichAreOpen};
+ghost use Rattle.sfs_image.specs.Laws.{JournalFaultsAreFirst, FreshBlocksMakeParts, LayoutsDivide};
+ghost use Rattle.sfs_image.specs.Laws.{SlotsAreNumbered, EntriesAreReadAgain, SettledIsNewest};
+ghost use Rattle.sfs_image.specs.Laws.{SettledIsTables, ImagesStandForParts, DataWritesKeep, TableWritesKeep};
+ghost use Rattle.sfs_image.specs.Laws.{OldestMayShut, TablesStayFull, BodyWritesKeep, OpenedGatesAdd, ShutGatesKeep};
+ghost use Rattle.sfs_image.specs.LawsOfParts.{BytesAreShown, SlotsAreShown, SizesSay, PointersSay, TailsSay};
+ghost use Rattle.sfs_image.specs.LawsOfParts.{SlotsSay, HolesAreZeros, BytesAreTheBlocks};
+ghost use Rattle.sfs_image.specs.LawsOfParts.{PartsAreWhatTheyReach, FreeInodesBreakNone, BlocksHaveOnePlace};
 ghost use Rattle.sfs_image.specs.Slot.{IsSlot, slot_of, slot_fault, slot_bytes};
 ghost use Rattle.sfs_image.specs.SlotBlock.{AreSlots, slots_of, slots_fault, slots_bytes};
 ghost use Rattle.sfs_image.specs.Super.{IsLayout, super_of, super_fault, super_bytes};
@@ -120,4 +128,52 @@ pub fn shut_gates_keep()
 /// Fresh blocks that turn the part of an inode into a new one make the new one in an image.
 pub fn fresh_blocks_make_parts()
     ensures { FreshBlocksMakeParts }
+{}
+
+/// The fault of an image's journals is that of the first slot that has one.
+pub fn journal_faults_are_first()
+    ensures { JournalFaultsAreFirst }
+{}
+
+/// A file shows its bytes, as many as its size.
+pub fn files_show_their_bytes()
+    ensures { BytesAreShown }
+{}
+
+/// A directory shows the slots of its blocks, block after block.
+pub fn directories_show_their_slots()
+    ensures { SlotsAreShown }
+{}
+
+/// What the rules on sizes, pointers, last blocks and slots say: an inode keeps one exactly where a fact of it holds.
+pub fn rules_say()
+    ensures sizes { SizesSay }
+    ensures pointers { PointersSay }
+    ensures tails { TailsSay }
+    ensures slots { SlotsSay }
+{}
+
+/// An image in which nothing is wrong stands for the parts of its table, with its open slots open.
+pub fn accepted_images_stand()
+    ensures { AcceptedImagesStand }
+{}
+
+/// A write at a gate that leaves the gate what it was keeps what an image stands for.
+pub fn left_gates_keep()
+    ensures { LeftGatesKeep }
+{}
+
+/// Where each slot may be that of a transaction, each is, of those whose gates are open.
+pub fn gates_say_which_are_open()
+    ensures { GatesSayWhichAreOpen }
+{}
+
+/// The open slot with the least commit stamp may be closed where the table has the records of all parts, or those of its own.
+pub fn oldest_may_shut()
+    ensures { OldestMayShut }
+{}
+
+/// A table that has the records of all parts has them once a gate has shut.
+pub fn tables_stay_full()
+    ensures { TablesStayFull }
 {}

@@ -25,6 +25,7 @@ pub mod Names
 pub mod Numbered
 pub mod Numbers
 pub mod OwnEffects
+pub mod OwnEntries
 pub mod Parts
 pub mod Readings
 pub mod Removed
@@ -37,4 +38,5 @@ pub mod SoundTree
 pub mod SoundTrees
 pub mod StoreKept
 pub mod Stored
+pub mod Touches
 pub mod Walks

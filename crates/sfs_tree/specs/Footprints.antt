@@ -64,6 +64,23 @@ row_after rows (Moves directory other to_directory to_name child) at name =
     rows at name
 row_after rows (Edits file edit) at name = rows at name
 
+-- A call names this name in this directory.
+abbrev pub IsNamedPlace : Call → ℕ → List ℕ → Type 0
+IsNamedPlace (call.Look at name) directory other = (at.0 ≡ directory) × (name ≡ other)
+IsNamedPlace (call.Make at name kind) directory other = (at.0 ≡ directory) × (name ≡ other)
+IsNamedPlace (call.Link file at name) directory other = (at.0 ≡ directory) × (name ≡ other)
+IsNamedPlace (call.Unlink at name) directory other = (at.0 ≡ directory) × (name ≡ other)
+IsNamedPlace (call.Rmdir at name) directory other = (at.0 ≡ directory) × (name ≡ other)
+IsNamedPlace (call.Rename at name to_directory to_name) directory other =
+    ((at.0 ≡ directory) × (name ≡ other)) ⊎ ((to_directory.0 ≡ directory) × (to_name ≡ other))
+IsNamedPlace _ directory other = ⊥
+
+-- the file whose bytes a call puts or cuts
+abbrev pub named_file : Call → Option ℕ
+named_file (call.Write file at bytes) = Some file.0
+named_file (call.Trunc file size) = Some file.0
+named_file _ = None
+
 -- whether a call may change the part of a directory that has the names which pass a test
 abbrev pub touches_part : Call → ℕ → (List ℕ → Bool) → Bool
 touches_part (call.Make at name kind) directory test = is_in_part directory test at.0 name

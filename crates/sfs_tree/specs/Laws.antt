@@ -1,5 +1,5 @@
 -- The laws of the tree of one thread, each of which a function of the module laws proves.
-use Rattle.std.specs.Prelude.{◌≡◌, ℕ, Bool, ◌+◌, ◌*◌, ◌<◌, ◌≤◌, ◌==◌, ◌||◌, ◌&&◌, true, false, is_some, List, length, take, Option, None, Vec}
+use Rattle.std.specs.Prelude.{◌≡◌, ℕ, Bool, ◌+◌, ◌*◌, ◌<◌, ◌≤◌, ◌==◌, ◌||◌, ◌&&◌, true, false, is_some, ◌^◌, List, length, take, filter, slice_get, Option, Some, None, Vec}
 use Rattle.std.specs.FinMap.{get, len}
 use Rattle.sfs_tree.specs.declared.call.Call.{Call}
 use Rattle.sfs_tree.specs.Lock.{needs_lock, stands_of, AreHolders, EndsAtRoot}
@@ -14,10 +14,10 @@ use Rattle.sfs_tree.specs.History.{tree_after, IsLegal}
 use Rattle.sfs_tree.specs.Changes.{rows_at, bytes_at, changes_by}
 use Rattle.sfs_tree.specs.Logged.{logged_by, erased_entry}
 use Rattle.std.specs.declared.alloc.Global.{Global}
-use Rattle.sfs_tree.specs.Merged.{AreCoresOf, MakeTheHistory}
+use Rattle.sfs_tree.specs.Merged.{is_core, AreCoresOf, MakeTheHistory}
 use Rattle.sfs_tree.specs.Readings.{Agree}
 use Rattle.sfs_tree.specs.Parts.{part_after, links_after, bytes_after, kind_after, count_after}
-use Rattle.sfs_tree.specs.Footprints.{row_after, moves_directory_between, DoesItsOwn, KeepsRest}
+use Rattle.sfs_tree.specs.Footprints.{IsNamedPlace, named_file, touches_part, touches_bytes, touches_links, row_after, moves_directory_between, DoesItsOwn, KeepsRest}
 use Rattle.sfs_base.specs.declared.numbers.Kind.{Kind}
 
 -- a sound tree, each node of which has a number that was given
@@ -156,3 +156,24 @@ LogsErase = (tree : TreeState) (core stamp : ℕ) (c : Call) → IsSoundTree tre
 -- Each tree of a legal history from a sound one within its limits is within them.
 abbrev pub HistoriesStayWithin : Type 0
 HistoriesStayWithin = (first : TreeState) (history : List Entry) (count : ℕ) → IsSoundTree first → IsLegal first history → IsWithinLimits first → IsWithinLimits (tree_after first (take count history))
+
+-- A tree agrees with itself on what a call reads.
+abbrev pub TreesAgreeWithThemselves : Type 0
+TreesAgreeWithThemselves = (tree : TreeState) (core : ℕ) (c : Call) → Agree tree tree core c
+
+-- Of a legal history the lists of its cores' own entries are its cores' lists.
+abbrev pub OwnEntriesAreCores : Type 0
+OwnEntriesAreCores = (first : TreeState) (history : List Entry) (parts : List (Vec Entry Global)) → IsLegal first history → length history < 2 ^ 64 → length parts ≡ length first.made
+    → ((core : ℕ) (part : Vec Entry Global) → slice_get parts core ≡ Some part → part.items ≡ filter (is_core core) history) → AreCoresOf parts history
+
+-- A call touches only parts in which a name stands that it names.
+abbrev pub TouchesAreNamed : Type 0
+TouchesAreNamed = (c : Call) (directory : ℕ) (test : List ℕ → Bool) → touches_part c directory test ≡ true → (name : List ℕ) × IsNamedPlace c directory name × (test name ≡ true)
+
+-- A call touches the bytes of one file at most, which it names, and the links of one node at most.
+pub record TouchesOne (tree : TreeState) (core : ℕ) (c : Call) : Type 0 where
+  pub bytes : (node : ℕ) → touches_bytes c node ≡ true → named_file c ≡ Some node
+  pub links : (node other : ℕ) → touches_links tree core c node ≡ true → touches_links tree core c other ≡ true → node ≡ other
+
+abbrev pub CallsTouchOne : Type 0
+CallsTouchOne = (tree : TreeState) (core : ℕ) (c : Call) → TouchesOne tree core c

@@ -6,6 +6,7 @@ ghost use Rattle.sfs_tree.specs.Laws.{CallsDoTheirOwn, CallsKeepTheRest, Reading
 ghost use Rattle.sfs_tree.specs.Laws.{LocksAreSeen, HoldersStay, WaysStay, DeadStayDead, WalksMeetThoseAbove};
 ghost use Rattle.sfs_tree.specs.Laws.{ReadHoldersStay, ReadHoldersAreAbove, StandingIsAlive};
 ghost use Rattle.sfs_tree.specs.Laws.{LogsErase, HistoriesStayWithin};
+ghost use Rattle.sfs_tree.specs.Laws.{TreesAgreeWithThemselves, OwnEntriesAreCores, TouchesAreNamed, CallsTouchOne};
 ghost use Rattle.sfs_tree.specs.Laws.{RowsAreTheTrees, BytesAreTheTrees, CoresMakeTheHistory};
 
 /// The root alone is a sound tree.
@@ -146,4 +147,24 @@ pub fn logs_erase()
 /// Each tree of a legal history from one within its limits is within them.
 pub fn histories_stay_within()
     ensures { HistoriesStayWithin }
+{}
+
+/// A tree agrees with itself on what a call reads.
+pub fn trees_agree_with_themselves()
+    ensures { TreesAgreeWithThemselves }
+{}
+
+/// Of a legal history the lists of its cores' own entries are its cores' lists.
+pub fn own_entries_are_cores()
+    ensures { OwnEntriesAreCores }
+{}
+
+/// A call touches only parts in which a name stands that it names.
+pub fn touches_are_named()
+    ensures { TouchesAreNamed }
+{}
+
+/// A call touches the bytes of one file and the links of one node at most.
+pub fn calls_touch_one()
+    ensures { CallsTouchOne }
 {}

@@ -1,8 +1,10 @@
 // Sources and sinks in memory, and the calls that read and write all.
 use sfs_base::{
-    BytesSink, BytesSource, ReadAllFault, Sink, Source, SureSource, WriteFault, read_all, write_all,
+    BytesSink, BytesSource, ReadAllFault, Sink, Source, StdSink, StdSource, SureSource, WriteFault,
+    read_all, write_all,
 };
 use std::alloc::Global;
+use std::io::{self, ErrorKind, Read, Write};
 use std::process::Abort;
 use std::test::Fail;
 
@@ -13,6 +15,57 @@ fn pattern(alloc: Global, count: u32) -> Result<Vec<u8>, Fail> {
         bytes.push((i % 251) as u8)?;
     }
     Ok(bytes)
+}
+
+// A reader that is interrupted before each call that gives a byte.
+#[derive(Drop)]
+struct Stutters {
+    bytes: Vec<u8>,
+    ready: bool,
+}
+
+impl Read for Stutters {
+    fn read(&mut self, buf: &mut [u8]) -> io::Result<usize> {
+        self.ready = !self.ready;
+        if self.ready {
+            return Err(ErrorKind::Interrupted.into());
+        }
+        match (buf.first_mut(), self.bytes.pop()) {
+            (Some(to), Some(byte)) => {
+                *to = byte;
+                Ok(1)
+            }
+            _ => Ok(0),
+        }
+    }
+}
+
+// A writer that takes one byte a call, is interrupted before each, and is full after so many.
+#[derive(Drop)]
+struct Sips {
+    bytes: Vec<u8>,
+    room: usize,
+    ready: bool,
+}
+
+impl Write for Sips {
+    fn write(&mut self, buf: &[u8]) -> io::Result<usize> {
+        self.ready = !self.ready;
+        if self.ready {
+            return Err(ErrorKind::Interrupted.into());
+        }
+        if self.bytes.len() == self.room {
+            return Err(ErrorKind::StorageFull.into());
+        }
+        match buf.first() {
+            Some(byte) if self.bytes.push(*byte).is_ok() => Ok(1),
+            _ => Ok(0),
+        }
+    }
+
+    fn flush(&mut self) -> io::Result<()> {
+        Ok(())
+    }
 }
 
 // Asserts why a source can't be read whole.
@@ -71,6 +124,40 @@ fn a_sink_takes_all_or_fails(rt: HostRuntime) -> Result<(), Fail> {
         Err(WriteFault { taken: 0 })
     );
     assert_eq!(rt; sink.bytes(), b"helloyou".as_slice());
+    assert_eq!(rt; sink.faults(), 1);
+    Ok(())
+}
+
+#[test]
+fn an_interrupted_reader_is_read_to_its_end(rt: HostRuntime) -> Result<(), Fail> {
+    let alloc = rt.alloc();
+    let mut backwards = Vec::new(alloc);
+    backwards.extend_from_slice(b"olleh")?;
+    let mut source = StdSource::new(Stutters {
+        bytes: backwards,
+        ready: false,
+    });
+    assert_eq!(rt;
+        read_all(alloc, &mut source, 5)?.as_slice(),
+        b"hello".as_slice()
+    );
+    assert_eq!(rt; source.faults(), 0);
+    Ok(())
+}
+
+#[test]
+fn a_writer_of_one_byte_a_call_takes_all_or_fails(rt: HostRuntime) -> Result<(), Fail> {
+    let mut sink = StdSink::new(Sips {
+        bytes: Vec::new(rt.alloc()),
+        room: 7,
+        ready: false,
+    });
+    assert_eq!(rt; write_all(&mut sink, b"hello".as_slice()), Ok(()));
+    assert_eq!(rt; sink.faults(), 0);
+    assert_eq!(rt;
+        write_all(&mut sink, b"you".as_slice()),
+        Err(WriteFault { taken: 2 })
+    );
     assert_eq!(rt; sink.faults(), 1);
     Ok(())
 }

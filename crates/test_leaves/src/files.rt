@@ -79,3 +79,15 @@ fn blocks_keep_their_marks(rt: HostRuntime) -> Result<(), Fail> {
     assert!(rt; LONGEST_FILE >= 67_551_232);
     Ok(())
 }
+
+#[test]
+fn a_truncation_by_one_byte_touches_the_last_block(rt: HostRuntime) -> Result<(), Fail> {
+    let mut file = FileBytes::new(rt.alloc());
+    assert_eq!(rt;
+        file.write(4_095, b"x".as_slice())?,
+        Touched { first: 0, end: 1 }
+    );
+    assert_eq!(rt; file.trunc(4_095)?, Touched { first: 0, end: 1 });
+    assert_eq!(rt; file.size(), 4_095);
+    Ok(())
+}

@@ -94,3 +94,18 @@ fn a_grant_ends_and_what_was_given_up_is_free(rt: HostRuntime) -> Result<(), Fai
     map.give_back(after);
     Ok(())
 }
+
+#[test]
+fn two_grants_are_apart_and_end_apart(rt: HostRuntime) -> Result<(), Fail> {
+    let mut map = map(rt.alloc())?;
+    let kept = reserve(&rt, &mut map, 1, 1);
+    let ended = reserve(&rt, &mut map, 1, 1);
+    assert_granted(&rt, &kept, &[1], &[4]);
+    assert_granted(&rt, &ended, &[2], &[6]);
+    map.give_back(ended);
+    let after = reserve(&rt, &mut map, 2, 2);
+    assert_granted(&rt, &after, &[2, 3], &[6, 8]);
+    map.give_back(after);
+    map.give_back(kept);
+    Ok(())
+}

@@ -1,6 +1,6 @@
 // Copies of calls, replies and changes.
 use sfs_base::{Kind, Name, NodeId, NodeList, Stamp};
-use sfs_tree::{Act, Call, Change, NameKind, NameRows, Reply};
+use sfs_tree::{Act, Ancestors, Call, Change, NameKind, NameRows, Reply};
 use std::test::Fail;
 
 #[test]
@@ -59,14 +59,14 @@ fn a_change_and_its_copy_are_equal(rt: HostRuntime) -> Result<(), Fail> {
         kind: Kind::File,
         act: Act::Remove,
         other: None,
-        above,
+        above: Ancestors::new(above),
     };
     let copy = change.copy()?;
     assert_eq!(rt; copy.stamp, Stamp(9));
     assert_eq!(rt; copy.name.bytes(), b"a".as_slice());
     assert_eq!(rt; copy.act, Act::Remove);
     assert_eq!(rt; copy.other, None);
-    assert_eq!(rt; copy.above.len(), 1);
+    assert_eq!(rt; copy.above.nodes().len(), 1);
     Ok(())
 }
 

@@ -1,7 +1,7 @@
 // Net changes of a directory: rows, the changes made to them, and the net that is due.
 use absorb::{Net, NetRow, net_of};
-use sfs_base::{Kind, Name, NodeId, NodeList, Stamp};
-use sfs_tree::{Act, Change, Changes, NameMap};
+use sfs_base::{Kind, Name, NodeId, Stamp};
+use sfs_tree::{Act, Ancestors, Change, Changes, NameMap};
 use std::alloc::Global;
 use std::process::Abort;
 use std::test::Fail;
@@ -44,7 +44,7 @@ fn change(
         kind: Kind::File,
         act,
         other: None,
-        above: NodeList::new(alloc),
+        above: Ancestors::none(alloc),
     });
     Ok(())
 }

@@ -1,7 +1,4 @@
-use Rattle.std.proofs.Common.{List, subst}
 use Rattle.std.proofs.lemmas.Result.{IfOk-weaker}
-use Rattle.flush_core.specs.declared.past.OwnChange.{OwnChange}
-use Rattle.flush_core.specs.Engine.{OfSome, Joins, NamesFor}
 use Rattle.flush_core.proofs.Concerned.{are_concerned}
 use Rattle.flush_core.proofs.closure.concerned_by.Goals as goal
 
@@ -10,5 +7,5 @@ returns c =
     IfOk-weaker c.with_named.result _ _
     (λ concerned joins first history inodes node is are.
     are_concerned first history c.args.past.now is c.args.cut.now inodes c.args.members.now (record { node = node; stamp = c.args.stamp }) are concerned
-    (subst (λ (changes : List OwnChange). Joins (OfSome changes (NamesFor c.args.cut.now c.args.stamp c.args.members.now)) c.args.members.now concerned) c.deref.ensures.value joins))
+    (rw c.deref.ensures.value at joins))
     c.with_named.ensures

@@ -18,4 +18,4 @@ loop-node-preserved c = subst (λ l. IsLeastOf (map flight_as c.args.flights.now
 
 pub returns : goal.returns
 returns c = least_in (map flight_as c.args.flights.now) c.args.nodes.now c.in_ok-list.list.items c.loop-node.least c.in_ok-list.ensures
-    (subst (λ l. IsLeastOf (map flight_as c.args.flights.now) l c.loop-node.least) (take_all c.loop-node.node-index c.deref-node-items.result.now c.loop-node-test.false ∙ c.deref-node-items.ensures.value) c.loop-node.invariant)
+    (rw (take_all c.loop-node.node-index c.deref-node-items.result.now c.loop-node-test.false ∙ c.deref-node-items.ensures.value) at c.loop-node.invariant)

@@ -1,4 +1,4 @@
-use Rattle.std.proofs.Common.{◌≡◌, ◌<◌, ◌≤◌, ◌+◌, ℕ, List, [], ◌∷◌, ◌++◌, length, map, take, drop, set, refl, sym, ap, subst, ◌∙◌, arith}
+use Rattle.std.proofs.Common.{◌≡◌, ◌≤◌, ◌+◌, ℕ, List, [], ◌∷◌, ◌++◌, length, map, take, drop, set, refl, sym, ap, subst, ◌∙◌, arith}
 use Rattle.std.proofs.lemmas.List.{append-nil, drop_all, take_all}
 use Rattle.flush_core.specs.declared.flight.InFlight.{InFlight}
 use Rattle.flush_core.specs.Machine.{opened_for}
@@ -10,7 +10,7 @@ pub loop-flight-preserved : goal.loop-flight-preserved
 loop-flight-preserved c =
     subst (λ flight. IsChanged (kept_opened c.args.commit) c.deref_mut-flight-items.result.now (c.loop-flight.flight-index + 1) (set c.loop-flight.flight-items c.loop-flight.flight-index flight))
     (ap (kept_opened c.args.commit) c.flight-item.is ∙ sym c.open_for.ensures)
-    (changed_more (kept_opened c.args.commit) c.deref_mut-flight-items.result.now c.loop-flight.flight-items c.loop-flight.flight-index c.flight-item.result c.loop-flight.invariant (subst (λ n. c.loop-flight.flight-index < n) (sym c.loop-flight.auto.flight-items) c.loop-flight-test.true) c.flight-item.is)
+    (changed_more (kept_opened c.args.commit) c.deref_mut-flight-items.result.now c.loop-flight.flight-items c.loop-flight.flight-index c.flight-item.result c.loop-flight.invariant (rw c.loop-flight.auto.flight-items c.loop-flight-test.true) c.flight-item.is)
 
 -- a whole list put back is that list
 put_back : {X : Type 0} (n : ℕ) (xs old : List X) → length old ≤ n → length xs ≡ length old → take n (xs ++ drop (length xs) old) ≡ xs
@@ -31,6 +31,6 @@ opened_as commit (flight ∷ flights) = ap (λ l. opened_for commit (flight_as f
 pub returns : goal.returns
 returns c =
     ap (map flight_as) (put_back c.args.flights.now.len c.loop-flight.flight-items c.args.flights.now.items (whole (ap length c.deref_mut-flight-items.ensures.value) c.deref_mut-flight-items.ensures.len) (c.loop-flight.auto.flight-items ∙ ap length c.deref_mut-flight-items.ensures.value)
-    ∙ changed_all (kept_opened c.args.commit) c.deref_mut-flight-items.result.now c.loop-flight.flight-items c.loop-flight.flight-index c.loop-flight.invariant (subst (λ n. n ≤ c.loop-flight.flight-index) (sym c.loop-flight.auto.flight-items) c.loop-flight-test.false)
+    ∙ changed_all (kept_opened c.args.commit) c.deref_mut-flight-items.result.now c.loop-flight.flight-items c.loop-flight.flight-index c.loop-flight.invariant (rw c.loop-flight.auto.flight-items c.loop-flight-test.false)
     ∙ ap (map (kept_opened c.args.commit)) c.deref_mut-flight-items.ensures.value)
     ∙ opened_as c.args.commit c.args.flights.now.items

@@ -1,4 +1,4 @@
-use Rattle.std.proofs.Common.{◌∷◌, ℕ, slice_index, add-one, sym, ap, subst}
+use Rattle.std.proofs.Common.{◌∷◌, ℕ, slice_index, add-one, sym, ap}
 use borrow.Author.Count.{below_more}
 use Rattle.flush_core.specs.Broken.{IsUnplaced}
 use Rattle.flush_core.proofs.Basics.{both}
@@ -8,5 +8,5 @@ pub loop-holder-preserved : goal.loop-holder-preserved
 loop-holder-preserved c = record {
   node_is = ap (λ (place : ℕ). slice_index (c.args.change.now.directory ∷ c.args.above.now) place) (sym (add-one c.loop-holder.holder-index));
   none = below_more (λ place. IsUnplaced c.args.changes.now c.args.cut.now c.args.change.now.stamp (slice_index (c.args.change.now.directory ∷ c.args.above.now) place) (slice_index c.args.above.now place) → ⊥) c.loop-holder.holder-index c.loop-holder.invariant.none
-      (λ unplaced. both (c.is_unplaced.ensures.1 (subst (λ (n : ℕ). IsUnplaced c.args.changes.now c.args.cut.now c.args.change.now.stamp n (slice_index c.args.above.now c.loop-holder.holder-index)) (sym c.loop-holder.invariant.node_is) unplaced)) c.if-is_unplaced.false);
+      (λ unplaced. both (c.is_unplaced.ensures.1 (rw c.loop-holder.invariant.node_is unplaced)) c.if-is_unplaced.false);
 }

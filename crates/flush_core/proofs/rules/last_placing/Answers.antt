@@ -1,7 +1,6 @@
-use Rattle.std.proofs.Common.{Option, ℕ, List, sym, subst, ◌∙◌, ap, Some, take, ◌+◌}
+use Rattle.std.proofs.Common.{Option, ℕ, sym, subst, ◌∙◌, ap, Some, take, ◌+◌}
 use Rattle.std.proofs.lemmas.List.{take_all}
 use Rattle.flush_core.specs.Broken.{IsLatest}
-use Rattle.flush_core.specs.declared.past.OwnChange.{OwnChange}
 use Rattle.flush_core.proofs.Basics.{both}
 use Rattle.flush_core.proofs.Placings.{latest_more, latest_skip}
 use Rattle.flush_core.proofs.rules.last_placing.Goals as goal
@@ -18,4 +17,4 @@ loop-change-preserved c = elim c.if-places_below.branch [
 ]
 
 pub returns : goal.returns
-returns c = subst (λ (l : List OwnChange). IsLatest l c.args.node c.args.below c.loop-change.last) (take_all c.loop-change.change-index c.args.changes.now c.loop-change-test.false) c.loop-change.invariant
+returns c = rw (take_all c.loop-change.change-index c.args.changes.now c.loop-change-test.false) at c.loop-change.invariant

@@ -1,12 +1,12 @@
-use Rattle.std.proofs.Common.{List, ℕ, sym, ap, subst, ◌∙◌, ◌+◌}
-use Rattle.flush_core.proofs.Marks.{AreMarkedBelow, marked_more, marked_skip, marked_none, marked_all}
+use Rattle.std.proofs.Common.{ap, ◌∙◌}
+use Rattle.flush_core.proofs.Marks.{marked_more, marked_skip, marked_none, marked_all}
 use Rattle.flush_core.proofs.sets.marked.Goals as goal
 use Rattle.flush_core.proofs.sets.marked.Goals.{then-mark+in_ok-push, else-mark}
 
 pub loop-place-preserved : goal.loop-place-preserved
 loop-place-preserved c = elim c.if-mark.branch [
-  | then-mark+in_ok-push w ↦ subst (λ (l : List ℕ). AreMarkedBelow c.args.marks.now (c.loop-place.place + 1) l) (sym (ap (λ v. v.items) w.list-is ∙ w.in_ok-push.ensures.items)) (marked_more c.args.marks.now c.loop-place.place c.loop-place.list.items c.loop-place.invariant w.if-mark.true)
-  | else-mark w ↦ subst (λ (l : List ℕ). AreMarkedBelow c.args.marks.now (c.loop-place.place + 1) l) (sym (ap (λ v. v.items) w.list-is)) (marked_skip c.args.marks.now c.loop-place.place c.loop-place.list.items c.loop-place.invariant w.if-mark.false)
+  | then-mark+in_ok-push w ↦ rw (ap (λ v. v.items) w.list-is ∙ w.in_ok-push.ensures.items) (marked_more c.args.marks.now c.loop-place.place c.loop-place.list.items c.loop-place.invariant w.if-mark.true)
+  | else-mark w ↦ rw (ap (λ v. v.items) w.list-is) (marked_skip c.args.marks.now c.loop-place.place c.loop-place.list.items c.loop-place.invariant w.if-mark.false)
 ]
 
 pub loop-place-init : goal.loop-place-init

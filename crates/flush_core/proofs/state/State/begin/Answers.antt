@@ -1,6 +1,5 @@
-use Rattle.std.proofs.Common.{rules, ◌≡◌, ◌≤◌, ◌<◌, ◌++◌, ◌∷◌, [], length, map, inr, refl, sym, ap, subst, ◌∙◌, nat_eq}
+use Rattle.std.proofs.Common.{rules, ◌≡◌, ◌≤◌, ◌<◌, ◌++◌, ◌∷◌, [], length, inr, refl, sym, ap, subst, ◌∙◌, nat_eq}
 use Rattle.std.specs.List.{list_any}
-use Rattle.flush_core.specs.Flights.{flight_as, IsLeastTaken}
 use Rattle.flush_core.specs.State.{KeptState}
 use Rattle.flush_core.specs.contracts.state.State as shown
 use Rattle.flush_core.proofs.KeptFlights.{listed_one, not_listed}
@@ -19,7 +18,7 @@ returns-in-Some-2 c = (
   inr (meets c.args.self.now c.args.commit c.args.node c.args.stamp c.requires (ap (λ (s : KeptState). s.failed) (sym c.self.view_is) ∙ c.in_default.is)
       (not_listed c.args.self.now.used c.args.commit (ap (λ (s : KeptState). list_any (λ n. nat_eq n c.args.commit) s.used) (sym c.self.view_is) ∙ ap (list_any (λ n. nat_eq n c.args.commit)) (sym c.deref.ensures.value) ∙ sym c.contains.ensures.value ∙ c.if-contains.false))
       c.in_ok-flight.flight c.in_ok-flight.ensures.begins c.in_ok-met.field-0
-      (subst (λ l. IsLeastTaken (map flight_as l) c.in_ok-flight.flight.concerned c.in_ok-met.field-0) (c.deref-2.ensures.value ∙ ap (λ (s : KeptState). s.flights) (c.self-2.view_is ∙ c.flight.ensures.same)) c.in_ok-met.ensures)
+      (rw (c.deref-2.ensures.value ∙ ap (λ (s : KeptState). s.flights) (c.self-2.view_is ∙ c.flight.ensures.same)) at c.in_ok-met.ensures)
       (record { 0 = c.in-Some-2.met }) c.in-Some-2.is),
   c.flight.ensures.same,
 )
@@ -29,7 +28,7 @@ returns-then-len-stamp c = (
   inr (late c.args.self.now c.args.commit c.args.node c.args.stamp c.requires (ap (λ (s : KeptState). s.failed) (sym c.self.view_is) ∙ c.in_default.is)
       (not_listed c.args.self.now.used c.args.commit (ap (λ (s : KeptState). list_any (λ n. nat_eq n c.args.commit) s.used) (sym c.self.view_is) ∙ ap (list_any (λ n. nat_eq n c.args.commit)) (sym c.deref.ensures.value) ∙ sym c.contains.ensures.value ∙ c.if-contains.false))
       c.in_ok-flight.flight c.in_ok-flight.ensures.begins c.in_ok-met.field-0
-      (subst (λ l. IsLeastTaken (map flight_as l) c.in_ok-flight.flight.concerned c.in_ok-met.field-0) (c.deref-2.ensures.value ∙ ap (λ (s : KeptState). s.flights) (c.self-2.view_is ∙ c.flight.ensures.same)) c.in_ok-met.ensures)
+      (rw (c.deref-2.ensures.value ∙ ap (λ (s : KeptState). s.flights) (c.self-2.view_is ∙ c.flight.ensures.same)) at c.in_ok-met.ensures)
       c.in_default-2.is (subst (λ (s : KeptState). length s.entries < c.args.stamp.0) (c.self-2.view_is ∙ c.flight.ensures.same) (search rules))),
   c.flight.ensures.same,
 )
@@ -39,7 +38,7 @@ returns c =
     takes_begun c.args.self.now c.args.commit c.args.node c.args.stamp c.requires (ap (λ (s : KeptState). s.failed) (sym c.self.view_is) ∙ c.in_default.is)
     (not_listed c.args.self.now.used c.args.commit (ap (λ (s : KeptState). list_any (λ n. nat_eq n c.args.commit) s.used) (sym c.self.view_is) ∙ ap (list_any (λ n. nat_eq n c.args.commit)) (sym c.deref.ensures.value) ∙ sym c.contains.ensures.value ∙ c.if-contains.false))
     c.in_ok-flight.flight c.in_ok-flight.ensures.begins c.in_ok-met.field-0
-    (subst (λ l. IsLeastTaken (map flight_as l) c.in_ok-flight.flight.concerned c.in_ok-met.field-0) (c.deref-2.ensures.value ∙ ap (λ (s : KeptState). s.flights) (c.self-2.view_is ∙ c.flight.ensures.same)) c.in_ok-met.ensures)
+    (rw (c.deref-2.ensures.value ∙ ap (λ (s : KeptState). s.flights) (c.self-2.view_is ∙ c.flight.ensures.same)) at c.in_ok-met.ensures)
     c.in_default-2.is (subst (λ (s : KeptState). c.args.stamp.0 ≤ length s.entries) (c.self-2.view_is ∙ c.flight.ensures.same) (search rules)) _ (λ i. record {
       first = (same i).first;
       entries = (same i).entries;

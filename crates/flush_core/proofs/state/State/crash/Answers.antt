@@ -1,9 +1,7 @@
-use Rattle.std.proofs.Common.{◌≡◌, true, not, map, Some, inr, refl, sym, ap, subst, ◌∙◌}
+use Rattle.std.proofs.Common.{◌≡◌, true, not, map, Some, inr, refl, sym, ap, ◌∙◌}
 use Rattle.std.specs.List.{find}
-use Rattle.flush_core.specs.NodeSets.{has_node}
-use Rattle.flush_core.specs.Closure.{every_entry, AreRaised}
 use Rattle.flush_core.specs.Flights.{flight_as, is_flying_in, is_opened_in}
-use Rattle.flush_core.specs.State.{KeptState, inodes_of, kept_flushes}
+use Rattle.flush_core.specs.State.{KeptState}
 use Rattle.flush_core.specs.contracts.state.State as shown
 use Rattle.flush_core.proofs.Ended.{keeps_not_flying, keeps_not_opened, takes_crash}
 use Rattle.flush_core.proofs.state.State.crash.Goals as goal
@@ -30,7 +28,7 @@ returns c =
     (ap (λ (s : KeptState). find (λ named. not (is_flying_in (map flight_as s.flights) named)) c.args.kept.now.items) (sym c.self.view_is) ∙ ap (λ l. find (λ named. not (is_flying_in (map flight_as l) named)) c.args.kept.now.items) (sym c.deref.ensures.value) ∙ ap (find (λ named. not (is_flying_in (map flight_as c.deref.result.now) named))) (sym c.as_slice.ensures) ∙ sym c.first_not_flying.ensures ∙ c.in_default.is)
     (ap (λ (s : KeptState). find (λ named. not (is_opened_in (map flight_as s.flights) named)) c.args.kept.now.items) (sym c.self.view_is) ∙ ap (λ l. find (λ named. not (is_opened_in (map flight_as l) named)) c.args.kept.now.items) (sym c.deref-2.ensures.value) ∙ ap (find (λ named. not (is_opened_in (map flight_as c.deref-2.result.now) named))) (sym c.as_slice-2.ensures) ∙ sym c.first_not_opened.ensures ∙ c.in_default-first_not_opened.is)
     c.in_ok-raise.raise
-    (subst (λ l. AreRaised c.args.self.now.first c.args.self.now.entries every_entry c.args.self.now.cut (inodes_of c.args.self.now.first c.args.self.now.inodes) (kept_flushes (map flight_as c.args.self.now.flights) l) c.in_ok-raise.raise.cut (has_node c.in_ok-raise.raise.inodes)) c.as_slice-3.ensures c.in_ok-raise.ensures.raised) _ (λ i. record {
+    (rw c.as_slice-3.ensures at c.in_ok-raise.ensures.raised) _ (λ i. record {
       first = (same i).first;
       entries = (same i).entries;
       cut = c.in_ok-raise.raise.cut;

@@ -1,7 +1,5 @@
-use Rattle.std.proofs.Common.{◌<◌, length, sym, ap, subst, ◌∙◌}
-use Rattle.sfs_tree.specs.declared.history.Entry.{Entry}
-use Rattle.flush_core.specs.Grows.{Grows}
-use Rattle.flush_core.specs.Story.{StoryState, answered_entry, IsReadyPast}
+use Rattle.std.proofs.Common.{ap, ◌∙◌}
+use Rattle.flush_core.specs.Story.{answered_entry}
 use Rattle.flush_core.proofs.Stories.{past_sound, past_core, joined_ready, called}
 use Rattle.flush_core.proofs.story.Story.add.Goals as goal
 
@@ -12,10 +10,10 @@ pub joined-requires-clause-sound : goal.joined-requires-clause-sound
 joined-requires-clause-sound c = past_sound _ _ c.in_ok-past.past c.in_ok-past.ensures.past
 
 pub join-requires-clause-may : goal.join-requires-clause-may
-join-requires-clause-may c = called c.take_past.new.self c.in_ok-past.past (subst (λ (s : StoryState). IsReadyPast s.first s.history c.in_ok-past.past) (sym c.take_past.ensures.same) c.in_ok-past.ensures.past) c.args.core c.args.call.now (subst (λ (s : StoryState). c.args.core.0 < length s.first.made) (sym c.take_past.ensures.same) c.requires.core) c.in_ok-entry.entry (c.in_ok-entry.ensures.entry ∙ ap (λ n. answered_entry c.in_ok-past.past.tree n c.args.core c.args.call.now) c.len.ensures)
+join-requires-clause-may c = called c.take_past.new.self c.in_ok-past.past (rw c.take_past.ensures.same c.in_ok-past.ensures.past) c.args.core c.args.call.now (rw c.take_past.ensures.same c.requires.core) c.in_ok-entry.entry (c.in_ok-entry.ensures.entry ∙ ap (λ n. answered_entry c.in_ok-past.past.tree n c.args.core c.args.call.now) c.len.ensures)
 
 pub join-requires-clause-past : goal.join-requires-clause-past
 join-requires-clause-past c =
-    joined_ready c.take_past.new.self.first c.take_past.new.self.history c.in_ok-past.past (subst (λ (s : StoryState). IsReadyPast s.first s.history c.in_ok-past.past) (sym c.take_past.ensures.same) c.in_ok-past.ensures.past) c.in_ok-entry.entry
-    (called c.take_past.new.self c.in_ok-past.past (subst (λ (s : StoryState). IsReadyPast s.first s.history c.in_ok-past.past) (sym c.take_past.ensures.same) c.in_ok-past.ensures.past) c.args.core c.args.call.now (subst (λ (s : StoryState). c.args.core.0 < length s.first.made) (sym c.take_past.ensures.same) c.requires.core) c.in_ok-entry.entry (c.in_ok-entry.ensures.entry ∙ ap (λ n. answered_entry c.in_ok-past.past.tree n c.args.core c.args.call.now) c.len.ensures))
-    c.joined.new.past (subst (λ (e : Entry). Grows c.in_ok-past.past e c.joined.new.past) (sym c.in_ok-entry.ensures.entry) c.in_ok-entry.ensures.grows)
+    joined_ready c.take_past.new.self.first c.take_past.new.self.history c.in_ok-past.past (rw c.take_past.ensures.same c.in_ok-past.ensures.past) c.in_ok-entry.entry
+    (called c.take_past.new.self c.in_ok-past.past (rw c.take_past.ensures.same c.in_ok-past.ensures.past) c.args.core c.args.call.now (rw c.take_past.ensures.same c.requires.core) c.in_ok-entry.entry (c.in_ok-entry.ensures.entry ∙ ap (λ n. answered_entry c.in_ok-past.past.tree n c.args.core c.args.call.now) c.len.ensures))
+    c.joined.new.past (rw c.in_ok-entry.ensures.entry c.in_ok-entry.ensures.grows)

@@ -1,0 +1,123 @@
+-- What the rules on sizes, on last blocks and on slots say.
+use Rattle.std.proofs.Common.{◌≡◌, ◌≢◌, ℕ, ◌+◌, ◌-◌, ◌*◌, ◌/◌, ◌%◌, ◌<◌, ◌≤◌, Bool, true, false, not, eqb, ltb, ◌&&◌, List, [], drop, length, get_or, slice_index, Option, None, Some, is_some, is_none, option_map, replicate, All, refl, sym, ap, ◌∙◌, arith, inl, inr}
+use Rattle.std.specs.Prelude.{◌↔◌, slice_index_or}
+use Rattle.std.specs.List.{position}
+use Rattle.std.proofs.lemmas.Bool.{cases_Bool, eqb-true, eq-eqb, ne_eqb, eqb-false, ltb-false, le-ltb, and_left, and_right, and_from, and_parts, not-true, or_from, or_parts, not_from_true, not_from_false, both_ways}
+use Rattle.std.proofs.lemmas.List.{get_or-take, get_or-drop, length-take, same_lists, length-replicate, get_or-replicate, get_or_default}
+use Rattle.std.proofs.lemmas.List.Folds.{list_any_at, list_any_none}
+use Rattle.sfs_image.specs.Bytes.{part, zeros, is_nonzero, nonzero_in}
+use Rattle.sfs_image.specs.LawsOfParts.{FitsSize}
+use Rattle.sfs_image.specs.Part.{Part, inode_in, file_byte, directory_blocks, is_file_part, is_directory_part}
+use Rattle.sfs_image.specs.Rules.{DIRECTORY_BLOCKS, breaks_size, breaks_tail, breaks_slots}
+use Rattle.sfs_image.specs.Seen.{FILE_BLOCKS}
+use Rattle.sfs_image.specs.SlotBlock.{slots_fault}
+use Rattle.sfs_image.proofs.BytesLaws.{zeros_from_none, zeros-byte, zeros-is, no_nonzero-zeros, none_from_map}
+use Rattle.sfs_image.proofs.RuleLaws.{second_fails, passes_then}
+
+-- a test of a kind fails where what it asks fails
+asked : (kind wrong : Bool) → (kind ≡ true → wrong ≡ false) → (kind && wrong) ≡ false
+asked true wrong fails = fails refl
+asked false wrong fails = refl
+
+pub sizes_say : (part : Part) → (breaks_size part ≡ false) ↔ FitsSize part
+sizes_say part = (facts, rule)
+  where
+    facts : breaks_size part ≡ false → FitsSize part
+    facts keeps =
+        let both = or_parts (is_file_part part && ltb (4096 * FILE_BLOCKS) (inode_in part).size) _ keeps in
+        let tests = λ (directory : is_directory_part part ≡ true).
+        or_parts (not (eqb ((inode_in part).size % 4096) 0)) (ltb (4096 * DIRECTORY_BLOCKS) (inode_in part).size) (second_fails (is_directory_part part) _ both.1 directory) in
+        record {
+          file = λ file. ltb-false (4096 * FILE_BLOCKS) (inode_in part).size (second_fails (is_file_part part) _ both.0 file);
+          whole = λ directory. eqb-true ((inode_in part).size % 4096) 0 (passes_then (eqb ((inode_in part).size % 4096) 0) (tests directory).0);
+          few = λ directory. ltb-false (4096 * DIRECTORY_BLOCKS) (inode_in part).size (tests directory).1;
+        }
+
+    rule : FitsSize part → breaks_size part ≡ false
+    rule fits =
+        or_from (is_file_part part && _) (is_directory_part part && _)
+        (asked (is_file_part part) _ (λ file. le-ltb (4096 * FILE_BLOCKS) (inode_in part).size (fits.file file)))
+        (asked (is_directory_part part) _
+        (λ directory. or_from (not (eqb ((inode_in part).size % 4096) 0)) (ltb (4096 * DIRECTORY_BLOCKS) (inode_in part).size)
+        (not_from_true _ (eq-eqb ((inode_in part).size % 4096) 0 (fits.whole directory)))
+        (le-ltb (4096 * DIRECTORY_BLOCKS) (inode_in part).size (fits.few directory))))
+
+-- an option that is none
+none_then : {A : Type 0} (o : Option A) → is_some o ≡ false → o ≡ None
+none_then None h = refl
+none_then (Some x) h = absurd cc
+
+-- no byte of a range is other than 0 exactly where each is 0
+zeros_in_range : (at n : ℕ) (bytes : List ℕ) → nonzero_in at n bytes ≡ None → (k : ℕ) → k < n → slice_index bytes (at + k) ≡ 0
+zeros_in_range at n bytes none k h =
+    let clean = none_from_map (λ (j : ℕ). at + j) (position is_nonzero (part at n bytes)) (ap is_none none) in
+    sym (get_or-take n (drop at bytes) k 0 h ∙ get_or-drop at bytes k 0)
+    ∙ ap (λ (xs : List ℕ). slice_index xs k) (zeros_from_none (part at n bytes) clean) ∙ zeros-byte (length (part at n bytes)) k
+
+range_of_zeros : (at n : ℕ) (bytes : List ℕ) → ((k : ℕ) → k < n → slice_index bytes (at + k) ≡ 0) → nonzero_in at n bytes ≡ None
+range_of_zeros at n bytes are =
+    ap (option_map (λ (j : ℕ). at + j)) (ap (position is_nonzero) all ∙ no_nonzero-zeros (length (part at n bytes)))
+  where
+    all : part at n bytes ≡ zeros (length (part at n bytes))
+    all =
+        rw (zeros-is (length (part at n bytes)))
+        (same_lists (part at n bytes) (replicate (length (part at n bytes)) 0) (sym (length-replicate {A = ℕ} (length (part at n bytes)) 0))
+        (λ k d h.
+        let within : k < n = omega (arith, length-take n (drop at bytes)) in
+        get_or_default (part at n bytes) k d 0 h ∙ get_or-take n (drop at bytes) k 0 within ∙ get_or-drop at bytes k 0 ∙ are k within
+        ∙ sym (get_or-replicate (length (part at n bytes)) k 0 d h)))
+
+pub tails_say : (part : Part) → (breaks_tail part ≡ false)
+    ↔ (is_file_part part ≡ true → (place : ℕ) → (inode_in part).size ≤ place → place < 4096 * (((inode_in part).size + 4095) / 4096) → file_byte part place ≡ 0)
+tails_say part = (facts, rule)
+  where
+    size : ℕ
+    size = (inode_in part).size
+
+    last : List ℕ
+    last = slice_index_or part.blocks (size / 4096) []
+
+    facts : breaks_tail part ≡ false → is_file_part part ≡ true → (place : ℕ) → size ≤ place → place < 4096 * ((size + 4095) / 4096) → file_byte part place ≡ 0
+    facts keeps file place low high =
+        let open_end : size % 4096 ≢ 0 = λ full. let e : (size + 4095) / 4096 ≡ size / 4096 = omega arith in omega arith in
+        let asks = and_from (is_file_part part) _ file (not_from_false (eqb (size % 4096) 0) (ne_eqb (size % 4096) 0 open_end)) in
+        let none = none_then (nonzero_in (size % 4096) (4096 - size % 4096) last) (second_fails _ _ keeps asks) in
+        let same_block : place / 4096 ≡ size / 4096 = omega arith in
+        let within : size % 4096 + (place % 4096 - size % 4096) ≡ place % 4096 = omega arith in
+        ap (λ (n : ℕ). slice_index (slice_index_or part.blocks n []) (place % 4096)) same_block
+        ∙ ap (slice_index last) (sym within)
+        ∙ zeros_in_range (size % 4096) (4096 - size % 4096) last none (place % 4096 - size % 4096) (omega arith)
+
+    rule : (is_file_part part ≡ true → (place : ℕ) → size ≤ place → place < 4096 * ((size + 4095) / 4096) → file_byte part place ≡ 0) → breaks_tail part ≡ false
+    rule cleared =
+        elim (cases_Bool (is_file_part part && not (eqb (size % 4096) 0))) [
+          | inl asks ↦ and_right _ _ (ap is_some (clean (and_parts (is_file_part part) _ asks).0 (eqb-false _ _ (not-true _ (and_parts (is_file_part part) _ asks).1))))
+          | inr aside ↦ and_left _ _ aside
+        ]
+      where
+        clean : is_file_part part ≡ true → size % 4096 ≢ 0 → nonzero_in (size % 4096) (4096 - size % 4096) last ≡ None
+        clean file open_end =
+            range_of_zeros (size % 4096) (4096 - size % 4096) last
+            (λ k h.
+            let same_block : (size + k) / 4096 ≡ size / 4096 = omega arith in
+            let within : (size + k) % 4096 ≡ size % 4096 + k = omega arith in
+            sym (ap (λ (n : ℕ). slice_index (slice_index_or part.blocks n []) ((size + k) % 4096)) same_block ∙ ap (slice_index last) within)
+            ∙ cleared file (size + k) (omega arith) (omega arith))
+
+pub slots_say : (part : Part) → (breaks_slots part ≡ false) ↔ (is_directory_part part ≡ true → All (λ block. slots_fault block ≡ None) (directory_blocks part))
+slots_say part = (facts, rule)
+  where
+    wrong : List ℕ → Bool
+    wrong block = is_some (slots_fault block)
+
+    facts : breaks_slots part ≡ false → is_directory_part part ≡ true → All (λ block. slots_fault block ≡ None) (directory_blocks part)
+    facts keeps directory k d h =
+        let each = second_fails (is_directory_part part) _ keeps directory in
+        none_then (slots_fault (get_or (directory_blocks part) k d))
+        (elim (cases_Bool (wrong (get_or (directory_blocks part) k d))) [
+          | inl fault ↦ absurd (both_ways _ each (list_any_at wrong (directory_blocks part) k d h fault))
+          | inr sound ↦ sound
+        ])
+
+    rule : (is_directory_part part ≡ true → All (λ block. slots_fault block ≡ None) (directory_blocks part)) → breaks_slots part ≡ false
+    rule sound = asked (is_directory_part part) _ (λ directory. list_any_none wrong (directory_blocks part) (λ k d h. ap is_some (sound directory k d h)))
