@@ -8,12 +8,12 @@ use Rattle.sfs_base.specs.declared.numbers.Kind.TheVariants.{File, Directory}
 use Rattle.sfs_image.specs.Slot.{Row, kind_byte, slot_of}
 use Rattle.sfs_image.specs.Slot.{kind_of as slot_kind}
 use Rattle.sfs_image.specs.Bytes.{part, zeros, u32_at}
+use Rattle.sfs_image.proofs.ShownLaws.{bytes_shown}
 use Rattle.sfs_image.proofs.BytesLaws.{zeros-byte}
 use Rattle.image_tree.proofs.Parts.{zero_drop, zero_take}
 use borrow.Author.Tests.{eq-eqb}
 use Rattle.sfs_image.specs.SlotBlock.{slots_of, slot_in}
-use Rattle.sfs_image.specs.Part.{Part, inode_in, file_byte, directory_blocks, tabulate}
-use Rattle.sfs_image.proofs.Basics.{length-tabulate, get_or-tabulate}
+use Rattle.sfs_image.specs.Part.{Part, seen_of, inode_in, directory_blocks}
 use Rattle.sfs_base.proofs.BasicLists.{take_none}
 use Rattle.sfs_base.proofs.BasicNumbers.{from_zero_plus, le_itself}
 use Rattle.image_tree.specs.Slots.{BLOCK_SLOTS, at_length, blocks_up_to_last}
@@ -99,11 +99,11 @@ slot_blocks_show part slots h =
 
 pub byte_blocks_show : ByteBlocksShow
 byte_blocks_show part bytes h =
-    ap (λ n. cond (nat_eq n (kind_byte File)) (tabulate (inode_in part).size (file_byte part)) []) h.kind
-    ∙ same_lists (tabulate (inode_in part).size (file_byte part)) bytes (length-tabulate (inode_in part).size (file_byte part) ∙ h.size) (λ k d lt.
-    let small : k < (inode_in part).size = subst (λ (n : ℕ). k < n) (length-tabulate (inode_in part).size (file_byte part)) lt in
+    let shown = bytes_shown part (eq-eqb (inode_in part).kind (kind_byte File) h.kind) in
+    same_lists (seen_of part).bytes bytes (shown.size ∙ h.size) (λ k d lt.
+    let small : k < (inode_in part).size = subst (λ (n : ℕ). k < n) shown.size lt in
     let within : k < length bytes = subst (λ (n : ℕ). k < n) h.size small in
-    get_or-tabulate (inode_in part).size (file_byte part) k d small ∙ h.each k within ∙ get_or_default bytes k 0 d within)
+    get_or_default (seen_of part).bytes k d 0 lt ∙ shown.each k small ∙ h.each k within ∙ get_or_default bytes k 0 d within)
 
 length_padded : (n : ℕ) (slots : List (Option Row)) → length (padded n slots) ≡ n
 unfolding padded
