@@ -16,8 +16,8 @@ use Rattle.absorb.specs.Net.{IsNetRow, IsNet}
 use Rattle.image_tree.specs.Slots.{looked_up, name_count, in_blocks}
 use Rattle.image_tree.specs.Renamed.{Numbering}
 use Rattle.image_tree.specs.Stands.{row_on, ShowsNode, IsUnused, HoldsApart, StandsForTree}
-use Rattle.image_tree.specs.Commit.{row_in_net, brought_row, slot_after, new_rows, filled, slots_after, Commit, blank, seen_before, IsAside, HasBlock, hole, kept, fresh, ComesBy, had, enters, IsCommitStep, GivesNumbers}
-use Rattle.image_tree.specs.Laws.{CommitsKeepStanding}
+use Rattle.image_tree.specs.Commit.{row_in_net, brought_row, slot_after, new_rows, filled, slots_after, Commit, blank, seen_before, IsAside, HasBlock, hole, kept, fresh, ComesBy, had, enters, IsCommitStep, HeldAfter, GivesNumbers}
+use Rattle.image_tree.specs.Laws.{CommitsKeepStanding, CommitsHoldTheirBlocks}
 use Rattle.sfs_base.proofs.BasicTruth.{and_first}
 use Rattle.sfs_base.proofs.BasicOptions.{none_some, some_same}
 use Rattle.image_tree.proofs.Paired.{count_paired}
@@ -27,7 +27,10 @@ use Rattle.image_tree.proofs.NetRows.{net_row_is, no_net_row, HasNamesOnce, once
 use Rattle.image_tree.proofs.SlotsAfter.{none_counted, count_changed, looked_changed, count_filled, looked_filled_old, looked_filled_new, looked_in_blocks, count_in_blocks}
 
 -- rows that pass a test in two maps alike are counted alike
-pub count_alike : (p q : Key × ℕ → Bool) (rows other : FinMap key_cmp ℕ) → ((k : Key) (x : ℕ) → get rows k ≡ Some x → p (k, x) ≡ true → (get other k ≡ Some x) × (q (k, x) ≡ true)) → ((k : Key) (x : ℕ) → get other k ≡ Some x → q (k, x) ≡ true → (get rows k ≡ Some x) × (p (k, x) ≡ true)) → count_by p (entries rows) ≡ count_by q (entries other)
+pub count_alike : (p q : Key × ℕ → Bool) (rows other : FinMap key_cmp ℕ) →
+    ((k : Key) (x : ℕ) → get rows k ≡ Some x → p (k, x) ≡ true → (get other k ≡ Some x) × (q (k, x) ≡ true)) →
+    ((k : Key) (x : ℕ) → get other k ≡ Some x → q (k, x) ≡ true → (get rows k ≡ Some x) × (p (k, x) ≡ true)) →
+    count_by p (entries rows) ≡ count_by q (entries other)
 count_alike p q rows other forth back = count_paired p q (λ row. row) rows other (record {
   forth = forth;
   back = λ l y is passes. let b = back l y is passes in (l, y, b.0, b.1, refl);
@@ -101,7 +104,8 @@ module _ (num after : Numbering) (old new : TreeState) (x : ℕ) (net : List Net
         same : row_of old x n ≡ row_of new x n
         same = sym (old_row n) ∙ no_net_row (names_of x old.rows) (names_of x new.rows) net is_net n none ∙ later_row n
 
-        by_child : (o : Option ℕ) → row_of old x n ≡ o → slot_after after new net (option_map (row_on num old n) o) ≡ option_map (row_on after new n) (row_of new x n)
+        by_child : (o : Option ℕ) → row_of old x n ≡ o →
+            slot_after after new net (option_map (row_on num old n) o) ≡ option_map (row_on after new n) (row_of new x n)
         by_child None e = sym (ap (option_map (row_on after new n)) (sym same ∙ e))
         by_child (Some y) e =
             ap (λ o. option_map_or (brought_row after new) o (Some (row_on num old n y))) none
@@ -233,9 +237,10 @@ module _ (commit : Commit) (old new : TreeState) (image next : SeenInodes) (step
       by_way (had is) = some_same (sym a ∙ is)
       by_way (enters none _ _) = absurd (none_some (sym none ∙ a))
 
-  pub same_row : (d : ℕ) (n : List ℕ) (y : ℕ) → row_of old d n ≡ Some y → row_of new d n ≡ Some y → ◌≡◌ {A = Row} (row_on commit.before old n y) (row_on commit.after new n y)
-  same_row d n y before now =
-      let a = step.stands.named d n y before in
+  pub same_row : (d : ℕ) (n : List ℕ) (y : ℕ) → row_of old d n ≡ Some y → row_of new d n ≡ Some y →
+      ◌≡◌ {A = Row} (row_on commit.before old n y) (row_on commit.after new n y)
+  same_row d n y was now =
+      let a = step.stands.named d n y was in
       let b = step.follows.named d n y now in
       let same = under_is commit.before y a.0 a.1 ∙ keeps_number y a.0 b.0 a.1 b.1 ∙ sym (under_is commit.after y b.0 b.1) in
       let kinds = sym (step.follows.kinds y) in
@@ -289,36 +294,35 @@ module _ (commit : Commit) (old new : TreeState) (image next : SeenInodes) (step
   ] refl
 
   -- a block that is held after the commit was held there, or is fresh
-  data HeldBy (i p : ℕ) : Type 0 where
-    before : i < image.count → (image.seen i).blocks p ≡ (next.seen i).blocks p → HeldBy i p
-    taken : commit.takes i p ≡ true → (next.seen i).blocks p ≡ commit.fresh i p → HeldBy i p
+  abbrev HeldBy : ℕ → ℕ → Type 0
+  HeldBy i p = HeldAfter commit image next i p
 
-  held : (i p : ℕ) → i < next.count → p < PLACES → (next.seen i).blocks p ≢ 0 → HeldBy i p
+  pub held : (i p : ℕ) → i < next.count → p < PLACES → (next.seen i).blocks p ≢ 0 → HeldBy i p
   held i p lt small some = elim (step.commits.rest i lt) as (λ _. HeldBy i p) [
     | inr free ↦ absurd (some (free.blocks p small))
     | inl node ↦ elim (commit.concerns node.0) as (λ b. commit.concerns node.0 ≡ b → HeldBy i p) [
-      | false ↦ λ t. let a = step.commits.stays node.0 i node.1 t in HeldBy.before (number_within commit old image step.stands step.commits.numbers node.0 i node.1) (ap (λ (seen : Seen). seen.blocks p) (sym a.1))
+      | false ↦ λ t. let a = step.commits.stays node.0 i node.1 t in HeldAfter.before (number_within commit old image step.stands step.commits.numbers node.0 i node.1) (ap (λ (seen : Seen). seen.blocks p) (sym a.1))
       | true ↦ λ t. by_block node.0 node.1 (step.commits.blocks.has node.0 i p small node.1 t)
     ] refl
   ]
     where
       by_number : (x : ℕ) → commit.after x ≡ Some i → ComesBy commit image x i → (next.seen i).blocks p ≡ (seen_before commit image x).blocks p → HeldBy i p
-      by_number x is (had was) same = HeldBy.before (number_within commit old image step.stands step.commits.numbers x i is) (sym (same ∙ ap (λ (o : Option ℕ). (option_map_or image.seen o blank).blocks p) was))
+      by_number x is (had was) same = HeldAfter.before (number_within commit old image step.stands step.commits.numbers x i is) (sym (same ∙ ap (λ (o : Option ℕ). (option_map_or image.seen o blank).blocks p) was))
       by_number x is (enters none _ _) same = absurd (some (same ∙ ap (λ (o : Option ℕ). (option_map_or image.seen o blank).blocks p) none))
 
       by_block : (x : ℕ) → commit.after x ≡ Some i → HasBlock commit i p (seen_before commit image x) (next.seen i) → HeldBy i p
       by_block x is (hole zero) = absurd (some zero)
       by_block x is (kept same) = by_number x is (step.commits.numbers.comes x i is) same
-      by_block x is (fresh takes same) = HeldBy.taken takes same
+      by_block x is (fresh takes same) = HeldAfter.taken takes same
 
   blocks_apart : HoldsApart next
   blocks_apart i p j q lt less small tiny some same = by_holders (held i p lt small some) (held j q less tiny (λ zero. some (same ∙ zero)))
     where
       by_holders : HeldBy i p → HeldBy j q → (i ≡ j) × (p ≡ q)
-      by_holders (before a e) (before b f) = step.stands.apart i p j q a b small tiny (λ zero. some (sym e ∙ zero)) (e ∙ same ∙ sym f)
-      by_holders (before a e) (taken t f) = absurd (step.commits.blocks.unheld j q i p t a small (e ∙ same ∙ f))
-      by_holders (taken t e) (before b f) = absurd (step.commits.blocks.unheld i p j q t b tiny (f ∙ sym same ∙ e))
-      by_holders (taken t e) (taken u f) = step.commits.blocks.once i p j q t u (sym e ∙ same ∙ f)
+      by_holders (HeldAfter.before a e) (HeldAfter.before b f) = step.stands.apart i p j q a b small tiny (λ zero. some (sym e ∙ zero)) (e ∙ same ∙ sym f)
+      by_holders (HeldAfter.before a e) (HeldAfter.taken t f) = absurd (step.commits.blocks.unheld j q i p t a small (e ∙ same ∙ f))
+      by_holders (HeldAfter.taken t e) (HeldAfter.before b f) = absurd (step.commits.blocks.unheld i p j q t b tiny (f ∙ sym same ∙ e))
+      by_holders (HeldAfter.taken t e) (HeldAfter.taken u f) = step.commits.blocks.once i p j q t u (sym e ∙ same ∙ f)
 
   pub stands_after : StandsForTree commit.after new next
   stands_after = record {
@@ -334,4 +338,7 @@ module _ (commit : Commit) (old new : TreeState) (image next : SeenInodes) (step
 pub commits_keep_standing : CommitsKeepStanding
 commits_keep_standing commit old new image next making step =
     let stands = stands_after commit old new image next step in
-    record { stands = stands; shows = standing_images_show commit.after new next making step.next_sound step.storable stands }
+    record { stands = stands; shows = standing_images_show commit.after new next making (record { sound = step.next_sound; storable = step.storable; stands = stands }) }
+
+pub commits_hold_their_blocks : CommitsHoldTheirBlocks
+commits_hold_their_blocks = held

@@ -21,7 +21,7 @@ use Rattle.image_tree.specs.Renamed.{Numbering}
 use Rattle.image_tree.specs.Stands.{row_on, IsUnused}
 use Rattle.image_tree.specs.Commit.{row_in_net, brought_row, slot_after, new_rows, filled, slots_after, Commit, blank, seen_before, IsBuiltAnew, IsAside, HasBlock, hole, kept, fresh, ComesBy, had, enters, IsCommit}
 use Rattle.image_tree.specs.Elsewhere.{Elsewhere, commit_there, IsTouched, IsPlanned, Suits}
-use Rattle.image_tree.specs.Laws.{PlannedCommitsHoldElsewhere}
+use Rattle.image_tree.specs.Laws.{PlannedCommitsHoldElsewhere, UnconcernedNodesStay}
 use Rattle.sfs_base.proofs.BasicTruth.{not_both}
 use Rattle.sfs_base.proofs.BasicOptions.{none_some, some_same}
 use Rattle.image_tree.proofs.NetRows.{same_option, net_row_is, no_net_row}
@@ -29,7 +29,7 @@ use Rattle.image_tree.proofs.Committed.{links_alike, number_once}
 use Rattle.image_tree.proofs.Standing.{not_used}
 
 -- the net of rows that stay has no row
-no_net : (rows : FinMap name_cmp ℕ) → IsNet rows rows []
+pub no_net : (rows : FinMap name_cmp ℕ) → IsNet rows rows []
 unfolding IsStrictlySortedBy
 no_net rows = record { ascending = tt; each = All-nil (IsNetRow rows rows); complete = λ name differ. absurd (differ refl) }
 
@@ -50,7 +50,8 @@ module _ (num other_num : Numbering) (tree other : TreeState) (earlier later : F
     slot_alike None = refl
     slot_alike (Some row) = by_net (row_in_net row.name net) refl
       where
-        by_net : (o : Option NetRow) → row_in_net row.name net ≡ o → option_map_or (brought_row other_num other) o (Some row) ≡ option_map_or (brought_row num tree) o (Some row)
+        by_net : (o : Option NetRow) → row_in_net row.name net ≡ o →
+            option_map_or (brought_row other_num other) o (Some row) ≡ option_map_or (brought_row num tree) o (Some row)
         by_net None e = refl
         by_net (Some r) e = alike row.name r (net_row_is earlier later net is row.name r e).1
 
@@ -94,7 +95,8 @@ module _ (commit : Commit) (old new : TreeState) (image next : SeenInodes) (ther
   links_there x concerned = links_alike new there.new suits.follows.kinds x (suits.follows.nodes x concerned).0 (naming_there x concerned)
 
   -- a row that the commit brings is the same there
-  after_there : (x : ℕ) (n : List ℕ) (row : NetRow) → IsNetRow (names_of x old.rows) (names_of x new.rows) row → brought_row there.after there.new row ≡ brought_row commit.after new row
+  after_there : (x : ℕ) (n : List ℕ) (row : NetRow) → IsNetRow (names_of x old.rows) (names_of x new.rows) row →
+      brought_row there.after there.new row ≡ brought_row commit.after new row
   after_there x n row is = by_child (number_of row.after) refl
     where
       before_is : number_of row.before ≡ row_of old x row.name
@@ -109,7 +111,8 @@ module _ (commit : Commit) (old new : TreeState) (image next : SeenInodes) (ther
       same_node (Some o) None e = absurd (none_some (sym e))
       same_node (Some o) (Some q) e = let same : o.0 ≡ q.0 = some_same e in λ i. Some (record { 0 = same i })
 
-      by_child : (o : Option ℕ) → number_of row.after ≡ o → option_map (row_on there.after there.new row.name) o ≡ option_map (row_on commit.after new row.name) o
+      by_child : (o : Option ℕ) → number_of row.after ≡ o →
+          option_map (row_on there.after there.new row.name) o ≡ option_map (row_on commit.after new row.name) o
       by_child None e = refl
       by_child (Some y) e =
           let concerned = plan.concerns.comes x row.name y (sym after_is ∙ e) (λ was. is.differs (same_node row.before row.after (before_is ∙ was ∙ sym e))) in
@@ -125,7 +128,8 @@ module _ (commit : Commit) (old new : TreeState) (image next : SeenInodes) (ther
       by_number (Some i) e = suits.agrees.seen x i concerned e
 
   -- a concerned node's inode is as planned
-  as_planned : (x i : ℕ) → i < there.image.count → commit.concerns x ≡ true → (commit.before x ≡ Some i) ⊎ (commit.after x ≡ Some i) → there.next.seen i ≡ next.seen i
+  as_planned : (x i : ℕ) → i < there.image.count → commit.concerns x ≡ true → (commit.before x ≡ Some i) ⊎ (commit.after x ≡ Some i) →
+      there.next.seen i ≡ next.seen i
   as_planned x i lt concerned is = elim (suits.follows.inodes i lt) as (λ _. there.next.seen i ≡ next.seen i) [
     | inl touched ↦ touched.1
     | inr other ↦ absurd (other.0 (record { node = x; concerned = concerned; number = is }))
@@ -138,7 +142,8 @@ module _ (commit : Commit) (old new : TreeState) (image next : SeenInodes) (ther
       by_way (had was) = plan.stands.within x i was
       by_way (enters _ lt _) = lt
 
-  built_there : (x i : ℕ) → there.after x ≡ Some i → commit.concerns x ≡ true → IsBuiltAnew (commit_there commit there) there.new x (seen_before (commit_there commit there) there.image x) (there.next.seen i)
+  built_there : (x i : ℕ) → there.after x ≡ Some i → commit.concerns x ≡ true →
+      IsBuiltAnew (commit_there commit there) there.new x (seen_before (commit_there commit there) there.image x) (there.next.seen i)
   built_there x i is concerned =
       let planned = sym (suits.follows.numbers x concerned) ∙ is in
       let b = plan.commits.built x i planned concerned in
@@ -202,7 +207,8 @@ module _ (commit : Commit) (old new : TreeState) (image next : SeenInodes) (ther
       stays : (d : ℕ) (n : List ℕ) → row_of old d n ≡ Some x → row_of new d n ≡ Some x
       stays d n row = elim (same_option (row_of new d n) (Some x)) [ inl same ↦ same | inr differ ↦ absurd (not_both (plan.concerns.goes d n x row differ) other) ]
 
-  stays_there : (x i : ℕ) → there.after x ≡ Some i → commit.concerns x ≡ false → (there.before x ≡ Some i) × (there.next.seen i ≡ there.image.seen i) × IsAside there.old there.new x
+  stays_there : (x i : ℕ) → there.after x ≡ Some i → commit.concerns x ≡ false →
+      (there.before x ≡ Some i) × (there.next.seen i ≡ there.image.seen i) × IsAside there.old there.new x
   stays_there x i is other =
       let was = sym (suits.follows.other_numbers x other) ∙ is in (
         was,
@@ -255,7 +261,8 @@ module _ (commit : Commit) (old new : TreeState) (image next : SeenInodes) (ther
       planned_within : i < next.count
       planned_within = subst (λ (n : ℕ). i < n) (suits.agrees.count ∙ sym plan.commits.count) within
 
-  has_there : (x i place : ℕ) → place < PLACES → there.after x ≡ Some i → commit.concerns x ≡ true → HasBlock (commit_there commit there) i place (seen_before (commit_there commit there) there.image x) (there.next.seen i)
+  has_there : (x i place : ℕ) → place < PLACES → there.after x ≡ Some i → commit.concerns x ≡ true →
+      HasBlock (commit_there commit there) i place (seen_before (commit_there commit there) there.image x) (there.next.seen i)
   has_there x i place small is concerned = by_block (plan.commits.blocks.has x i place small planned concerned)
     where
       planned : commit.after x ≡ Some i
@@ -264,7 +271,8 @@ module _ (commit : Commit) (old new : TreeState) (image next : SeenInodes) (ther
       block : (there.next.seen i).blocks place ≡ (next.seen i).blocks place
       block = ap (λ (s : Seen). s.blocks place) (as_planned x i (within_there x i concerned planned) concerned (inr planned))
 
-      by_block : HasBlock commit i place (seen_before commit image x) (next.seen i) → HasBlock (commit_there commit there) i place (seen_before (commit_there commit there) there.image x) (there.next.seen i)
+      by_block : HasBlock commit i place (seen_before commit image x) (next.seen i) →
+          HasBlock (commit_there commit there) i place (seen_before (commit_there commit there) there.image x) (there.next.seen i)
       by_block (hole none) = hole (block ∙ none)
       by_block (kept same) = kept (block ∙ same ∙ ap (λ (s : Seen). s.blocks place) (sym (before_there x concerned)))
       by_block (fresh takes same) = fresh takes (block ∙ same)
@@ -288,3 +296,16 @@ module _ (commit : Commit) (old new : TreeState) (image next : SeenInodes) (ther
 
 pub planned_commits_hold_elsewhere : PlannedCommitsHoldElsewhere
 planned_commits_hold_elsewhere = commit_elsewhere
+
+pub unconcerned_nodes_stay : UnconcernedNodesStay
+unconcerned_nodes_stay commit old new node nets w other bytes = record {
+  rows = λ name.
+      sym (sym (get-names_where node (λ _. true) old.rows name)
+      ∙ no_net_row (names_of node old.rows) (names_of node new.rows) (commit.nets node) (nets node) name (ap (row_in_net name) (w.nets node other))
+      ∙ get-names_where node (λ _. true) new.rows name);
+  bytes = bytes;
+  naming = λ d n. (
+    λ row. elim (same_option (row_of old d n) (Some node)) as (λ _. row_of old d n ≡ Some node) [ inl same ↦ same | inr differ ↦ absurd (not_both (w.comes d n node row differ) other) ],
+    λ row. elim (same_option (row_of new d n) (Some node)) as (λ _. row_of new d n ≡ Some node) [ inl same ↦ same | inr differ ↦ absurd (not_both (w.goes d n node row differ) other) ],
+  );
+}

@@ -13,13 +13,20 @@ use Rattle.sfs_image.specs.Slot.{Row, kind_byte}
 use Rattle.sfs_image.specs.Seen.{SeenInodes}
 use Rattle.image_tree.specs.Slots.{name_count}
 use Rattle.image_tree.specs.ImageTree.{NOTHING_MADE, shows_directory, is_used, image_rows}
+use Rattle.std.proofs.Common.{count_by}
+use Rattle.std.specs.FinMap.{entries}
+use Rattle.sfs_tree.specs.Tree.{holds_directory, links_of, count_of}
+use Rattle.sfs_base.specs.declared.numbers.Kind.TheVariants.{File, Directory}
+use Rattle.image_tree.specs.ImageTree.{shows_file}
+use Rattle.sfs_base.proofs.BasicTruth.{and_first, and_second, and_false}
 use Rattle.image_tree.specs.Keeps.{ruled_tree, IsDirectoryInode, MayName, MayStand, KeepsRules}
 use Rattle.image_tree.specs.Rules.{has_name_twice, has_overfull_bucket, is_misplaced, has_misplaced_row, names_root, is_named_twice, has_wrong_links, is_unreached, breaks_tree_rule, BYTE_RULES, RULES, TreeFault, fault_by, first_fault, breaks_rule, KeepsByteRules}
-use Rattle.image_tree.specs.Laws.{NoFaultIsRulesKept}
+use Rattle.image_tree.specs.Laws.{NoFaultIsRulesKept, FreeInodesBreakNoTreeRule, OrphansBreakNoTreeRule}
 use Rattle.sfs_base.proofs.BasicNumbers.{not_below, not_same}
 use Rattle.sfs_base.proofs.BasicTruth.{or_first, or_second, or_true, not_false, then_false, not_both}
 use Rattle.sfs_base.proofs.BasicOptions.{none_some}
-use Rattle.image_tree.proofs.SlotRows.{bytes_are, count_slot}
+use Rattle.sfs_base.proofs.BasicLists.{bytes_same}
+use Rattle.image_tree.proofs.SlotRows.{count_slot}
 use Rattle.image_tree.proofs.Images.{directory_shown}
 use Rattle.image_tree.proofs.Mounted.{sound_shown}
 
@@ -72,7 +79,8 @@ module _ (f : ℕ → Option TreeFault) where
   none_gathered a zero e k le lt = absurd (omega arith)
   none_gathered a (suc n) e k le lt = by_first (f a) refl e (none_gathered (a + 1) n)
     where
-      by_first : (o : Option TreeFault) → f a ≡ o → slice_get (cons_option o (filter_map f (range_with_len (a + 1) n))) 0 ≡ None → (slice_get (filter_map f (range_with_len (a + 1) n)) 0 ≡ None → (k : ℕ) → a + 1 ≤ k → k < a + 1 + n → f k ≡ None) → f k ≡ None
+      by_first : (o : Option TreeFault) → f a ≡ o → slice_get (cons_option o (filter_map f (range_with_len (a + 1) n))) 0 ≡ None →
+          (slice_get (filter_map f (range_with_len (a + 1) n)) 0 ≡ None → (k : ℕ) → a + 1 ≤ k → k < a + 1 + n → f k ≡ None) → f k ≡ None
       by_first (Some x) is e rest = absurd (none_some (sym e))
       by_first None is e rest = elim (nat_eq a k) as (λ b. nat_eq a k ≡ b → f k ≡ None) [
         | true ↦ λ u. ap f (sym (eqb-true _ _ u)) ∙ is
@@ -93,7 +101,8 @@ module _ (breaks : ℕ → ℕ → Bool) (count : ℕ) where
       unmapped (Some i) e = absurd (none_some (sym e))
 
 -- rows in slots of which none passes
-no_row_passes : (test : Row → Bool) (slots : List (Option Row)) → AllByRecursion (λ slot. option_map_or test slot false ≡ false) slots → list_any (λ slot. option_map_or test slot false) slots ≡ false
+no_row_passes : (test : Row → Bool) (slots : List (Option Row)) → AllByRecursion (λ slot. option_map_or test slot false ≡ false) slots →
+    list_any (λ slot. option_map_or test slot false) slots ≡ false
 no_row_passes test [] h = refl
 no_row_passes test (slot ∷ slots) h = ap (λ b. b || list_any (λ slot. option_map_or test slot false) slots) h.0 ∙ no_row_passes test slots h.1
 
@@ -103,19 +112,21 @@ every_row P h (None ∷ slots) = (refl, every_row P h slots)
 every_row P h (Some row ∷ slots) = (h row, every_row P h slots)
 
 -- a name that is counted stands in a slot
-counted_row : (test : Row → Bool) (n : List ℕ) → ((row : Row) → row.name ≡ n → test row ≡ true) → (slots : List (Option Row)) → 0 < name_count n slots → list_any (λ slot. option_map_or test slot false) slots ≡ true
+counted_row : (test : Row → Bool) (n : List ℕ) → ((row : Row) → row.name ≡ n → test row ≡ true) → (slots : List (Option Row)) →
+    0 < name_count n slots → list_any (λ slot. option_map_or test slot false) slots ≡ true
 counted_row test n h [] lt = absurd (omega arith)
 counted_row test n h (None ∷ slots) lt = counted_row test n h slots (let c = count_slot n None slots in omega arith)
 counted_row test n h (Some row ∷ slots) lt =
     elim (bytes_eq n row.name) as (λ b. bytes_eq n row.name ≡ b → (test row || list_any (λ slot. option_map_or test slot false) slots) ≡ true) [
-      | true ↦ λ t. ap (λ b. b || list_any (λ slot. option_map_or test slot false) slots) (h row (sym (bytes_are n row.name t)))
+      | true ↦ λ t. ap (λ b. b || list_any (λ slot. option_map_or test slot false) slots) (h row (sym (bytes_same n row.name t)))
       | false ↦ λ t.
           let c : name_count n (Some row ∷ slots) ≡ 0 + name_count n slots = count_slot n (Some row) slots ∙ ap (λ b. cond b 1 0 + name_count n slots) t in
           ap (λ b. test row || b) (counted_row test n h slots (omega arith)) ∙ or_true (test row)
     ] refl
 
 -- rows that are not misplaced and do not name the root may stand
-may_stand : (image : SeenInodes) (slots : List (Option Row)) → list_any (λ slot. option_map_or (is_misplaced image) slot false) slots ≡ false → list_any (λ slot. option_map_or (λ (row : Row). nat_eq row.inode 0) slot false) slots ≡ false → AllByRecursion (MayStand image) slots
+may_stand : (image : SeenInodes) (slots : List (Option Row)) → list_any (λ slot. option_map_or (is_misplaced image) slot false) slots ≡ false →
+    list_any (λ slot. option_map_or (λ (row : Row). nat_eq row.inode 0) slot false) slots ≡ false → AllByRecursion (MayStand image) slots
 may_stand image [] a b = tt
 may_stand image (None ∷ slots) a b = (tt, may_stand image slots a b)
 may_stand image (Some row ∷ slots) a b = (here, may_stand image slots (or_second (is_misplaced image row) _ a) (or_second (nat_eq row.inode 0) _ b))
@@ -127,7 +138,8 @@ may_stand image (Some row ∷ slots) a b = (here, may_stand image slots (or_seco
       no_root = eqb-false _ _ (or_first (nat_eq row.inode 0) _ b);
     }
 
-placed : (image : SeenInodes) (slots : List (Option Row)) → AllByRecursion (MayStand image) slots → list_any (λ slot. option_map_or (is_misplaced image) slot false) slots ≡ false
+placed : (image : SeenInodes) (slots : List (Option Row)) → AllByRecursion (MayStand image) slots →
+    list_any (λ slot. option_map_or (is_misplaced image) slot false) slots ≡ false
 placed image [] h = refl
 placed image (None ∷ slots) h = placed image slots h.1
 placed image (Some row ∷ slots) h =
@@ -135,7 +147,8 @@ placed image (Some row ∷ slots) h =
     ∙ ap (λ b. not b || list_any (λ slot. option_map_or (is_misplaced image) slot false) slots) (eq-eqb _ _ h.0.kind)
     ∙ placed image slots h.1
 
-no_root_named : (image : SeenInodes) (slots : List (Option Row)) → AllByRecursion (MayStand image) slots → list_any (λ slot. option_map_or (λ (row : Row). nat_eq row.inode 0) slot false) slots ≡ false
+no_root_named : (image : SeenInodes) (slots : List (Option Row)) → AllByRecursion (MayStand image) slots →
+    list_any (λ slot. option_map_or (λ (row : Row). nat_eq row.inode 0) slot false) slots ≡ false
 no_root_named image [] h = refl
 no_root_named image (None ∷ slots) h = no_root_named image slots h.1
 no_root_named image (Some row ∷ slots) h = ap (λ b. b || list_any (λ slot. option_map_or (λ (row : Row). nat_eq row.inode 0) slot false) slots) (not_same _ _ h.0.no_root) ∙ no_root_named image slots h.1
@@ -215,7 +228,8 @@ module _ (image : SeenInodes) (breaks_byte_rule : ℕ → ℕ → Bool) (r : Kee
         used_some : (i : ℕ) → is_used image i ≡ true → (image.seen i).kind ≢ 0
         used_some i used free = not_both used (ap not (eq-eqb _ _ free))
 
-    no_rule_broken : ((rule i : ℕ) → 1 ≤ rule → rule ≤ BYTE_RULES → i < image.count → breaks_byte_rule rule i ≡ false) → (rule i : ℕ) → 1 ≤ rule → i < image.count → breaks_rule breaks_byte_rule image rule i ≡ false
+    no_rule_broken : ((rule i : ℕ) → 1 ≤ rule → rule ≤ BYTE_RULES → i < image.count → breaks_byte_rule rule i ≡ false) → (rule i : ℕ) → 1 ≤ rule →
+        i < image.count → breaks_rule breaks_byte_rule image rule i ≡ false
     no_rule_broken bytes rule i le lt = elim (nat_lt BYTE_RULES rule) as (λ b. nat_lt BYTE_RULES rule ≡ b → cond b (breaks_tree_rule image rule i) (breaks_byte_rule rule i) ≡ false) [
       | true ↦ λ t. tree_rules rule i lt
       | false ↦ λ t. bytes rule i le (ltb-false _ _ t) lt
@@ -226,3 +240,37 @@ no_fault_is_rules_kept image breaks_byte_rule r bytes = (
   λ none. kept image breaks_byte_rule r (no_break (breaks_rule breaks_byte_rule image) image.count none),
   λ k. no_fault (breaks_rule breaks_byte_rule image) image.count (no_rule_broken image breaks_byte_rule r k bytes),
 )
+
+-- only what an inode in use has can break a rule across inodes
+breaks_nothing : (image : SeenInodes) (rule i : ℕ) → shows_directory (image.seen i) ≡ false → (is_used image i && has_wrong_links image i) ≡ false →
+    breaks_tree_rule image rule i ≡ false
+breaks_nothing image rule i other links =
+    either_false (nat_eq rule 8) _ _ (no_directory (has_name_twice image i))
+    (either_false (nat_eq rule 9) _ _ (no_directory (has_overfull_bucket image i))
+    (either_false (nat_eq rule 10) _ _ (no_directory (has_misplaced_row image i))
+    (either_false (nat_eq rule 11) _ _ (no_directory (names_root image i))
+    (either_false (nat_eq rule 12) _ _ (no_directory (is_named_twice image i))
+    (either_false (nat_eq rule 13) _ _ links
+    (either_false (nat_eq rule 14) _ _ (no_directory (is_unreached image i)) refl))))))
+  where
+    no_directory : (p : Bool) → (shows_directory (image.seen i) && p) ≡ false
+    no_directory p = ap (λ b. b && p) other
+
+pub free_inodes_break_no_tree_rule : FreeInodesBreakNoTreeRule
+free_inodes_break_no_tree_rule image rule i free =
+    breaks_nothing image rule i (ap (λ n. nat_eq n (kind_byte Directory)) free) (ap (λ n. not (nat_eq n 0) && has_wrong_links image i) free)
+
+pub orphans_break_no_tree_rule : OrphansBreakNoTreeRule
+orphans_break_no_tree_rule image rule i lt orphan none =
+    breaks_nothing image rule i other (ap (λ b. is_used image i && not b) (eq-eqb _ _ (none ∙ sym links)) ∙ and_false (is_used image i))
+  where
+    file : (image.seen i).kind ≡ kind_byte File
+    file = eqb-true _ _ (and_first (shows_file (image.seen i)) _ orphan)
+
+    other : shows_directory (image.seen i) ≡ false
+    other = ap (λ n. nat_eq n (kind_byte Directory)) file
+
+    links : links_of (ruled_tree image) i ≡ 0
+    links =
+        ap (λ b. cond b (2 + count_by (holds_directory (ruled_tree image) i) (entries (image_rows image))) (count_of (image_rows image) i)) (directory_shown image NOTHING_MADE i lt ∙ other)
+        ∙ eqb-true _ _ (and_second (shows_file (image.seen i)) _ orphan)

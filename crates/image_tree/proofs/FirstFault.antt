@@ -3,7 +3,7 @@ use Rattle.std.proofs.Common.{◌≡◌, ◌≢◌, ℕ, zero, suc, ◌+◌, ◌
 use borrow.Author.Tests.{eqb-true, eqb-false}
 use Rattle.std.specs.Prelude.{filter_map, slice_get}
 use Rattle.std.specs.List.{range_with_len, find, cons_option}
-use Rattle.image_tree.specs.Rules.{RULES, TreeFault, fault_by, first_fault, IsFirstFault, FindsFault}
+use Rattle.image_tree.specs.Rules.{RULES, TreeFault, fault_by, first_fault, IsLeastFault, FindsFault}
 use Rattle.image_tree.specs.Laws.{FirstFaultIsLeast}
 use Rattle.sfs_base.proofs.BasicOptions.{none_some, some_same}
 use Rattle.image_tree.proofs.Faults.{no_break, none_found}
@@ -47,7 +47,8 @@ given_is : (f : ℕ → Option TreeFault) (a n : ℕ) (x : TreeFault) → slice_
 given_is f a zero x e = absurd (none_some e)
 given_is f a (suc n) x e = by_first (f a) refl e (given_is f (a + 1) n x)
   where
-    by_first : (o : Option TreeFault) → f a ≡ o → slice_get (cons_option o (filter_map f (range_with_len (a + 1) n))) 0 ≡ Some x → (slice_get (filter_map f (range_with_len (a + 1) n)) 0 ≡ Some x → IsFirstGiven f (a + 1) n x) → IsFirstGiven f a (suc n) x
+    by_first : (o : Option TreeFault) → f a ≡ o → slice_get (cons_option o (filter_map f (range_with_len (a + 1) n))) 0 ≡ Some x →
+        (slice_get (filter_map f (range_with_len (a + 1) n)) 0 ≡ Some x → IsFirstGiven f (a + 1) n x) → IsFirstGiven f a (suc n) x
     by_first (Some y) is e rest = record { number = a; low = omega arith; high = omega arith; gives = is ∙ e; before = λ j le lt. absurd (omega arith) }
     by_first None is e rest =
         let r = rest e in
@@ -70,7 +71,8 @@ module _ (breaks : ℕ → ℕ → Bool) (count : ℕ) where
   of_rule : (rule : ℕ) (fault : TreeFault) → fault_by breaks count rule ≡ Some fault → IsOfRule rule fault
   of_rule rule fault e = by_found (find (breaks rule) (range_with_len 0 count)) refl e
     where
-      by_found : (o : Option ℕ) → find (breaks rule) (range_with_len 0 count) ≡ o → option_map (λ i. record { rule = rule; inode = i }) o ≡ Some fault → IsOfRule rule fault
+      by_found : (o : Option ℕ) → find (breaks rule) (range_with_len 0 count) ≡ o →
+          option_map (λ i. record { rule = rule; inode = i }) o ≡ Some fault → IsOfRule rule fault
       by_found None is e = absurd (none_some e)
       by_found (Some i) is e =
           let made : (record { rule = rule; inode = i }) ≡ fault = some_same e in
@@ -83,7 +85,7 @@ module _ (breaks : ℕ → ℕ → Bool) (count : ℕ) where
       unmapped None e = refl
       unmapped (Some i) e = absurd (none_some (sym e))
 
-  is_first : (fault : TreeFault) → first_fault breaks count ≡ Some fault → IsFirstFault breaks count fault
+  is_first : (fault : TreeFault) → first_fault breaks count ≡ Some fault → IsLeastFault breaks count fault
   is_first fault e =
       let given = given_is (fault_by breaks count) 1 RULES fault e in
       let own = of_rule given.number fault given.gives in

@@ -16,7 +16,7 @@ use Rattle.sfs_tree.proofs.Joined.{key_cmp_total, same_key, find-append}
 use Rattle.sfs_image.specs.Slot.{Row, kind_byte, kind_of}
 use Rattle.sfs_image.specs.Seen.{SeenInodes}
 use Rattle.image_tree.specs.Slots.{looked_up}
-use Rattle.image_tree.specs.ImageTree.{Making, shows_directory, shows_file, slot_row, rows_in, image_rows, is_node, node_shown, node_in, nodes_where, tree_where, image_tree}
+use Rattle.image_tree.specs.ImageTree.{Making, shows_directory, shows_file, tree_row, rows_in, image_rows, is_node, node_shown, node_in, nodes_where, tree_where, image_tree}
 use Rattle.sfs_base.proofs.BasicTruth.{or_true}
 use Rattle.sfs_base.proofs.BasicOptions.{or_none, none_some, some_same}
 
@@ -58,20 +58,21 @@ key_apart : (d i : ℕ) (n m : List ℕ) → i ≢ d → eq_by_cmp key_cmp (d, n
 key_apart d i n m other =
     same_key d i n m ∙ elim (nat_eq d i) as (λ b. nat_eq d i ≡ b → cond b (eq_by_cmp name_cmp n m) false ≡ false) [ true ↦ λ t. absurd (other (sym (eqb-true _ _ t))) | false ↦ λ _. refl ] refl
 
-find_slot : (i : ℕ) (n : List ℕ) (slots : List (Option Row)) → find key_cmp (i, n) (filter_map (slot_row i) slots) ≡ option_map (λ (row : Row). row.inode) (looked_up n slots)
+find_slot : (i : ℕ) (n : List ℕ) (slots : List (Option Row)) →
+    find key_cmp (i, n) (filter_map (tree_row i) slots) ≡ option_map (λ (row : Row). row.inode) (looked_up n slots)
 find_slot i n [] = refl
 find_slot i n (None ∷ slots) = find_slot i n slots
 find_slot i n (Some row ∷ slots) =
-    ap (λ b. cond b (Some row.inode) (find key_cmp (i, n) (filter_map (slot_row i) slots))) (key_test i n row.name)
-    ∙ elim (bytes_eq n row.name) as (λ b. cond b (Some row.inode) (find key_cmp (i, n) (filter_map (slot_row i) slots)) ≡ option_map (λ (row : Row). row.inode) (cond b (Some row) (looked_up n slots))) [
+    ap (λ b. cond b (Some row.inode) (find key_cmp (i, n) (filter_map (tree_row i) slots))) (key_test i n row.name)
+    ∙ elim (bytes_eq n row.name) as (λ b. cond b (Some row.inode) (find key_cmp (i, n) (filter_map (tree_row i) slots)) ≡ option_map (λ (row : Row). row.inode) (cond b (Some row) (looked_up n slots))) [
       | true ↦ refl
       | false ↦ find_slot i n slots
     ]
 
-find_other : (d i : ℕ) (n : List ℕ) (slots : List (Option Row)) → i ≢ d → find key_cmp (d, n) (filter_map (slot_row i) slots) ≡ None
+find_other : (d i : ℕ) (n : List ℕ) (slots : List (Option Row)) → i ≢ d → find key_cmp (d, n) (filter_map (tree_row i) slots) ≡ None
 find_other d i n [] other = refl
 find_other d i n (None ∷ slots) other = find_other d i n slots other
-find_other d i n (Some row ∷ slots) other = ap (λ b. cond b (Some row.inode) (find key_cmp (d, n) (filter_map (slot_row i) slots))) (key_apart d i n row.name other) ∙ find_other d i n slots other
+find_other d i n (Some row ∷ slots) other = ap (λ b. cond b (Some row.inode) (find key_cmp (d, n) (filter_map (tree_row i) slots))) (key_apart d i n row.name other) ∙ find_other d i n slots other
 
 pub kind_again : (kind : Kind) → kind_of (kind_byte kind) ≡ kind
 kind_again File = refl
@@ -80,7 +81,7 @@ kind_again Directory = refl
 module _ (image : SeenInodes) where
   rows_apart : (d i : ℕ) (n : List ℕ) → i ≢ d → find key_cmp (d, n) (rows_in image i) ≡ None
   rows_apart d i n other =
-      elim (shows_directory (image.seen i)) as (λ b. find key_cmp (d, n) (cond b (filter_map (slot_row i) (image.seen i).slots) []) ≡ None) [
+      elim (shows_directory (image.seen i)) as (λ b. find key_cmp (d, n) (cond b (filter_map (tree_row i) (image.seen i).slots) []) ≡ None) [
         | true ↦ find_other d i n (image.seen i).slots other
         | false ↦ refl
       ]
@@ -96,13 +97,14 @@ module _ (image : SeenInodes) where
       ∙ find_outside key_cmp (rows_in image) (i, n) i (λ k other. rows_apart i k n other) 0 image.count (inr (omega arith))
 
   -- a directory's rows are those of its slots
-  pub row_shown : (i : ℕ) (n : List ℕ) → i < image.count → (image.seen i).kind ≡ kind_byte Directory → get (image_rows image) (i, n) ≡ option_map (λ (row : Row). row.inode) (looked_up n (image.seen i).slots)
-  row_shown i n lt kind = get_rows i n lt ∙ ap (λ b. find key_cmp (i, n) (cond b (filter_map (slot_row i) (image.seen i).slots) [])) (eq-eqb _ _ kind) ∙ find_slot i n (image.seen i).slots
+  pub row_shown : (i : ℕ) (n : List ℕ) → i < image.count → (image.seen i).kind ≡ kind_byte Directory →
+      get (image_rows image) (i, n) ≡ option_map (λ (row : Row). row.inode) (looked_up n (image.seen i).slots)
+  row_shown i n lt kind = get_rows i n lt ∙ ap (λ b. find key_cmp (i, n) (cond b (filter_map (tree_row i) (image.seen i).slots) [])) (eq-eqb _ _ kind) ∙ find_slot i n (image.seen i).slots
 
   -- any other inode has none
   pub no_row_shown : (i : ℕ) (n : List ℕ) → i < image.count → (image.seen i).kind ≢ kind_byte Directory → get (image_rows image) (i, n) ≡ None
   no_row_shown i n lt kind =
-      get_rows i n lt ∙ elim (shows_directory (image.seen i)) as (λ b. shows_directory (image.seen i) ≡ b → find key_cmp (i, n) (cond b (filter_map (slot_row i) (image.seen i).slots) []) ≡ None) [
+      get_rows i n lt ∙ elim (shows_directory (image.seen i)) as (λ b. shows_directory (image.seen i) ≡ b → find key_cmp (i, n) (cond b (filter_map (tree_row i) (image.seen i).slots) []) ≡ None) [
         | true ↦ λ t. absurd (kind (eqb-true _ _ t))
         | false ↦ λ _. refl
       ] refl
@@ -115,7 +117,8 @@ module _ (image : SeenInodes) where
     pub slot : looked_up n (image.seen i).slots ≡ Some row
     pub child : row.inode ≡ j
 
-  slot_at : (i : ℕ) (n : List ℕ) (j : ℕ) (o : Option Row) → i < image.count → (image.seen i).kind ≡ kind_byte Directory → looked_up n (image.seen i).slots ≡ o → option_map (λ (row : Row). row.inode) o ≡ Some j → SlotBack i n j
+  slot_at : (i : ℕ) (n : List ℕ) (j : ℕ) (o : Option Row) → i < image.count → (image.seen i).kind ≡ kind_byte Directory →
+      looked_up n (image.seen i).slots ≡ o → option_map (λ (row : Row). row.inode) o ≡ Some j → SlotBack i n j
   slot_at i n j (Some row) lt kind slot is = record { within = lt; kind = kind; row = row; slot = slot; child = some_same is }
   slot_at i n j None lt kind slot is = absurd (none_some is)
 
@@ -158,7 +161,8 @@ module _ (image : SeenInodes) where
     node_is i lt is = get_node i lt ∙ ap (λ b. cond b (Some (node_shown (image.seen i))) None) is
 
     -- where all directories are chosen, those of the tree are those of the image
-    pub directory_where : (making : Making) → ((i : ℕ) → (image.seen i).kind ≡ kind_byte Directory → chosen i ≡ true) → (i : ℕ) → i < image.count → is_directory (tree_where chosen image making) i ≡ shows_directory (image.seen i)
+    pub directory_where : (making : Making) → ((i : ℕ) → (image.seen i).kind ≡ kind_byte Directory → chosen i ≡ true) → (i : ℕ) → i < image.count →
+        is_directory (tree_where chosen image making) i ≡ shows_directory (image.seen i)
     directory_where making all i lt =
         ap (λ (o : Option Node). option_map_or (λ n. is_directory_kind n.kind) o false) (get_node i lt)
         ∙ elim (shows_directory (image.seen i)) as (λ b. shows_directory (image.seen i) ≡ b → option_map_or (λ (n : Node). is_directory_kind n.kind) (cond (chosen i) (Some (node_shown (image.seen i))) None) false ≡ b) [
@@ -168,7 +172,8 @@ module _ (image : SeenInodes) where
           | false ↦ λ t. by_test (chosen i) t
         ] refl
       where
-        by_test : (b : Bool) → shows_directory (image.seen i) ≡ false → option_map_or (λ (n : Node). is_directory_kind n.kind) (cond b (Some (node_shown (image.seen i))) None) false ≡ false
+        by_test : (b : Bool) → shows_directory (image.seen i) ≡ false →
+            option_map_or (λ (n : Node). is_directory_kind n.kind) (cond b (Some (node_shown (image.seen i))) None) false ≡ false
         by_test false t = refl
         by_test true t = ap (λ b. is_directory_kind (cond b Directory File)) t
 

@@ -24,7 +24,8 @@ none_behind (slot ∷ slots) k le =
     by_place zero e rest = e
     by_place (suc j) e rest = rest j
 
-    behind : (k : ℕ) → suc (rows_end slots) ≤ k → ((j : ℕ) → rows_end slots ≤ j → slice_index_or slots j None ≡ None) → slice_index_or (slot ∷ slots) k None ≡ None
+    behind : (k : ℕ) → suc (rows_end slots) ≤ k → ((j : ℕ) → rows_end slots ≤ j → slice_index_or slots j None ≡ None) →
+        slice_index_or (slot ∷ slots) k None ≡ None
     behind zero h rest = absurd (omega arith)
     behind (suc j) h rest = rest j (omega arith)
 

@@ -1,4 +1,5 @@
 pub mod Basics
+pub mod BlockRows
 pub mod Committed
 pub mod Elsewhere
 pub mod Faults
@@ -6,11 +7,14 @@ pub mod FirstFault
 pub mod Images
 pub mod LastBlock
 pub mod LinkChanges
+pub mod Made
 pub mod Mounted
 pub mod NetRows
+pub mod Numbers
 pub mod Orphans
 pub mod Paired
 pub mod Parts
+pub mod Places
 pub mod Ranks
 pub mod Renaming
 pub mod Shapes

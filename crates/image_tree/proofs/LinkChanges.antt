@@ -24,7 +24,7 @@ use Rattle.image_tree.specs.LinkChanges.{NetChange, net_changes, counted_row, ga
 use Rattle.image_tree.specs.Laws.{NetsGiveLinks}
 use Rattle.sfs_base.proofs.BasicTruth.{not_both}
 use Rattle.sfs_base.proofs.BasicOptions.{none_some}
-use Rattle.image_tree.proofs.SlotRows.{bytes_same, bytes_are}
+use Rattle.sfs_base.proofs.BasicLists.{bytes_same, same_bytes}
 use Rattle.image_tree.proofs.NetRows.{no_net_row, HasNamesOnce, once_ascending}
 use Rattle.image_tree.proofs.Standing.{kind_directory}
 
@@ -94,7 +94,8 @@ module _ (p : Key × ℕ → Bool) where
   count_with rows k (Some x) = count-insert (remove rows k) k x p (none_removed rows k)
 
   -- what all changes come to in a count
-  counted_changes : (cs : List NetChange) (old new : FinMap key_cmp ℕ) → AtOwnKeys cs → Tells old new cs → ((k : Key) → NotAmong k cs → get old k ≡ get new k) → passing new + lost p cs ≡ passing old + gained p cs
+  counted_changes : (cs : List NetChange) (old new : FinMap key_cmp ℕ) → AtOwnKeys cs → Tells old new cs →
+      ((k : Key) → NotAmong k cs → get old k ≡ get new k) → passing new + lost p cs ≡ passing old + gained p cs
   unfolding AtOwnKeys Tells NotAmong
   counted_changes [] old new own tells rest = ap (λ rows. passing rows + 0) (sym (same_rows old new (λ k. rest k tt)))
   counted_changes (c ∷ cs) old new own tells rest =
@@ -147,7 +148,7 @@ no_change d n [] none = tt
 no_change d n (row ∷ rows) none =
     elim (bytes_eq n row.name) as (λ b. bytes_eq n row.name ≡ b → cond b (Some row) (row_in_net n rows) ≡ None → NotAmong (d, n) (in_directory d (row ∷ rows))) [
       | true ↦ λ t e. absurd (none_some (sym e))
-      | false ↦ λ t e. (λ same. not_both (ap (bytes_eq n) (ap (λ (z : Key). z.1) same) ∙ bytes_same n) t, no_change d n rows e)
+      | false ↦ λ t e. (λ same. not_both (ap (bytes_eq n) (ap (λ (z : Key). z.1) same) ∙ same_bytes n) t, no_change d n rows e)
     ] refl none
 
 change_none : (d : ℕ) (n : List ℕ) (net : List NetRow) → NotAmong (d, n) (in_directory d net) → row_in_net n net ≡ None
@@ -155,7 +156,7 @@ unfolding NotAmong
 change_none d n [] apart = refl
 change_none d n (row ∷ rows) apart =
     elim (bytes_eq n row.name) as (λ b. bytes_eq n row.name ≡ b → cond b (Some row) (row_in_net n rows) ≡ None) [
-      | true ↦ λ t. absurd (apart.0 (ap (λ (m : List ℕ). (d, m)) (sym (bytes_are n row.name t))))
+      | true ↦ λ t. absurd (apart.0 (ap (λ (m : List ℕ). (d, m)) (sym (bytes_same n row.name t))))
       | false ↦ λ t. change_none d n rows apart.1
     ] refl
 
@@ -177,7 +178,8 @@ module _ (old new : TreeState) (nets : ℕ → List NetRow) (each : (d : ℕ) �
   later_apart k [] all = tt
   later_apart k (m ∷ members) all = not_among_append k (in_directory m (nets m)) (net_changes nets members) (elsewhere k m (nets m) (less_apart k.0 m all.0)) (later_apart k members all.1)
 
-  joined_keys : (d : ℕ) (net : List NetRow) (rest : List NetChange) → AtOwnKeys (in_directory d net) → AtOwnKeys rest → ((n : List ℕ) → NotAmong (d, n) rest) → AtOwnKeys (in_directory d net ++ rest)
+  joined_keys : (d : ℕ) (net : List NetRow) (rest : List NetChange) → AtOwnKeys (in_directory d net) → AtOwnKeys rest →
+      ((n : List ℕ) → NotAmong (d, n) rest) → AtOwnKeys (in_directory d net ++ rest)
   unfolding AtOwnKeys
   joined_keys d [] rest own others apart = others
   joined_keys d (row ∷ rows) rest own others apart = (not_among_append (d, row.name) (in_directory d rows) rest own.0 (apart row.name), joined_keys d rows rest own.1 others apart)
@@ -187,7 +189,8 @@ module _ (old new : TreeState) (nets : ℕ → List NetRow) (each : (d : ℕ) �
   all_keys [] up = tt
   all_keys (m ∷ members) up = joined_keys m (nets m) (net_changes nets members) (own_keys m (nets m) (once_ascending (nets m) (each m).ascending)) (all_keys members up.1) (λ n. later_apart (m, n) members up.0)
 
-  tells_one : (d : ℕ) (net : List NetRow) (rest : List NetChange) → All (IsNetRow (names_of d old.rows) (names_of d new.rows)) net → Tells old.rows new.rows rest → Tells old.rows new.rows (in_directory d net ++ rest)
+  tells_one : (d : ℕ) (net : List NetRow) (rest : List NetChange) → All (IsNetRow (names_of d old.rows) (names_of d new.rows)) net →
+      Tells old.rows new.rows rest → Tells old.rows new.rows (in_directory d net ++ rest)
   unfolding Tells
   tells_one d [] rest all others = others
   tells_one d (row ∷ rows) rest all others =
@@ -200,7 +203,8 @@ module _ (old new : TreeState) (nets : ℕ → List NetRow) (each : (d : ℕ) �
   tells_all (m ∷ members) = tells_one m (nets m) (net_changes nets members) (each m).each (tells_all members)
 
   -- a key that no change is at has no change in its directory's net
-  own_net : (k : Key) (members : List ℕ) → list_any (λ member. nat_eq member k.0) members ≡ true → NotAmong k (net_changes nets members) → NotAmong k (in_directory k.0 (nets k.0))
+  own_net : (k : Key) (members : List ℕ) → list_any (λ member. nat_eq member k.0) members ≡ true → NotAmong k (net_changes nets members) →
+      NotAmong k (in_directory k.0 (nets k.0))
   own_net k [] has apart = absurd (not_both has refl)
   own_net k (m ∷ members) has apart =
       elim (nat_eq m k.0) as (λ b. nat_eq m k.0 ≡ b → (b || list_any (λ member. nat_eq member k.0) members) ≡ true → NotAmong k (in_directory k.0 (nets k.0))) [
@@ -208,7 +212,8 @@ module _ (old new : TreeState) (nets : ℕ → List NetRow) (each : (d : ℕ) �
         | false ↦ λ t h. own_net k members h (not_among_second k (in_directory m (nets m)) (net_changes nets members) apart)
       ] refl has
 
-  unchanged : (members : List ℕ) → ((d : ℕ) → list_any (λ member. nat_eq member d) members ≡ false → nets d ≡ []) → (k : Key) → NotAmong k (net_changes nets members) → get old.rows k ≡ get new.rows k
+  unchanged : (members : List ℕ) → ((d : ℕ) → list_any (λ member. nat_eq member d) members ≡ false → nets d ≡ []) → (k : Key) →
+      NotAmong k (net_changes nets members) → get old.rows k ≡ get new.rows k
   unchanged members others k apart =
       sym (get-names_where k.0 (λ _. true) old.rows k.1)
       ∙ no_net_row (names_of k.0 old.rows) (names_of k.0 new.rows) (nets k.0) (each k.0) k.1 no_row
@@ -221,7 +226,8 @@ module _ (old new : TreeState) (nets : ℕ → List NetRow) (each : (d : ℕ) �
       ] refl
 
 -- rows that pass a test, with those that went, are those before with those that came
-pub counted_by_nets : (old new : TreeState) (nets : ℕ → List NetRow) (members : List ℕ) (p : Key × ℕ → Bool) → AreAllNets old new nets members → count_by p (entries new.rows) + lost p (net_changes nets members) ≡ count_by p (entries old.rows) + gained p (net_changes nets members)
+pub counted_by_nets : (old new : TreeState) (nets : ℕ → List NetRow) (members : List ℕ) (p : Key × ℕ → Bool) → AreAllNets old new nets members →
+    count_by p (entries new.rows) + lost p (net_changes nets members) ≡ count_by p (entries old.rows) + gained p (net_changes nets members)
 counted_by_nets old new nets members p h =
     counted_changes p (net_changes nets members) old.rows new.rows (all_keys old new nets h.each members h.ascending) (tells_all old new nets h.each members) (unchanged old new nets h.each members h.others)
 
@@ -247,5 +253,6 @@ nets_give_links old new nets members x h =
     agree : count_by (holds_directory old x) (entries old.rows) ≡ count_by (holds_directory new x) (entries old.rows)
     agree = count_agree (holds_directory old x) (holds_directory new x) old.rows (λ k y _. ap (λ b. nat_eq k.0 x && b) (same y))
 
-    links_if : (tree : TreeState) (b : Bool) → is_directory tree x ≡ b → links_of tree x ≡ cond b (2 + count_by (holds_directory tree x) (entries tree.rows)) (count_of tree.rows x)
+    links_if : (tree : TreeState) (b : Bool) → is_directory tree x ≡ b →
+        links_of tree x ≡ cond b (2 + count_by (holds_directory tree x) (entries tree.rows)) (count_of tree.rows x)
     links_if tree b e = ap (λ b. cond b (2 + count_by (holds_directory tree x) (entries tree.rows)) (count_of tree.rows x)) e

@@ -15,7 +15,7 @@ use Rattle.sfs_tree.specs.Tree.{BUCKET_ROWS, TreeState, Node, row_of, is_directo
 use Rattle.sfs_tree.specs.Sound.{Above, at_root, below, IsSound, IsWithinLimits}
 use Rattle.sfs_tree.proofs.Counting.{count_some, count_agree, only}
 use Rattle.sfs_tree.proofs.Joined.{name_cmp-IsAntisymmetric, bucket_small}
-use Rattle.sfs_base.proofs.BasicNumbers.{not_same}
+use Rattle.sfs_base.proofs.BasicNumbers.{not_same, some_counted}
 use Rattle.sfs_tree.proofs.Names.{get-names_where}
 use Rattle.sfs_tree.proofs.RowFacts.{root_alive, named_alive}
 use Rattle.sfs_image.specs.Slot.{Row, kind_byte}
@@ -34,7 +34,8 @@ use Rattle.image_tree.proofs.SlotRows.{looked_named}
 use Rattle.image_tree.proofs.Images.{row_shown, no_row_shown, no_rows_outside, slot_back, get_node, no_node_outside, node_is, directory_where, directory_shown, directory_is_node, file_is_node, kind_again}
 
 -- what may stand in each slot may be looked up
-pub looked_may : (image : SeenInodes) (n : List ℕ) (slots : List (Option Row)) (row : Row) → AllByRecursion (MayStand image) slots → looked_up n slots ≡ Some row → MayName image row
+pub looked_may : (image : SeenInodes) (n : List ℕ) (slots : List (Option Row)) (row : Row) → AllByRecursion (MayStand image) slots →
+    looked_up n slots ≡ Some row → MayName image row
 looked_may image n [] row all is = absurd (none_some is)
 looked_may image n (None ∷ slots) row all is = looked_may image n slots row all.1 is
 looked_may image n (Some held ∷ slots) row all is =
@@ -86,10 +87,7 @@ module _ (image : SeenInodes) (k : KeepsRules image) (chosen : ℕ → Bool) (di
 
   chosen_child : (d : ℕ) (n : List ℕ) (x : ℕ) → row_of tree d n ≡ Some x → (kind : Kind) → (image.seen x).kind ≡ kind_byte kind → chosen x ≡ true
   chosen_child d n x row Directory is = directories x is
-  chosen_child d n x row File is = files x is (more (named_count d n x row))
-    where
-      more : {c : ℕ} → 0 < c → c ≢ 0
-      more lt e = omega arith
+  chosen_child d n x row File is = files x is (some_counted (named_count d n x row))
 
   one_row : (x : ℕ) (d e : ℕ) (n m : List ℕ) → row_of tree d n ≡ Some x → row_of tree e m ≡ Some x → count_of (image_rows image) x ≤ 1 → (d ≡ e) × (n ≡ m)
   one_row x d e n m first second le =
@@ -116,7 +114,8 @@ module _ (image : SeenInodes) (k : KeepsRules image) (chosen : ℕ → Bool) (di
 
 -- the tree of an image with chosen inodes as nodes is within its limits, where its directories have no bytes and no overfull bucket
 module _ (image : SeenInodes) (chosen : ℕ → Bool) (directories : (i : ℕ) → (image.seen i).kind ≡ kind_byte Directory → chosen i ≡ true) (making : Making) where
-  no_bucket : (d number : ℕ) → ((n : List ℕ) → cond (nat_eq (bucket n) number) (get (image_rows image) (d, n)) None ≡ None) → len (bucket_rows d number (image_rows image)) ≡ 0
+  no_bucket : (d number : ℕ) → ((n : List ℕ) → cond (nat_eq (bucket n) number) (get (image_rows image) (d, n)) None ≡ None) →
+      len (bucket_rows d number (image_rows image)) ≡ 0
   no_bucket d number none =
       ap len (same_map nat_list_cmp_total name_cmp-IsAntisymmetric (bucket_rows d number (image_rows image)) empty (λ n.
       get-names_where d (λ name. nat_eq (bucket name) number) (image_rows image) n ∙ none n ∙ sym (get-empty name_cmp n)))
@@ -150,7 +149,8 @@ module _ (image : SeenInodes) (chosen : ℕ → Bool) (directories : (i : ℕ) �
     ] refl
   ] refl
 
-  plain_where : ((i : ℕ) → i < image.count → (image.seen i).kind ≡ kind_byte Directory → (image.seen i).bytes ≡ []) → (x : ℕ) → is_directory (tree_where chosen image making) x ≡ true → bytes_of (tree_where chosen image making) x ≡ []
+  plain_where : ((i : ℕ) → i < image.count → (image.seen i).kind ≡ kind_byte Directory → (image.seen i).bytes ≡ []) → (x : ℕ) →
+      is_directory (tree_where chosen image making) x ≡ true → bytes_of (tree_where chosen image making) x ≡ []
   plain_where plain x is = elim (nat_lt x image.count) as (λ b. nat_lt x image.count ≡ b → bytes_of (tree_where chosen image making) x ≡ []) [
     | false ↦ λ t. ap (λ (o : Option Node). option_map_or (λ n. n.bytes) o []) (no_node_outside image chosen x (ltb-false _ _ t))
     | true ↦ λ t.
@@ -159,7 +159,8 @@ module _ (image : SeenInodes) (chosen : ℕ → Bool) (directories : (i : ℕ) �
         ap (λ (o : Option Node). option_map_or (λ n. n.bytes) o []) (node_is image chosen x lt (directories x kind)) ∙ plain x lt kind
   ] refl
 
-  pub limits_where : ((i : ℕ) → i < image.count → (image.seen i).kind ≡ kind_byte Directory → (image.seen i).bytes ≡ []) → KeepsRules image → IsWithinLimits (tree_where chosen image making)
+  pub limits_where : ((i : ℕ) → i < image.count → (image.seen i).kind ≡ kind_byte Directory → (image.seen i).bytes ≡ []) → KeepsRules image →
+      IsWithinLimits (tree_where chosen image making)
   limits_where plain k = record { buckets = buckets_fit k; plain = plain_where plain }
 
 -- the tree of an image that keeps the rules is sound
@@ -235,7 +236,8 @@ module _ (image : SeenInodes) (making : Making) (k : KeepsRules image) (g : Show
   byte_again kind (inl e) = e ∙ sym (ap (λ n. kind_byte (slot_kind n)) e)
   byte_again kind (inr e) = e ∙ sym (ap (λ n. kind_byte (slot_kind n)) e)
 
-  own_slots : (x : ℕ) → x < image.count → (image.seen x).kind ≡ kind_byte Directory → (n : List ℕ) → looked_up n (image.seen x).slots ≡ option_map (row_on num own n) (row_of own x n)
+  own_slots : (x : ℕ) → x < image.count → (image.seen x).kind ≡ kind_byte Directory → (n : List ℕ) →
+      looked_up n (image.seen x).slots ≡ option_map (row_on num own n) (row_of own x n)
   own_slots x lt kind n = by_slot (looked_up n (image.seen x).slots) refl ∙ sym (ap (option_map (row_on num own n)) (row_shown image x n lt kind))
     where
       by_slot : (o : Option Row) → looked_up n (image.seen x).slots ≡ o → o ≡ option_map (row_on num own n) (option_map (λ (row : Row). row.inode) o)
@@ -252,7 +254,8 @@ module _ (image : SeenInodes) (making : Making) (k : KeepsRules image) (g : Show
           some_kind File = refl
           some_kind Directory = refl
 
-  file_slots : (x : ℕ) → x < image.count → (image.seen x).kind ≡ kind_byte File → (n : List ℕ) → looked_up n (image.seen x).slots ≡ option_map (row_on num own n) (row_of own x n)
+  file_slots : (x : ℕ) → x < image.count → (image.seen x).kind ≡ kind_byte File → (n : List ℕ) →
+      looked_up n (image.seen x).slots ≡ option_map (row_on num own n) (row_of own x n)
   file_slots x lt kind n =
       ap (looked_up n) (g.files x lt kind)
       ∙ sym (ap (option_map (row_on num own n)) (no_row_shown image x n lt (λ other. not_both (sym kind ∙ other))))
@@ -272,7 +275,8 @@ module _ (image : SeenInodes) (making : Making) (k : KeepsRules image) (g : Show
         once = once_by_kind (g.kinds x lt some);
       }
     where
-      by_kind : ((image.seen x).kind ≡ kind_byte File) ⊎ ((image.seen x).kind ≡ kind_byte Directory) → (n : List ℕ) → looked_up n (image.seen x).slots ≡ option_map (row_on num own n) (row_of own x n)
+      by_kind : ((image.seen x).kind ≡ kind_byte File) ⊎ ((image.seen x).kind ≡ kind_byte Directory) → (n : List ℕ) →
+          looked_up n (image.seen x).slots ≡ option_map (row_on num own n) (row_of own x n)
       by_kind (inl file) = file_slots x lt file
       by_kind (inr directory) = own_slots x lt directory
 

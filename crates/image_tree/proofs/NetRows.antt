@@ -20,7 +20,8 @@ use Rattle.image_tree.specs.Slots.{looked_up, name_count}
 use Rattle.image_tree.specs.Commit.{row_in_net}
 use Rattle.sfs_base.proofs.BasicTruth.{not_both}
 use Rattle.sfs_base.proofs.BasicOptions.{none_some, some_same}
-use Rattle.image_tree.proofs.SlotRows.{bytes_same, bytes_are, bytes_apart, count_slot}
+use Rattle.sfs_base.proofs.BasicLists.{bytes_same, same_bytes}
+use Rattle.image_tree.proofs.SlotRows.{bytes_apart, count_slot}
 
 -- two numbers that may be there are one or not
 pub same_option : (a b : Option ℕ) → (a ≡ b) ⊎ (a ≢ b)
@@ -39,7 +40,7 @@ found_row P (first ∷ rows) name row h is =
     elim (bytes_eq name first.name) as (λ b. bytes_eq name first.name ≡ b → cond b (Some first) (row_in_net name rows) ≡ Some row → (row.name ≡ name) × P row) [
       | true ↦ λ t e.
           let one : first ≡ row = some_same e in
-          (ap net_name (sym one) ∙ sym (bytes_are name first.name t), subst P one (All-head P first rows h))
+          (ap net_name (sym one) ∙ sym (bytes_same name first.name t), subst P one (All-head P first rows h))
       | false ↦ λ _ e. found_row P rows name row (All-tail P first rows h) e
     ] refl is
 
@@ -49,7 +50,7 @@ not_among [] name is = All-nil (λ other. other ≢ name)
 not_among (row ∷ rows) name is =
     elim (bytes_eq name row.name) as (λ b. bytes_eq name row.name ≡ b → cond b (Some row) (row_in_net name rows) ≡ None → All (λ other. other ≢ name) (net_name row ∷ map net_name rows)) [
       | true ↦ λ t none. absurd (none_some (sym none))
-      | false ↦ λ t none. All-cons (λ other. other ≢ name) row.name (map net_name rows) (λ same. not_both (ap (bytes_eq name) same ∙ bytes_same name) t) (not_among rows name none)
+      | false ↦ λ t none. All-cons (λ other. other ≢ name) row.name (map net_name rows) (λ same. not_both (ap (bytes_eq name) same ∙ same_bytes name) t) (not_among rows name none)
     ] refl is
 
 module _ (earlier later : FinMap name_cmp ℕ) (net : List NetRow) (h : IsNet earlier later net) where
@@ -101,7 +102,8 @@ module _ (make : NetRow → Option Row) (named : (row : NetRow) (made : Row) →
     pub looked : looked_up n (made_of net) ≡ made_at n net
     pub counted : name_count n (made_of net) ≡ one_if_some (made_at n net)
 
-  absent : (n : List ℕ) (row : NetRow) (rows : List NetRow) (o : Option Row) → make row ≡ o → bytes_eq n row.name ≡ false → StandsOnce n rows → (looked_up n (map Some (cons_option o (filter_map make rows))) ≡ made_at n rows) × (name_count n (map Some (cons_option o (filter_map make rows))) ≡ one_if_some (made_at n rows))
+  absent : (n : List ℕ) (row : NetRow) (rows : List NetRow) (o : Option Row) → make row ≡ o → bytes_eq n row.name ≡ false → StandsOnce n rows →
+      (looked_up n (map Some (cons_option o (filter_map make rows))) ≡ made_at n rows) × (name_count n (map Some (cons_option o (filter_map make rows))) ≡ one_if_some (made_at n rows))
   absent n row rows None is other rest = (rest.looked, rest.counted)
   absent n row rows (Some made) is other rest =
       let test : bytes_eq n made.name ≡ false = ap (bytes_eq n) (named row made is) ∙ other in
@@ -110,7 +112,9 @@ module _ (make : NetRow → Option Row) (named : (row : NetRow) (made : Row) →
       let e = rest.counted in
       (ap (λ b. cond b (Some made) (looked_up n (made_of rows))) test ∙ rest.looked, omega arith)
 
-  present : (n : List ℕ) (row : NetRow) (rows : List NetRow) (o : Option Row) → make row ≡ o → bytes_eq n row.name ≡ true → row_in_net n rows ≡ None → StandsOnce n rows → (looked_up n (map Some (cons_option o (filter_map make rows))) ≡ make row) × (name_count n (map Some (cons_option o (filter_map make rows))) ≡ one_if_some (make row))
+  present : (n : List ℕ) (row : NetRow) (rows : List NetRow) (o : Option Row) → make row ≡ o → bytes_eq n row.name ≡ true → row_in_net n rows ≡ None →
+      StandsOnce n rows →
+      (looked_up n (map Some (cons_option o (filter_map make rows))) ≡ make row) × (name_count n (map Some (cons_option o (filter_map make rows))) ≡ one_if_some (make row))
   present n row rows None is here none rest =
       (rest.looked ∙ ap (option_and_then make) none ∙ sym is, rest.counted ∙ ap (λ o. one_if_some (option_and_then make o)) none ∙ sym (ap one_if_some is))
   present n row rows (Some made) is here none rest =
@@ -128,7 +132,7 @@ module _ (make : NetRow → Option Row) (named : (row : NetRow) (made : Row) →
       let rest = is_made n rows once.1 in
       elim (bytes_eq n row.name) as (λ b. bytes_eq n row.name ≡ b → StandsOnce n (row ∷ rows)) [
         | true ↦ λ t.
-            let none = ap (λ m. row_in_net m rows) (bytes_are n row.name t) ∙ once.0 in
+            let none = ap (λ m. row_in_net m rows) (bytes_same n row.name t) ∙ once.0 in
             let p = present n row rows (make row) refl t none rest in
             let at : made_at n (row ∷ rows) ≡ make row = ap (λ b. option_and_then make (cond b (Some row) (row_in_net n rows))) t in
             record { looked = p.0 ∙ sym at; counted = p.1 ∙ sym (ap one_if_some at) }

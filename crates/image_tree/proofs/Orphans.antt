@@ -13,7 +13,7 @@ use Rattle.sfs_image.specs.Slot.{Row, kind_byte}
 use Rattle.sfs_image.specs.Seen.{Seen, SeenInodes}
 use Rattle.sfs_image.proofs.Basics.{pieces_same}
 use Rattle.image_tree.specs.Slots.{looked_up, name_count}
-use Rattle.image_tree.specs.ImageTree.{Making, NOTHING_MADE, shows_directory, shows_file, slot_row, rows_in, image_rows, is_node, node_shown, node_in, nodes_where, image_tree}
+use Rattle.image_tree.specs.ImageTree.{Making, NOTHING_MADE, shows_directory, shows_file, tree_row, rows_in, image_rows, is_node, node_shown, node_in, nodes_where, image_tree}
 use Rattle.image_tree.specs.Stands.{IsUnused, HoldsApart}
 use Rattle.image_tree.specs.Keeps.{ruled_tree, IsDirectoryInode, MayName, MayStand, KeepsRules}
 use Rattle.image_tree.specs.Mount.{ShowsByKind, HasNoOrphans}
@@ -52,10 +52,10 @@ module _ (image next : SeenInodes) (k : KeepsRules image) (g : ShowsByKind image
 
   rows_same : (i : ℕ) → i < image.count → rows_in next i ≡ rows_in image i
   rows_same i lt = elim (freed_or i lt) as (λ _. rows_in next i ≡ rows_in image i) [
-    | inl same ↦ ap (λ (seen : Seen). cond (shows_directory seen) (filter_map (slot_row i) seen.slots) []) same
+    | inl same ↦ ap (λ (seen : Seen). cond (shows_directory seen) (filter_map (tree_row i) seen.slots) []) same
     | inr freed ↦
-        ap (λ b. cond b (filter_map (slot_row i) (next.seen i).slots) []) (no_directory (next.seen i) 0 freed.0.kind refl)
-        ∙ sym (ap (λ b. cond b (filter_map (slot_row i) (image.seen i).slots) []) (no_directory (image.seen i) (kind_byte File) (orphan_file i freed.1) refl))
+        ap (λ b. cond b (filter_map (tree_row i) (next.seen i).slots) []) (no_directory (next.seen i) 0 freed.0.kind refl)
+        ∙ sym (ap (λ b. cond b (filter_map (tree_row i) (image.seen i).slots) []) (no_directory (image.seen i) (kind_byte File) (orphan_file i freed.1) refl))
   ]
 
   all_rows_same : image_rows next ≡ image_rows image
@@ -122,7 +122,8 @@ module _ (image next : SeenInodes) (k : KeepsRules image) (g : ShowsByKind image
       not_both e = cc
 
   -- an inode that a row names stays
-  named_stays : (d : ℕ) → IsDirectoryInode image d → (row : Row) → looked_up row.name (image.seen d).slots ≡ Some row → next.seen row.inode ≡ image.seen row.inode
+  named_stays : (d : ℕ) → IsDirectoryInode image d → (row : Row) → looked_up row.name (image.seen d).slots ≡ Some row →
+      next.seen row.inode ≡ image.seen row.inode
   named_stays d is row found =
       let may = looked_may image row.name (image.seen d).slots row (k.children d is) found in
       f.others row.inode may.within (not_orphan (is_orphan image row.inode) refl)

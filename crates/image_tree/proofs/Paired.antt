@@ -22,7 +22,8 @@ module _ (p q : Key × ℕ → Bool) (to : Key × ℕ → Key × ℕ) where
   same_entry : (k : Key) (x : ℕ) (e : Key × ℕ) → k ≡ e.0 → x ≡ e.1 → ◌≡◌ {A = Key × ℕ} (k, x) e
   same_entry k x e a b = λ i. (a i, b i)
 
-  fewer : (e : Key × ℕ) (es : List (Key × ℕ)) → T (is_sorted key_cmp (e ∷ es)) → p e ≡ false → (rows : FinMap key_cmp ℕ) → ArePaired p q to (found_in (e ∷ es)) rows → ArePaired p q to (found_in es) rows
+  fewer : (e : Key × ℕ) (es : List (Key × ℕ)) → T (is_sorted key_cmp (e ∷ es)) → p e ≡ false → (rows : FinMap key_cmp ℕ) →
+      ArePaired p q to (found_in (e ∷ es)) rows → ArePaired p q to (found_in es) rows
   fewer e es s fails rows h = record {
     forth = λ k x is. h.forth k x (behind k x is);
     back = λ l y is passes.
@@ -37,7 +38,8 @@ module _ (p q : Key × ℕ → Bool) (to : Key × ℕ → Key × ℕ) where
       behind : (k : Key) (x : ℕ) → find key_cmp k es ≡ Some x → find key_cmp k (e ∷ es) ≡ Some x
       behind k x is = found_behind key_cmp_total key_cmp-IsAntisymmetric k x e es s is
 
-  without : (e : Key × ℕ) (es : List (Key × ℕ)) → T (is_sorted key_cmp (e ∷ es)) → p e ≡ true → (rows : FinMap key_cmp ℕ) → ArePaired p q to (found_in (e ∷ es)) rows → ArePaired p q to (found_in es) (remove rows (to e).0)
+  without : (e : Key × ℕ) (es : List (Key × ℕ)) → T (is_sorted key_cmp (e ∷ es)) → p e ≡ true → (rows : FinMap key_cmp ℕ) →
+      ArePaired p q to (found_in (e ∷ es)) rows → ArePaired p q to (found_in es) (remove rows (to e).0)
   without e es s passes rows h = record {
     forth = λ k x is pass.
         let f = h.forth k x (behind k x is) pass in
@@ -61,7 +63,8 @@ module _ (p q : Key × ℕ → Bool) (to : Key × ℕ → Key × ℕ) where
       behind : (k : Key) (x : ℕ) → find key_cmp k es ≡ Some x → find key_cmp k (e ∷ es) ≡ Some x
       behind k x is = found_behind key_cmp_total key_cmp-IsAntisymmetric k x e es s is
 
-  paired_list : (es : List (Key × ℕ)) → T (is_sorted key_cmp es) → (rows : FinMap key_cmp ℕ) → ArePaired p q to (found_in es) rows → count_by p es ≡ count_by q (entries rows)
+  paired_list : (es : List (Key × ℕ)) → T (is_sorted key_cmp es) → (rows : FinMap key_cmp ℕ) → ArePaired p q to (found_in es) rows →
+      count_by p es ≡ count_by q (entries rows)
   paired_list [] s rows h = sym (count_none q rows (λ k x is. no k x is (q (k, x)) refl))
     where
       no : (k : Key) (x : ℕ) → get rows k ≡ Some x → (b : Bool) → q (k, x) ≡ b → q (k, x) ≡ false
@@ -85,7 +88,8 @@ module _ (p q : Key × ℕ → Bool) (to : Key × ℕ → Key × ℕ) where
       none_more n = omega arith
 
 -- so they are counted alike
-pub count_paired : (p q : Key × ℕ → Bool) (to : Key × ℕ → Key × ℕ) (rows other : FinMap key_cmp ℕ) → ArePaired p q to (get rows) other → count_by p (entries rows) ≡ count_by q (entries other)
+pub count_paired : (p q : Key × ℕ → Bool) (to : Key × ℕ → Key × ℕ) (rows other : FinMap key_cmp ℕ) → ArePaired p q to (get rows) other →
+    count_by p (entries rows) ≡ count_by q (entries other)
 count_paired p q to rows other h =
     paired_list p q to (entries rows) (entries_sorted rows) other (record {
       forth = λ k x is. h.forth k x (get-entries rows k ∙ is);

@@ -1,41 +1,43 @@
 -- What the settled parts of an image show, where no rule on bytes is broken.
-use Rattle.std.proofs.Common.{◌≡◌, ◌≢◌, ℕ, zero, suc, ◌+◌, ◌-◌, ◌*◌, ◌/◌, ◌%◌, ◌<◌, ◌≤◌, true, false, cond, not, ◌||◌, ◌&&◌, List, [], ◌∷◌, take, drop, map, length, slice_index, Option, Some, None, ◌⊎◌, inl, inr, refl, sym, ap, subst, ◌∙◌, arith, nat_eq, nat_lt}
+use Rattle.std.proofs.Common.{◌≡◌, ◌≢◌, ℕ, zero, suc, ◌+◌, ◌-◌, ◌*◌, ◌/◌, ◌<◌, ◌≤◌, true, false, cond, List, [], ◌∷◌, take, drop, length, slice_index, None, ◌⊎◌, inl, inr, refl, sym, ap, subst, ◌∙◌, arith, nat_eq, nat_lt}
 use borrow.Author.Tests.{eqb-true, eq-eqb, ltb-false}
 use Rattle.std.specs.Prelude.{is_some, position, slice_index_or}
-use Rattle.std.specs.List.{flat_map, range_with_len}
-use Rattle.std.proofs.lemmas.List.{get_or-drop, get_or-take, get_or_past, length-take-le, length-append, length-map}
-use Rattle.std.proofs.lemmas.List.FromFn.{length-range_with_len}
+use Rattle.std.specs.List.{flat_map}
+use Rattle.std.proofs.lemmas.List.{get_or-drop, get_or-take, get_or_past, length-take-le}
 use Rattle.std.proofs.lemmas.Bool.{cases_lt}
 use Rattle.sfs_base.specs.declared.numbers.Kind.TheVariants.{File, Directory}
 use Rattle.sfs_image.specs.Bytes.{part, number_from, u32s_at, nonzero_in, is_nonzero}
 use Rattle.sfs_image.specs.Inode.{inode_of, inode_fault, pointers_of, table_of, entry_of}
 use Rattle.sfs_image.specs.Part.{Part, inode_in, part_of, block_pointer, pointer_at, seen_of, is_free_part, is_file_part, is_directory_part, directory_blocks, shown_bytes, shown_slots, tabulate}
-use Rattle.sfs_image.specs.Rules.{DIRECTORY_BLOCKS, HasBlockAt, breaks_record, breaks_root, breaks_size, breaks_apart}
+use Rattle.sfs_image.specs.Rules.{HasBlockAt, breaks_record, breaks_root, breaks_size, breaks_apart}
 use Rattle.sfs_image.specs.Seen.{SeenInodes, FILE_BLOCKS, PLACES}
 use Rattle.sfs_image.specs.Slot.{kind_byte}
-use Rattle.sfs_image.specs.SlotBlock.{slots_of, slot_in}
+use Rattle.sfs_image.specs.SlotBlock.{slots_of}
 use Rattle.sfs_image.proofs.Basics.{length-tabulate}
 use Rattle.sfs_image.proofs.BytesLaws.{zeros_from_none, zeros-byte, None-option_map}
 use Rattle.sfs_image.proofs.InodeLaws.{InodeFacts, inode_facts}
 use Rattle.sfs_image.proofs.PiecesLaws.{length-u32s_at, get_or-u32s_at}
 use Rattle.sfs_image.proofs.PartLaws.{pointer_of_block, pointer_of_table, table_is_read, hole_is_read}
+use Rattle.sfs_base.proofs.BasicOptions.{none_of}
+use Rattle.sfs_image.proofs.RuleFacts.{sizes_say}
+use Rattle.sfs_image.proofs.ShownLaws.{slots_shown}
 use Rattle.sfs_image.proofs.RuleLaws.{apart_from_rule}
 use Rattle.image_tree.specs.Stands.{own_size, IsUnused, HoldsApart}
 use Rattle.image_tree.specs.Mount.{ShowsByKind}
-use Rattle.sfs_base.proofs.BasicTruth.{or_first, or_second, not_false, not_both}
+use Rattle.sfs_base.proofs.BasicTruth.{not_false}
 
 -- bytes that are all zero, also past their end
-abbrev AllZero : List ℕ → Type 0
+abbrev pub AllZero : List ℕ → Type 0
 AllZero bytes = (k : ℕ) → slice_index bytes k ≡ 0
 
 zero_number : (bytes : List ℕ) → AllZero bytes → (i n : ℕ) → number_from i n bytes ≡ 0
 zero_number bytes all i zero = refl
 zero_number bytes all i (suc n) = let a = all i in let b = zero_number bytes all (suc i) n in omega arith
 
-zero_drop : (n : ℕ) (bytes : List ℕ) → AllZero bytes → AllZero (drop n bytes)
+pub zero_drop : (n : ℕ) (bytes : List ℕ) → AllZero bytes → AllZero (drop n bytes)
 zero_drop n bytes all k = get_or-drop n bytes k 0 ∙ all (n + k)
 
-zero_take : (n : ℕ) (bytes : List ℕ) → ((k : ℕ) → k < n → slice_index bytes k ≡ 0) → AllZero (take n bytes)
+pub zero_take : (n : ℕ) (bytes : List ℕ) → ((k : ℕ) → k < n → slice_index bytes k ≡ 0) → AllZero (take n bytes)
 zero_take n bytes all k = elim (cases_lt k n) [
   | inl lt ↦ get_or-take n bytes k 0 lt ∙ all k lt
   | inr le ↦ get_or_past (take n bytes) k 0 (short n bytes k le)
@@ -110,17 +112,6 @@ module _ (store : ℕ → List ℕ) (raw : List ℕ) where
         again : (place : ℕ) → FILE_BLOCKS ≤ place → FILE_BLOCKS + (place - FILE_BLOCKS) ≡ place
         again place le = omega arith
 
--- each block of a directory has fifteen slots
-length_slots : (blocks : List (List ℕ)) → length (flat_map slots_of blocks) ≡ 15 * length blocks
-unfolding slots_of
-length_slots [] = refl
-length_slots (block ∷ blocks) =
-    let a = length-append (map (slot_in block) (range_with_len 0 15)) (flat_map slots_of blocks) in
-    let b = length_slots blocks in
-    let c = length-map (range_with_len 0 15) (slot_in block) in
-    let d = length-range_with_len 0 15 in
-    omega arith
-
 -- the inodes that parts of a store show
 module _ (store : ℕ → List ℕ) (raws : ℕ → List ℕ) (count : ℕ) where
   abbrev parts : ℕ → Part
@@ -132,10 +123,6 @@ module _ (store : ℕ → List ℕ) (raws : ℕ → List ℕ) (count : ℕ) wher
   module _ (records : (i : ℕ) → i < count → breaks_record (parts i) ≡ false) where
     facts : (i : ℕ) → i < count → InodeFacts (raws i)
     facts i lt = inode_facts (raws i) (none_of (inode_fault (raws i)) (ap (λ (r : List ℕ). is_some (inode_fault r)) (sym (own_raw store (raws i))) ∙ records i lt))
-      where
-        none_of : (o : Option ℕ) → is_some o ≡ false → o ≡ None
-        none_of None e = refl
-        none_of (Some at) e = absurd (not_both refl e)
 
     abbrev kind_at : ℕ → ℕ
     kind_at i = (inode_in (parts i)).kind
@@ -156,13 +143,6 @@ module _ (store : ℕ → List ℕ) (raws : ℕ → List ℕ) (count : ℕ) wher
         by_number (suc (suc (suc n))) some le = absurd (omega arith)
 
     module _ (sizes : (i : ℕ) → i < count → breaks_size (parts i) ≡ false) where
-      directory_size : (i : ℕ) → i < count → kind_at i ≡ kind_byte Directory → ((inode_in (parts i)).size % 4096 ≡ 0) × ((inode_in (parts i)).size ≤ 4096 * DIRECTORY_BLOCKS)
-      directory_size i lt kind =
-          let size = (inode_in (parts i)).size in
-          let here = or_second (is_file_part (parts i) && nat_lt (4096 * FILE_BLOCKS) (inode_in (parts i)).size) _ (sizes i lt) in
-          let both : (not (nat_eq ((inode_in (parts i)).size % 4096) 0) || nat_lt (4096 * DIRECTORY_BLOCKS) (inode_in (parts i)).size) ≡ false = sym (ap (λ b. b && (not (nat_eq ((inode_in (parts i)).size % 4096) 0) || nat_lt (4096 * DIRECTORY_BLOCKS) (inode_in (parts i)).size)) (eq-eqb _ _ kind)) ∙ here in
-          (eqb-true _ _ (not_false _ (or_first (not (nat_eq ((inode_in (parts i)).size % 4096) 0)) _ both)), ltb-false _ _ (or_second (not (nat_eq ((inode_in (parts i)).size % 4096) 0)) _ both))
-
       size_shown : (i : ℕ) → i < count → kind_at i ≢ 0 → (inode_in (parts i)).size ≡ own_size (seen_of (parts i))
       size_shown i lt used = elim (kinds_shown i lt used) [
         | inl file ↦
@@ -170,12 +150,14 @@ module _ (store : ℕ → List ℕ) (raws : ℕ → List ℕ) (count : ℕ) wher
             ∙ ap (λ n. length (cond (nat_eq n (kind_byte File)) (tabulate (inode_in (parts i)).size (Rattle.sfs_image.specs.Part.file_byte (parts i))) [])) file
             ∙ length-tabulate (inode_in (parts i)).size (Rattle.sfs_image.specs.Part.file_byte (parts i)))
         | inr directory ↦
-            let d = directory_size i lt directory in
+            let is = eq-eqb (kind_at i) (kind_byte Directory) directory in
+            let fits = (sizes_say (parts i)).0 (sizes i lt) in
+            let whole_blocks = fits.whole is in
+            let few = fits.few is in
             let blocks = length_blocks store (raws i) in
-            let taken : length (take ((inode_in (parts i)).size / 4096) (parts i).blocks) ≡ (inode_in (parts i)).size / 4096 = length-take-le ((inode_in (parts i)).size / 4096) (parts i).blocks (let e = d.1 in omega arith) in
-            let slots : length (shown_slots (parts i)) ≡ 15 * ((inode_in (parts i)).size / 4096) =
-            ap (λ n. length (cond (nat_eq n (kind_byte Directory)) (flat_map slots_of (directory_blocks (parts i))) [])) directory ∙ length_slots (directory_blocks (parts i)) ∙ ap (λ n. 15 * n) taken in
-            let whole : (inode_in (parts i)).size ≡ 4096 * ((15 * ((inode_in (parts i)).size / 4096)) / 15) = let e = d.0 in omega arith in
+            let taken : length (take ((inode_in (parts i)).size / 4096) (parts i).blocks) ≡ (inode_in (parts i)).size / 4096 = length-take-le ((inode_in (parts i)).size / 4096) (parts i).blocks (omega arith) in
+            let slots : length (shown_slots (parts i)) ≡ 15 * ((inode_in (parts i)).size / 4096) = (slots_shown (parts i) is).count ∙ ap (λ n. 15 * n) taken in
+            let whole : (inode_in (parts i)).size ≡ 4096 * ((15 * ((inode_in (parts i)).size / 4096)) / 15) = omega arith in
             whole
             ∙ ap (λ n. 4096 * (n / 15)) (sym slots)
             ∙ sym (ap (λ n. cond (nat_eq n (kind_byte Directory)) (4096 * (length (shown_slots (parts i)) / 15)) (length (shown_bytes (parts i)))) directory)

@@ -5,10 +5,10 @@ use Rattle.std.specs.List.{range_with_len}
 use Rattle.std.specs.Option.{option_map_or}
 use Rattle.std.proofs.lemmas.Bool.{cases_lt}
 use Rattle.sfs_tree.proofs.Joined.{count-cons}
-use Rattle.sfs_image.specs.Seen.{SeenInodes, FILE_BLOCKS, PLACES}
+use Rattle.sfs_image.specs.Seen.{Seen, SeenInodes, FILE_BLOCKS, PLACES}
 use Rattle.image_tree.specs.Commit.{Commit, seen_before, HasBlock, hole, kept, fresh, TakesBlocks}
 use Rattle.image_tree.specs.Need.{Rewrite, rewrites_table, table_has_pointer, takes_place, pointer_after, place_in_row, takes_in_row, rank, RanksServe, GrantServes, IsListed, TakesByRank}
-use Rattle.image_tree.specs.Laws.{RanksServeGrants, RanksTakeFreeBlocks}
+use Rattle.image_tree.specs.Laws.{RanksServeGrants, RanksTakeFreeBlocks, RanksGoOn}
 use Rattle.sfs_base.proofs.BasicOptions.{none_some, some_same}
 
 module _ (takes : ℕ → Bool) where
@@ -76,10 +76,65 @@ module _ (takes : ℕ → Bool) where
 pub ranks_serve_grants : RanksServeGrants
 ranks_serve_grants takes = ranks_serve takes
 
+rank_none : (takes : ℕ → Bool) → rank takes 0 ≡ 0
+unfolding rank
+rank_none takes = refl
+
+-- a place in the row is that of its inode
+place_takes : (rewrites : List Rewrite) (m place : ℕ) (rewrite : Rewrite) → slice_get rewrites m ≡ Some rewrite → place < PLACES →
+    takes_in_row rewrites (place_in_row m place) ≡ takes_place rewrite place
+place_takes rewrites m place rewrite is small =
+    let quotient : (PLACES * m + place) / PLACES ≡ m = omega arith in
+    let remainder : (PLACES * m + place) % PLACES ≡ place = omega arith in
+    ap (λ n. option_map_or (λ (r : Rewrite). takes_place r ((PLACES * m + place) % PLACES)) (slice_get rewrites n) false) quotient
+    ∙ ap (λ (o : Option Rewrite). option_map_or (λ (r : Rewrite). takes_place r ((PLACES * m + place) % PLACES)) o false) is
+    ∙ ap (takes_place rewrite) remainder
+
+pub ranks_go_on : RanksGoOn
+ranks_go_on rewrites m place rewrite is le = go place le
+  where
+    next : (place : ℕ) → PLACES * m + suc place ≡ suc (PLACES * m + place)
+    next place = omega arith
+
+    go : (place : ℕ) → place ≤ PLACES →
+        rank (takes_in_row rewrites) (place_in_row m place) ≡ rank (takes_in_row rewrites) (place_in_row m 0) + rank (takes_place rewrite) place
+    go zero le = let a = rank_none (takes_place rewrite) in omega arith
+    go (suc place) le =
+        let rest = go place (omega arith) in
+        let more = ap (rank (takes_in_row rewrites)) (next place) ∙ rank_more (takes_in_row rewrites) (PLACES * m + place) in
+        let own = rank_more (takes_place rewrite) place in
+        let same : cond {A = ℕ} (takes_in_row rewrites (place_in_row m place)) 1 0 ≡ cond {A = ℕ} (takes_place rewrite place) 1 0 = ap (λ b. cond {A = ℕ} b 1 0) (place_takes rewrites m place rewrite is (omega arith)) in
+        omega arith
+
 listed_below : {A : Type 0} (xs : List A) (m : ℕ) (x : A) → slice_get xs m ≡ Some x → m < length xs
 listed_below [] m x e = absurd (none_some e)
 listed_below (y ∷ ys) zero x e = omega arith
 listed_below (y ∷ ys) (suc m) x e = let lt = listed_below ys m x e in omega arith
+
+-- a place that follows what is rewritten has a hole, its old block, or a fresh one that it takes
+module _ (commit : Commit) (i place : ℕ) (r : Rewrite) (old new : Seen) where
+  abbrev Has : Type 0
+  Has = HasBlock commit i place old new
+
+  at_block : (rewritten empty : Bool) → new.blocks place ≡ cond rewritten (cond empty 0 (commit.fresh i place)) (r.pointers place) →
+      commit.takes i place ≡ (rewritten && not empty) → r.pointers place ≡ old.blocks place → Has
+  at_block true true after takes before = hole after
+  at_block true false after takes before = fresh takes after
+  at_block false empty after takes before = kept (after ∙ before)
+
+  at_table : (rewritten some : Bool) → new.blocks place ≡ cond rewritten (cond some (commit.fresh i place) 0) (r.pointers place) →
+      commit.takes i place ≡ (rewritten && some) → r.pointers place ≡ old.blocks place → Has
+  at_table true true after takes before = fresh takes after
+  at_table true false after takes before = hole after
+  at_table false some after takes before = kept (after ∙ before)
+
+  pub pointer_has_block : new.blocks place ≡ pointer_after r (commit.fresh i) place → commit.takes i place ≡ takes_place r place →
+      r.pointers place ≡ old.blocks place → Has
+  pointer_has_block after takes before =
+      elim (nat_lt place FILE_BLOCKS) as (λ b. new.blocks place ≡ cond b (cond (r.is_rewritten place) (cond (r.is_zero place) 0 (commit.fresh i place)) (r.pointers place)) (cond (rewrites_table r (place - FILE_BLOCKS)) (cond (table_has_pointer r (place - FILE_BLOCKS)) (commit.fresh i place) 0) (r.pointers place)) → commit.takes i place ≡ cond b (r.is_rewritten place && not (r.is_zero place)) (rewrites_table r (place - FILE_BLOCKS) && table_has_pointer r (place - FILE_BLOCKS)) → Has) [
+        | true ↦ λ a k. at_block (r.is_rewritten place) (r.is_zero place) a k before
+        | false ↦ λ a k. at_table (rewrites_table r (place - FILE_BLOCKS)) (table_has_pointer r (place - FILE_BLOCKS)) a k before
+      ] after takes
 
 module _ (commit : Commit) (image next : SeenInodes) (inodes : List ℕ) (rewrites : List Rewrite) (grant : List ℕ) (g : GrantServes image rewrites grant) (t : TakesByRank commit image next inodes rewrites grant) where
   -- a place that takes a block does so in the row, at its rank
@@ -110,35 +165,15 @@ module _ (commit : Commit) (image next : SeenInodes) (inodes : List ℕ) (rewrit
 
       row_takes : (m : ℕ) (rewrite : Rewrite) → IsListed inodes rewrites i m rewrite → place < PLACES → takes_in_row rewrites (place_in_row m place) ≡ true
       row_takes m rewrite is small =
-          let quotient : (PLACES * m + place) / PLACES ≡ m = omega arith in
-          let remainder : (PLACES * m + place) % PLACES ≡ place = omega arith in
-          ap (λ n. option_map_or (λ (r : Rewrite). takes_place r ((PLACES * m + place) % PLACES)) (slice_get rewrites n) false) quotient
-          ∙ ap (λ (o : Option Rewrite). option_map_or (λ (r : Rewrite). takes_place r ((PLACES * m + place) % PLACES)) o false) is.rewritten
-          ∙ ap (takes_place rewrite) remainder
+          place_takes rewrites m place rewrite is.rewritten small
           ∙ sym (t.takes i m place rewrite is small)
           ∙ taken
 
-  has_block : (node i place : ℕ) → place < PLACES → commit.after node ≡ Some i → commit.concerns node ≡ true → HasBlock commit i place (seen_before commit image node) (next.seen i)
+  has_block : (node i place : ℕ) → place < PLACES → commit.after node ≡ Some i → commit.concerns node ≡ true →
+      HasBlock commit i place (seen_before commit image node) (next.seen i)
   has_block node i place small is concerned =
       let l = t.listed node i is concerned in
-      by_place l.0 l.1 l.2 (t.after i l.0 place l.1 l.2 small) (t.takes i l.0 place l.1 l.2 small) (t.before node i l.0 place l.1 is l.2)
-    where
-      at_block : (rewritten empty : Bool) (old new fresh_block : ℕ) → new ≡ (next.seen i).blocks place → old ≡ (seen_before commit image node).blocks place → fresh_block ≡ commit.fresh i place → new ≡ cond rewritten (cond empty 0 fresh_block) old → commit.takes i place ≡ (rewritten && not empty) → HasBlock commit i place (seen_before commit image node) (next.seen i)
-      at_block true true old new fresh_block n o f e k = hole (sym n ∙ e)
-      at_block true false old new fresh_block n o f e k = fresh k (sym n ∙ e ∙ f)
-      at_block false empty old new fresh_block n o f e k = kept (sym n ∙ e ∙ o)
-
-      at_table : (rewritten some : Bool) (old new fresh_block : ℕ) → new ≡ (next.seen i).blocks place → old ≡ (seen_before commit image node).blocks place → fresh_block ≡ commit.fresh i place → new ≡ cond rewritten (cond some fresh_block 0) old → commit.takes i place ≡ (rewritten && some) → HasBlock commit i place (seen_before commit image node) (next.seen i)
-      at_table true true old new fresh_block n o f e k = fresh k (sym n ∙ e ∙ f)
-      at_table true false old new fresh_block n o f e k = hole (sym n ∙ e)
-      at_table false some old new fresh_block n o f e k = kept (sym n ∙ e ∙ o)
-
-      by_place : (m : ℕ) (r : Rewrite) → IsListed inodes rewrites i m r → (next.seen i).blocks place ≡ pointer_after r (commit.fresh i) place → commit.takes i place ≡ takes_place r place → r.pointers place ≡ (seen_before commit image node).blocks place → HasBlock commit i place (seen_before commit image node) (next.seen i)
-      by_place m r listed after takes before =
-          elim (nat_lt place FILE_BLOCKS) as (λ b. (next.seen i).blocks place ≡ cond b (cond (r.is_rewritten place) (cond (r.is_zero place) 0 (commit.fresh i place)) (r.pointers place)) (cond (rewrites_table r (place - FILE_BLOCKS)) (cond (table_has_pointer r (place - FILE_BLOCKS)) (commit.fresh i place) 0) (r.pointers place)) → commit.takes i place ≡ cond b (r.is_rewritten place && not (r.is_zero place)) (rewrites_table r (place - FILE_BLOCKS) && table_has_pointer r (place - FILE_BLOCKS)) → HasBlock commit i place (seen_before commit image node) (next.seen i)) [
-            | true ↦ λ a k. at_block (r.is_rewritten place) (r.is_zero place) (r.pointers place) ((next.seen i).blocks place) (commit.fresh i place) refl before refl a k
-            | false ↦ λ a k. at_table (rewrites_table r (place - FILE_BLOCKS)) (table_has_pointer r (place - FILE_BLOCKS)) (r.pointers place) ((next.seen i).blocks place) (commit.fresh i place) refl before refl a k
-          ] after takes
+      pointer_has_block commit i place l.1 (seen_before commit image node) (next.seen i) (t.after i l.0 place l.1 l.2 small) (t.takes i l.0 place l.1 l.2 small) (t.before node i l.0 place l.1 is l.2)
 
   pub taken_by_rank : TakesBlocks commit image next
   taken_by_rank = record {

@@ -47,10 +47,13 @@ module _ (num : Numbering) (tree other : TreeState) (r : IsRenamed num tree othe
   renumbered row = ((inode_under num row.0.0, row.0.1), inode_under num row.1)
 
   -- rows that pass tests alike are counted alike
-  pub count_renamed : (p q : Key × ℕ → Bool) → ((d i x j : ℕ) (n : List ℕ) → row_of tree d n ≡ Some x → num d ≡ Some i → num x ≡ Some j → q ((i, n), j) ≡ p ((d, n), x)) → count_by p (entries tree.rows) ≡ count_by q (entries other.rows)
+  pub count_renamed : (p q : Key × ℕ → Bool) →
+      ((d i x j : ℕ) (n : List ℕ) → row_of tree d n ≡ Some x → num d ≡ Some i → num x ≡ Some j → q ((i, n), j) ≡ p ((d, n), x)) →
+      count_by p (entries tree.rows) ≡ count_by q (entries other.rows)
   count_renamed p q alike = count_paired p q renumbered tree.rows other.rows (record { forth = forth; back = back; once = once })
     where
-      forth : (k : Key) (x : ℕ) → get tree.rows k ≡ Some x → p (k, x) ≡ true → (get other.rows (renumbered (k, x)).0 ≡ Some (renumbered (k, x)).1) × (q (renumbered (k, x)) ≡ true)
+      forth : (k : Key) (x : ℕ) → get tree.rows k ≡ Some x → p (k, x) ≡ true →
+          (get other.rows (renumbered (k, x)).0 ≡ Some (renumbered (k, x)).1) × (q (renumbered (k, x)) ≡ true)
       forth k x is passes =
           let h = r.holder k.0 k.1 x is in
           let c = r.child k.0 k.1 x is in
@@ -58,12 +61,14 @@ module _ (num : Numbering) (tree other : TreeState) (r : IsRenamed num tree othe
           let ci = under_is num x c.0 c.1 in
           (subst (λ (i : ℕ). get other.rows (i, k.1) ≡ Some (inode_under num x)) (sym hi) (row_forth k.0 h.0 x c.0 k.1 h.1 is c.1 ∙ ap Some (sym ci)), subst (λ (i : ℕ). q ((i, k.1), inode_under num x) ≡ true) (sym hi) (subst (λ (j : ℕ). q ((h.0, k.1), j) ≡ true) (sym ci) (alike k.0 h.0 x c.0 k.1 is h.1 c.1 ∙ passes)))
 
-      back : (l : Key) (y : ℕ) → get other.rows l ≡ Some y → q (l, y) ≡ true → (k : Key) × (x : ℕ) × (get tree.rows k ≡ Some x) × (p (k, x) ≡ true) × ((renumbered (k, x)).0 ≡ l)
+      back : (l : Key) (y : ℕ) → get other.rows l ≡ Some y → q (l, y) ≡ true →
+          (k : Key) × (x : ℕ) × (get tree.rows k ≡ Some x) × (p (k, x) ≡ true) × ((renumbered (k, x)).0 ≡ l)
       back l y is passes =
           let b = row_back l.0 y l.1 is in
           ((b.directory, l.1), b.child, b.row, sym (alike b.directory l.0 b.child y l.1 b.row b.from b.to) ∙ passes, ap (λ (i : ℕ). (i, l.1)) (under_is num b.directory l.0 b.from))
 
-      once : (k l : Key) (x y : ℕ) → get tree.rows k ≡ Some x → p (k, x) ≡ true → get tree.rows l ≡ Some y → p (l, y) ≡ true → (renumbered (k, x)).0 ≡ (renumbered (l, y)).0 → k ≡ l
+      once : (k l : Key) (x y : ℕ) → get tree.rows k ≡ Some x → p (k, x) ≡ true → get tree.rows l ≡ Some y → p (l, y) ≡ true →
+          (renumbered (k, x)).0 ≡ (renumbered (l, y)).0 → k ≡ l
       once k l x y a pa b pb same =
           let h = r.holder k.0 k.1 x a in
           let g = r.holder l.0 l.1 y b in

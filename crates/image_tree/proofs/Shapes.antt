@@ -50,19 +50,23 @@ all_append : {X : Type 0} (P : X → Type 0) (xs ys : List X) → AllByRecursion
 all_append P [] ys a b = b
 all_append P (x ∷ xs) ys a b = (a.0, all_append P xs ys a.1 b)
 
-all_flat : {X Y : Type 0} (P : Y → Type 0) (Q : X → Type 0) (f : X → List Y) → ((x : X) → Q x → AllByRecursion P (f x)) → (xs : List X) → AllByRecursion Q xs → AllByRecursion P (flat_map f xs)
+all_flat : {X Y : Type 0} (P : Y → Type 0) (Q : X → Type 0) (f : X → List Y) → ((x : X) → Q x → AllByRecursion P (f x)) → (xs : List X) →
+    AllByRecursion Q xs → AllByRecursion P (flat_map f xs)
 all_flat P Q f h [] a = tt
 all_flat P Q f h (x ∷ xs) a = all_append P (f x) (flat_map f xs) (h x a.0) (all_flat P Q f h xs a.1)
 
-flat_alike : {X Y : Type 0} (P : X → Type 0) (h : X → X) (ren : Y → Y) (f g : X → List Y) → ((x : X) → P x → g (h x) ≡ map ren (f x)) → (xs : List X) → AllByRecursion P xs → flat_map g (map h xs) ≡ map ren (flat_map f xs)
+flat_alike : {X Y : Type 0} (P : X → Type 0) (h : X → X) (ren : Y → Y) (f g : X → List Y) → ((x : X) → P x → g (h x) ≡ map ren (f x)) → (xs : List X) →
+    AllByRecursion P xs → flat_map g (map h xs) ≡ map ren (flat_map f xs)
 flat_alike P h ren f g alike [] a = refl
 flat_alike P h ren f g alike (x ∷ xs) a = ap (λ l. l ++ flat_map g (map h xs)) (alike x a.0) ∙ ap (λ l. map ren (f x) ++ l) (flat_alike P h ren f g alike xs a.1) ∙ sym (map-append ren (f x) (flat_map f xs))
 
-map_alike : {X Y : Type 0} (P : X → Type 0) (h : X → X) (f g : X → Y) → ((x : X) → P x → g (h x) ≡ f x) → (xs : List X) → AllByRecursion P xs → map g (map h xs) ≡ map f xs
+map_alike : {X Y : Type 0} (P : X → Type 0) (h : X → X) (f g : X → Y) → ((x : X) → P x → g (h x) ≡ f x) → (xs : List X) → AllByRecursion P xs →
+    map g (map h xs) ≡ map f xs
 map_alike P h f g alike [] a = refl
 map_alike P h f g alike (x ∷ xs) a = ap (λ y. y ∷ map g (map h xs)) (alike x a.0) ∙ ap (λ l. f x ∷ l) (map_alike P h f g alike xs a.1)
 
-filter_alike : {X : Type 0} (P : X → Type 0) (h : X → X) (p q : X → Bool) → ((x : X) → P x → q (h x) ≡ p x) → (xs : List X) → AllByRecursion P xs → filter q (map h xs) ≡ map h (filter p xs)
+filter_alike : {X : Type 0} (P : X → Type 0) (h : X → X) (p q : X → Bool) → ((x : X) → P x → q (h x) ≡ p x) → (xs : List X) → AllByRecursion P xs →
+    filter q (map h xs) ≡ map h (filter p xs)
 filter_alike P h p q alike [] a = refl
 filter_alike P h p q alike (x ∷ xs) a =
     ap (λ b. cond b (h x ∷ filter q (map h xs)) (filter q (map h xs))) (alike x a.0)
@@ -75,7 +79,8 @@ all_filtered : {X : Type 0} (P : X → Type 0) (p : X → Bool) (xs : List X) �
 all_filtered P p [] a = tt
 all_filtered P p (x ∷ xs) a = elim (p x) as (λ b. AllByRecursion P (cond b (x ∷ filter p xs) (filter p xs))) [ true ↦ (a.0, all_filtered P p xs a.1) | false ↦ all_filtered P p xs a.1 ]
 
-all_mapped : {X Y : Type 0} (P : X → Type 0) (Q : Y → Type 0) (f : X → Y) → ((x : X) → P x → Q (f x)) → (xs : List X) → AllByRecursion P xs → AllByRecursion Q (map f xs)
+all_mapped : {X Y : Type 0} (P : X → Type 0) (Q : Y → Type 0) (f : X → Y) → ((x : X) → P x → Q (f x)) → (xs : List X) → AllByRecursion P xs →
+    AllByRecursion Q (map f xs)
 all_mapped P Q f h [] a = tt
 all_mapped P Q f h (x ∷ xs) a = (h x a.0, all_mapped P Q f h xs a.1)
 
@@ -87,7 +92,8 @@ module _ (num : Numbering) (tree other : TreeState) (r : IsRenamed num tree othe
   number_of_met x m = let h = met_number num tree other r x m in h.1 ∙ ap Some (sym (under_is num x h.0 h.1))
 
   -- the rows of a directory that pass a test of names, under other numbers
-  pub part_renamed : (test : List ℕ → Bool) (x i : ℕ) → num x ≡ Some i → entries (names_where i test other.rows) ≡ map (with_value (inode_under num)) (entries (names_where x test tree.rows))
+  pub part_renamed : (test : List ℕ → Bool) (x i : ℕ) → num x ≡ Some i →
+      entries (names_where i test other.rows) ≡ map (with_value (inode_under num)) (entries (names_where x test tree.rows))
   part_renamed test x i is =
       entries_changed (inode_under num) (names_where x test tree.rows) (names_where i test other.rows) (λ k.
       get-names_where i test other.rows k
@@ -116,7 +122,8 @@ module _ (num : Numbering) (tree other : TreeState) (r : IsRenamed num tree othe
       by_kind true = children_met x
       by_kind false = tt
 
-  met_renamed : (steps : ℕ) (path : List (List ℕ)) (x : ℕ) → IsMet tree x → met_from steps other path (inode_under num x) ≡ map rename_met (met_from steps tree path x)
+  met_renamed : (steps : ℕ) (path : List (List ℕ)) (x : ℕ) → IsMet tree x →
+      met_from steps other path (inode_under num x) ≡ map rename_met (met_from steps tree path x)
   met_renamed zero path x m = refl
   met_renamed (suc steps) path x m =
       ap (λ l. record { path = path; node = inode_under num x } ∷ l) (
@@ -129,7 +136,8 @@ module _ (num : Numbering) (tree other : TreeState) (r : IsRenamed num tree othe
       walk_other : List ℕ × ℕ → List Met
       walk_other row = met_from steps other (path ++ row.0 ∷ []) row.1
 
-      by_kind : ((row : List ℕ × ℕ) → IsMet tree row.1 → walk_other (with_value (inode_under num) row) ≡ map rename_met (walk row)) → (b : Bool) → flat_map walk_other (cond b (entries (names_of (inode_under num x) other.rows)) []) ≡ map rename_met (flat_map walk (cond b (entries (names_of x tree.rows)) []))
+      by_kind : ((row : List ℕ × ℕ) → IsMet tree row.1 → walk_other (with_value (inode_under num) row) ≡ map rename_met (walk row)) → (b : Bool) →
+          flat_map walk_other (cond b (entries (names_of (inode_under num x) other.rows)) []) ≡ map rename_met (flat_map walk (cond b (entries (names_of x tree.rows)) []))
       by_kind deeper false = refl
       by_kind deeper true =
           ap (flat_map walk_other) (part_renamed (λ _. true) x (inode_under num x) (number_of_met x m))
@@ -148,23 +156,27 @@ module _ (num : Numbering) (tree other : TreeState) (r : IsRenamed num tree othe
   same_node : (x y : ℕ) → IsMet tree x → IsMet tree y → nat_eq (inode_under num y) (inode_under num x) ≡ nat_eq y x
   same_node x y m l = number_same num tree other r x y (inode_under num x) (inode_under num y) (number_of_met x m) (number_of_met y l)
 
-  any_same : (x : ℕ) → IsMet tree x → (files : List ℕ) → AllByRecursion (IsMet tree) files → list_any (λ b. nat_eq b (inode_under num x)) (map (inode_under num) files) ≡ list_any (λ b. nat_eq b x) files
+  any_same : (x : ℕ) → IsMet tree x → (files : List ℕ) → AllByRecursion (IsMet tree) files →
+      list_any (λ b. nat_eq b (inode_under num x)) (map (inode_under num) files) ≡ list_any (λ b. nat_eq b x) files
   any_same x m [] a = refl
   any_same x m (f ∷ files) a = ap (λ b. b || list_any (λ b. nat_eq b (inode_under num x)) (map (inode_under num) files)) (same_node x f m a.0) ∙ ap (λ b. nat_eq f x || b) (any_same x m files a.1)
 
-  with_file_same : (x : ℕ) → IsMet tree x → (files : List ℕ) → AllByRecursion (IsMet tree) files → with_file (map (inode_under num) files) (inode_under num x) ≡ map (inode_under num) (with_file files x)
+  with_file_same : (x : ℕ) → IsMet tree x → (files : List ℕ) → AllByRecursion (IsMet tree) files →
+      with_file (map (inode_under num) files) (inode_under num x) ≡ map (inode_under num) (with_file files x)
   with_file_same x m files a =
       ap (λ b. cond b (map (inode_under num) files) (map (inode_under num) files ++ inode_under num x ∷ [])) (any_same x m files a)
       ∙ by_test (list_any (λ b. nat_eq b x) files)
     where
-      by_test : (b : Bool) → cond b (map (inode_under num) files) (map (inode_under num) files ++ inode_under num x ∷ []) ≡ map (inode_under num) (cond b files (files ++ x ∷ []))
+      by_test : (b : Bool) →
+          cond b (map (inode_under num) files) (map (inode_under num) files ++ inode_under num x ∷ []) ≡ map (inode_under num) (cond b files (files ++ x ∷ []))
       by_test true = refl
       by_test false = sym (map-append (inode_under num) files (x ∷ []))
 
   with_file_met : (x : ℕ) → IsMet tree x → (files : List ℕ) → AllByRecursion (IsMet tree) files → AllByRecursion (IsMet tree) (with_file files x)
   with_file_met x m files a = elim (list_any (λ b. nat_eq b x) files) as (λ b. AllByRecursion (IsMet tree) (cond b files (files ++ x ∷ []))) [ true ↦ a | false ↦ all_append (IsMet tree) files (x ∷ []) a (m, tt) ]
 
-  fold_same : (xs files : List ℕ) → AllByRecursion (IsMet tree) xs → AllByRecursion (IsMet tree) files → fold with_file (map (inode_under num) files) (map (inode_under num) xs) ≡ map (inode_under num) (fold with_file files xs)
+  fold_same : (xs files : List ℕ) → AllByRecursion (IsMet tree) xs → AllByRecursion (IsMet tree) files →
+      fold with_file (map (inode_under num) files) (map (inode_under num) xs) ≡ map (inode_under num) (fold with_file files xs)
   fold_same [] files a b = refl
   fold_same (x ∷ xs) files a b =
       ap (λ l. fold with_file l (map (inode_under num) xs)) (with_file_same x a.0 files b) ∙ fold_same xs (with_file files x) a.1 (with_file_met x a.0 files b)
@@ -196,13 +208,15 @@ module _ (num : Numbering) (tree other : TreeState) (r : IsRenamed num tree othe
   files_are_met : AllByRecursion (IsMet tree) (files_met tree)
   files_are_met = fold_met _ [] (all_filtered (IsMet tree) _ _ nodes_met) tt
 
-  place_same : (x : ℕ) → IsMet tree x → (files : List ℕ) → AllByRecursion (IsMet tree) files → position_or_len (λ f. nat_eq f (inode_under num x)) (map (inode_under num) files) ≡ position_or_len (λ f. nat_eq f x) files
+  place_same : (x : ℕ) → IsMet tree x → (files : List ℕ) → AllByRecursion (IsMet tree) files →
+      position_or_len (λ f. nat_eq f (inode_under num x)) (map (inode_under num) files) ≡ position_or_len (λ f. nat_eq f x) files
   place_same x m [] a = refl
   place_same x m (f ∷ files) a =
       ap (λ b. cond (not b) (1 + position_or_len (λ f. nat_eq f (inode_under num x)) (map (inode_under num) files)) 0) (same_node x f m a.0)
       ∙ ap (λ n. cond (not (nat_eq f x)) (1 + n) 0) (place_same x m files a.1)
 
-  position_same : (x : ℕ) → IsMet tree x → (files : List ℕ) → AllByRecursion (IsMet tree) files → position (λ f. nat_eq f (inode_under num x)) (map (inode_under num) files) ≡ position (λ f. nat_eq f x) files
+  position_same : (x : ℕ) → IsMet tree x → (files : List ℕ) → AllByRecursion (IsMet tree) files →
+      position (λ f. nat_eq f (inode_under num x)) (map (inode_under num) files) ≡ position (λ f. nat_eq f x) files
   position_same x m files a =
       ap (λ n. cond (nat_lt n (length (map (inode_under num) files))) (Some n) None) (place_same x m files a)
       ∙ ap (λ n. cond (nat_lt (position_or_len (λ f. nat_eq f x) files) n) (Some (position_or_len (λ f. nat_eq f x) files)) None) (length-map files (inode_under num))

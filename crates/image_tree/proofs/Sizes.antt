@@ -22,8 +22,9 @@ use Rattle.image_tree.specs.Stands.{row_on}
 use Rattle.image_tree.specs.Commit.{slot_after, new_rows, filled, slots_after, Commit, blank, seen_before, ComesBy, had, enters, IsCommitStep}
 use Rattle.image_tree.specs.Sizes.{DirectoriesFit}
 use Rattle.image_tree.specs.Laws.{CommitsKeepDirectoriesFit}
-use Rattle.sfs_base.proofs.BasicOptions.{none_some}
-use Rattle.image_tree.proofs.SlotRows.{bytes_same, bytes_are, count_slot, looked_counts}
+use Rattle.sfs_base.proofs.BasicOptions.{none_some, none_not_some}
+use Rattle.sfs_base.proofs.BasicLists.{bytes_same, same_bytes}
+use Rattle.image_tree.proofs.SlotRows.{count_slot, looked_counts}
 use Rattle.image_tree.proofs.SlotsAfter.{looked_in_blocks, count_in_blocks, length_in_blocks}
 use Rattle.image_tree.proofs.Standing.{not_used}
 use Rattle.image_tree.proofs.Committed.{has_slots_after, slots_before, same_row, number_within}
@@ -37,7 +38,8 @@ taken_rows [] = refl
 taken_rows (row ∷ rows) = let a = count-cons is_some (Some row) (map Some rows) in let b = taken_rows rows in omega arith
 
 -- slots that are filled up are as many as before, or all have rows
-length_filled : (slots : List (Option Row)) (rows : List Row) → (length (filled slots rows) ≤ length slots) ⊎ (length (filled slots rows) ≤ taken (filled slots rows))
+length_filled : (slots : List (Option Row)) (rows : List Row) →
+    (length (filled slots rows) ≤ length slots) ⊎ (length (filled slots rows) ≤ taken (filled slots rows))
 length_filled [] rows = inr (let a = taken_rows rows in let b = length-map rows Some in omega arith)
 length_filled (slot ∷ slots) [] = inl (omega arith)
 length_filled (None ∷ slots) (row ∷ rows) = elim (length_filled slots rows) [
@@ -56,7 +58,8 @@ rows_end-le (slot ∷ slots) =
     elim (is_none slot && nat_eq (rows_end slots) 0) as (λ b. cond b 0 (suc (rows_end slots)) ≤ suc (length slots)) [ true ↦ omega arith | false ↦ omega arith ]
 
 -- slots that have each name once have no more rows than a map with all their names
-taken-le : (slots : List (Option Row)) (names : FinMap name_cmp ℕ) → ((n : List ℕ) → name_count n slots ≤ 1) → ((row : Row) → looked_up row.name slots ≡ Some row → IsSome (get names row.name)) → taken slots ≤ len names
+taken-le : (slots : List (Option Row)) (names : FinMap name_cmp ℕ) → ((n : List ℕ) → name_count n slots ≤ 1) →
+    ((row : Row) → looked_up row.name slots ≡ Some row → IsSome (get names row.name)) → taken slots ≤ len names
 taken-le [] names once there = omega arith
 taken-le (None ∷ slots) names once there =
     let a = count-cons is_some None slots in
@@ -73,7 +76,7 @@ taken-le (Some first ∷ slots) names once there =
 
     alone : name_count first.name slots ≡ 0
     alone =
-        let c : name_count first.name (Some first ∷ slots) ≡ 1 + name_count first.name slots = count_slot first.name (Some first) slots ∙ ap (λ b. cond b 1 0 + name_count first.name slots) (bytes_same first.name) in
+        let c : name_count first.name (Some first ∷ slots) ≡ 1 + name_count first.name slots = count_slot first.name (Some first) slots ∙ ap (λ b. cond b 1 0 + name_count first.name slots) (same_bytes first.name) in
         let d = once first.name in
         omega arith
 
@@ -83,7 +86,7 @@ taken-le (Some first ∷ slots) names once there =
         by_test : (b : Bool) → bytes_eq row.name first.name ≡ b → b ≡ false
         by_test false t = refl
         by_test true t =
-            let none : name_count row.name slots ≡ 0 = ap (λ n. name_count n slots) (bytes_are row.name first.name t) ∙ alone in
+            let none : name_count row.name slots ≡ 0 = ap (λ n. name_count n slots) (bytes_same row.name first.name t) ∙ alone in
             let some = looked_counts row.name slots row is in
             absurd (omega arith)
 
@@ -93,13 +96,10 @@ taken-le (Some first ∷ slots) names once there =
         (there row (ap (λ b. cond b (Some first) (looked_up row.name slots)) (apart row is) ∙ is))
 
     here : IsSome (get names first.name)
-    here = there first (ap (λ b. cond b (Some first) (looked_up first.name slots)) (bytes_same first.name))
+    here = there first (ap (λ b. cond b (Some first) (looked_up first.name slots)) (same_bytes first.name))
 
     some_names : len names ≢ 0
-    some_names none = nothing (get names first.name) (ap (λ (m : FinMap name_cmp ℕ). get m first.name) (empty_of_len names none) ∙ get-empty name_cmp first.name) here
-      where
-        nothing : (o : Option ℕ) → o ≡ None → IsSome o → ⊥
-        nothing o none some = cc
+    some_names none = none_not_some (get names first.name) (ap (λ (m : FinMap name_cmp ℕ). get m first.name) (empty_of_len names none) ∙ get-empty name_cmp first.name) here
 
     fewer_names : len names ≡ suc (len (remove names first.name))
     fewer_names =
@@ -143,7 +143,8 @@ module _ (d : ℕ) where
   abbrev in_all : List (Key × ℕ) → ℕ
   in_all es = length (filter_map (name_row d (λ _. true)) es)
 
-  more_or_not : (b t : Bool) (row : List ℕ × ℕ) (rest : List (List ℕ × ℕ)) → length (cons_option (cond (b && t) (Some row) None) rest) ≡ cond b (cond t 1 0) 0 + length rest
+  more_or_not : (b t : Bool) (row : List ℕ × ℕ) (rest : List (List ℕ × ℕ)) →
+      length (cons_option (cond (b && t) (Some row) None) rest) ≡ cond b (cond t 1 0) 0 + length rest
   more_or_not true true row rest = omega arith
   more_or_not true false row rest = omega arith
   more_or_not false t row rest = omega arith
@@ -162,7 +163,8 @@ module _ (d : ℕ) where
       own_bucket true = one_of_eight (bucket e.0.1) (bucket_small e.0.1)
       own_bucket false = refl
 
-  pub rows-le : (rows : FinMap key_cmp ℕ) → ((number : ℕ) → number < 8 → len (bucket_rows d number rows) ≤ BUCKET_ROWS) → len (names_of d rows) ≤ 8 * BUCKET_ROWS
+  pub rows-le : (rows : FinMap key_cmp ℕ) → ((number : ℕ) → number < 8 → len (bucket_rows d number rows) ≤ BUCKET_ROWS) →
+      len (names_of d rows) ≤ 8 * BUCKET_ROWS
   unfolding sum_of_eight
   rows-le rows full =
       let all : len (names_of d rows) ≡ in_all (entries rows) = len-entries _ ∙ ap length (entries-names_where d (λ _. true) rows) in

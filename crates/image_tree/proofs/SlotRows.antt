@@ -2,24 +2,15 @@
 use Rattle.std.proofs.Common.{◌≡◌, ◌≢◌, ℕ, ◌+◌, ◌<◌, ◌≤◌, true, false, cond, List, [], ◌∷◌, Option, Some, None, refl, sym, ap, ◌∙◌, arith}
 use Rattle.std.specs.Prelude.{bytes_eq}
 use Rattle.std.specs.List.{AllByRecursion}
-use Rattle.std.proofs.lemmas.Map.Text.{is_eq-slice_cmp}
-use Rattle.std.specs.Ordering.{is_eq}
-use Rattle.std.specs.Cmp.{tied_itself}
-use Rattle.std.specs.Cmp.Lexicographic.{nat_list_cmp_total}
-use Rattle.sfs_tree.proofs.Joined.{name_cmp-IsAntisymmetric, is_equal, count-cons}
+use Rattle.sfs_tree.proofs.Joined.{count-cons}
+use Rattle.sfs_base.proofs.BasicLists.{bytes_same, same_bytes}
 use Rattle.sfs_image.specs.Slot.{Row}
 use Rattle.image_tree.specs.Slots.{has_name, looked_up, name_count}
 use Rattle.sfs_base.proofs.BasicOptions.{none_some, some_same}
 
--- bytes are told apart as names are
-pub bytes_same : (n : List ℕ) → bytes_eq n n ≡ true
-bytes_same n = sym (is_eq-slice_cmp n n) ∙ ap is_eq (tied_itself nat_list_cmp_total n)
-
-pub bytes_are : (n m : List ℕ) → bytes_eq n m ≡ true → n ≡ m
-bytes_are n m e = name_cmp-IsAntisymmetric n m (is_equal _ (is_eq-slice_cmp n m ∙ e))
-
+-- names that differ have bytes that do
 pub bytes_apart : (n m : List ℕ) → n ≢ m → bytes_eq n m ≡ false
-bytes_apart n m other = elim (bytes_eq n m) as (λ b. bytes_eq n m ≡ b → b ≡ false) [ true ↦ λ t. absurd (other (bytes_are n m t)) | false ↦ λ _. refl ] refl
+bytes_apart n m other = elim (bytes_eq n m) as (λ b. bytes_eq n m ≡ b → b ≡ false) [ true ↦ λ t. absurd (other (bytes_same n m t)) | false ↦ λ _. refl ] refl
 
 -- a name's slot, first or behind
 pub count_slot : (n : List ℕ) (slot : Option Row) (slots : List (Option Row)) → name_count n (slot ∷ slots) ≡ cond (has_name n slot) 1 0 + name_count n slots
@@ -31,7 +22,7 @@ looked_named n [] row is = absurd (none_some is)
 looked_named n (None ∷ slots) row is = looked_named n slots row is
 looked_named n (Some held ∷ slots) row is =
     elim (bytes_eq n held.name) as (λ b. bytes_eq n held.name ≡ b → cond b (Some held) (looked_up n slots) ≡ Some row → row.name ≡ n) [
-      | true ↦ λ t e. ap (λ (r : Row). r.name) (sym (some_same e)) ∙ sym (bytes_are n held.name t)
+      | true ↦ λ t e. ap (λ (r : Row). r.name) (sym (some_same e)) ∙ sym (bytes_same n held.name t)
       | false ↦ λ t e. looked_named n slots row e
     ] refl is
 
@@ -58,13 +49,14 @@ OnRow P None = Unit {0}
 OnRow P (Some row) = P row
 
 -- where each name stands once, what holds of all that is looked up holds of each slot
-pub each_found : (P : Row → Type 0) (slots : List (Option Row)) → ((n : List ℕ) → name_count n slots ≤ 1) → ((row : Row) → looked_up row.name slots ≡ Some row → P row) → AllByRecursion (OnRow P) slots
+pub each_found : (P : Row → Type 0) (slots : List (Option Row)) → ((n : List ℕ) → name_count n slots ≤ 1) →
+    ((row : Row) → looked_up row.name slots ≡ Some row → P row) → AllByRecursion (OnRow P) slots
 each_found P [] once h = tt
 each_found P (slot ∷ slots) once h = (first slot h, each_found P slots (λ n. fewer n (once n)) (λ row is. h row (behind row is)))
   where
     first : (slot : Option Row) → ((row : Row) → looked_up row.name (slot ∷ slots) ≡ Some row → P row) → OnRow P slot
     first None h = tt
-    first (Some row) h = h row (ap (λ b. cond b (Some row) (looked_up row.name slots)) (bytes_same row.name))
+    first (Some row) h = h row (ap (λ b. cond b (Some row) (looked_up row.name slots)) (same_bytes row.name))
 
     fewer : (n : List ℕ) → name_count n (slot ∷ slots) ≤ 1 → name_count n slots ≤ 1
     fewer n le = let c = count_slot n slot slots in omega arith

@@ -61,13 +61,15 @@ module _ (change : Option Row → Option Row) (empty : change None ≡ None) (na
       none_more : {a c : ℕ} → a ≡ 1 + c → a ≤ 1 → c ≡ 0
       none_more e le = omega arith
 
-      by_change : (slot o : Option Row) → change slot ≡ o → has_name n slot ≡ true → looked_up n (map change slots) ≡ None → cond (has_name n o) o (looked_up n (map change slots)) ≡ o
+      by_change : (slot o : Option Row) → change slot ≡ o → has_name n slot ≡ true → looked_up n (map change slots) ≡ None →
+          cond (has_name n o) o (looked_up n (map change slots)) ≡ o
       by_change slot None is here none = none
       by_change None (Some made) is here none = absurd (none_some (sym empty ∙ is))
       by_change (Some row) (Some made) is here none = ap (λ b. cond b (Some made) (looked_up n (map change slots))) (ap (bytes_eq n) (named row made is) ∙ here)
 
 -- further rows are counted beside what stands
-pub count_filled : (n : List ℕ) (slots : List (Option Row)) (rows : List Row) → name_count n (filled slots rows) ≡ name_count n slots + name_count n (map Some rows)
+pub count_filled : (n : List ℕ) (slots : List (Option Row)) (rows : List Row) →
+    name_count n (filled slots rows) ≡ name_count n slots + name_count n (map Some rows)
 count_filled n [] rows = none_more _
   where
     none_more : (a : ℕ) → a ≡ 0 + a
@@ -89,7 +91,8 @@ count_filled n (Some held ∷ slots) (row ∷ rows) =
     omega arith
 
 -- a name that no further row has is found as before
-pub looked_filled_old : (n : List ℕ) (slots : List (Option Row)) (rows : List Row) → name_count n (map Some rows) ≡ 0 → looked_up n (filled slots rows) ≡ looked_up n slots
+pub looked_filled_old : (n : List ℕ) (slots : List (Option Row)) (rows : List Row) → name_count n (map Some rows) ≡ 0 →
+    looked_up n (filled slots rows) ≡ looked_up n slots
 looked_filled_old n [] rows none = none_looked n (map Some rows) none
 looked_filled_old n (slot ∷ slots) [] none = refl
 looked_filled_old n (None ∷ slots) (row ∷ rows) none =
@@ -100,7 +103,8 @@ looked_filled_old n (None ∷ slots) (row ∷ rows) none =
 looked_filled_old n (Some held ∷ slots) (row ∷ rows) none = ap (λ o. cond (bytes_eq n held.name) (Some held) o) (looked_filled_old n slots (row ∷ rows) none)
 
 -- and a name that did not stand there as in the further rows
-pub looked_filled_new : (n : List ℕ) (slots : List (Option Row)) (rows : List Row) → name_count n slots ≡ 0 → looked_up n (filled slots rows) ≡ looked_up n (map Some rows)
+pub looked_filled_new : (n : List ℕ) (slots : List (Option Row)) (rows : List Row) → name_count n slots ≡ 0 →
+    looked_up n (filled slots rows) ≡ looked_up n (map Some rows)
 looked_filled_new n [] rows none = refl
 looked_filled_new n (slot ∷ slots) [] none = none_looked n (slot ∷ slots) none
 looked_filled_new n (None ∷ slots) (row ∷ rows) none = ap (λ o. cond (bytes_eq n row.name) (Some row) o) (looked_filled_new n slots rows (let c = count_slot n None slots in omega arith))
@@ -143,7 +147,8 @@ padding n (suc k) zero = refl
 padding n (suc k) (suc m) = let c = count_slot n None (take k (replicate m None)) in let d = padding n k m in omega arith
 
 -- slots that are cut behind the last row, or filled up with empty ones
-pub count_at_length : (n : List ℕ) (k m : ℕ) (slots : List (Option Row)) → rows_end slots ≤ k → name_count n (take k (slots ++ replicate m None)) ≡ name_count n slots
+pub count_at_length : (n : List ℕ) (k m : ℕ) (slots : List (Option Row)) → rows_end slots ≤ k →
+    name_count n (take k (slots ++ replicate m None)) ≡ name_count n slots
 count_at_length n k m [] le = padding n k m
 count_at_length n zero m (slot ∷ slots) le = sym (no_rows_left n (slot ∷ slots) le)
 count_at_length n (suc k) m (slot ∷ slots) le =
@@ -152,7 +157,8 @@ count_at_length n (suc k) m (slot ∷ slots) le =
     let b = count_slot n slot slots in
     omega arith
 
-pub looked_at_length : (n : List ℕ) (k m : ℕ) (slots : List (Option Row)) → rows_end slots ≤ k → looked_up n (take k (slots ++ replicate m None)) ≡ looked_up n slots
+pub looked_at_length : (n : List ℕ) (k m : ℕ) (slots : List (Option Row)) → rows_end slots ≤ k →
+    looked_up n (take k (slots ++ replicate m None)) ≡ looked_up n slots
 looked_at_length n k m [] le = none_looked n (take k (replicate m None)) (padding n k m)
 looked_at_length n zero m (slot ∷ slots) le = sym (none_looked n (slot ∷ slots) (no_rows_left n (slot ∷ slots) le))
 looked_at_length n (suc k) m (slot ∷ slots) le = ap (λ o. cond (has_name n slot) slot o) (looked_at_length n k m slots (rows_end_step slot slots k le))

@@ -1,4 +1,5 @@
 -- An image that stands for a sound tree shows that tree, and keeps the rules.
+use Rattle.sfs_base.proofs.BasicNumbers.{some_counted}
 use Rattle.std.proofs.Common.{◌≡◌, ◌≢◌, ℕ, zero, suc, ◌+◌, ◌<◌, ◌≤◌, Bool, true, false, cond, length, List, [], ◌∷◌, Option, Some, None, option_map, IsSome, inl, inr, refl, sym, ap, subst, ◌∙◌, arith, count_by, nat_eq}
 use borrow.Author.Tests.{eqb-true, eq-eqb}
 use Rattle.std.specs.List.{AllByRecursion}
@@ -30,7 +31,8 @@ use Rattle.image_tree.proofs.SlotRows.{OnRow, each_found}
 use Rattle.image_tree.proofs.Images.{row_shown, no_row_shown, slot_back, node_is, directory_is_node, file_is_node, directory_shown, kind_again}
 
 -- a row of which there is only one is counted once at most
-pub counted_once : (p : Key × ℕ → Bool) (rows : FinMap key_cmp ℕ) → ((k l : Key) (x y : ℕ) → get rows k ≡ Some x → p (k, x) ≡ true → get rows l ≡ Some y → p (l, y) ≡ true → k ≡ l) → count_by p (entries rows) ≤ 1
+pub counted_once : (p : Key × ℕ → Bool) (rows : FinMap key_cmp ℕ) →
+    ((k l : Key) (x y : ℕ) → get rows k ≡ Some x → p (k, x) ≡ true → get rows l ≡ Some y → p (l, y) ≡ true → k ≡ l) → count_by p (entries rows) ≤ 1
 counted_once p rows once = by_count (count_by p (entries rows)) refl
   where
     by_count : (n : ℕ) → count_by p (entries rows) ≡ n → count_by p (entries rows) ≤ 1
@@ -41,7 +43,8 @@ counted_once p rows once = by_count (count_by p (entries rows)) refl
         let rest : count_by p (entries (remove rows f.row.0)) ≡ 0 = count_none p (remove rows f.row.0) (λ k x is. alone f.row.0 f.row.1 f.there f.passes k x is (p (k, x)) refl) in
         one_or_none (p (f.row.0, f.row.1)) (omega arith)
       where
-        alone : (l : Key) (y : ℕ) → get rows l ≡ Some y → p (l, y) ≡ true → (k : Key) (x : ℕ) → get (remove rows l) k ≡ Some x → (b : Bool) → p (k, x) ≡ b → p (k, x) ≡ false
+        alone : (l : Key) (y : ℕ) → get rows l ≡ Some y → p (l, y) ≡ true → (k : Key) (x : ℕ) → get (remove rows l) k ≡ Some x → (b : Bool) →
+            p (k, x) ≡ b → p (k, x) ≡ false
         alone l y there passes k x is false t = t
         alone l y there passes k x is true t = let was = stayed rows l k x is in absurd (was.0 (once k l x y was.1 t there passes))
 
@@ -77,7 +80,8 @@ byte_directory File = refl
 byte_directory Directory = refl
 
 -- a directory with a row has a number
-pub holder_number : (num : Numbering) (tree : TreeState) (image : SeenInodes) → IsSound tree → StandsForTree num tree image → (d : ℕ) (n : List ℕ) (x : ℕ) → row_of tree d n ≡ Some x → HasNumber num d
+pub holder_number : (num : Numbering) (tree : TreeState) (image : SeenInodes) → IsSound tree → StandsForTree num tree image →
+    (d : ℕ) (n : List ℕ) (x : ℕ) → row_of tree d n ≡ Some x → HasNumber num d
 holder_number num tree image s st d n x row = elim (alive_named tree d (s.holds d n x row).1) [
   | inl is ↦ subst (HasNumber num) (sym is) (0, st.root)
   | inr name ↦ st.named name.directory name.name d name.row
@@ -147,9 +151,6 @@ module _ (num : Numbering) (tree : TreeState) (image : SeenInodes) (making : Mak
     nodes = λ x i is met. by_met x i is met;
   }
     where
-      some_counted : {n : ℕ} → 0 < n → n ≢ 0
-      some_counted lt e = omega arith
-
       as_file : (x i : ℕ) → num x ≡ Some i → (d : ℕ) (n : List ℕ) → row_of tree d n ≡ Some x → (k : Kind) → kind_of tree x ≡ k → is_node image i ≡ true
       as_file x i is d n row Directory e = directory_is_node image i ((st.each x i is).kind ∙ ap kind_byte e)
       as_file x i is d n row File e =
@@ -230,7 +231,8 @@ module _ (num : Numbering) (tree : TreeState) (image : SeenInodes) (s : IsSound 
     reached = λ i is. let x = node_of_directory num tree image NOTHING_MADE s st i is in reached_shown num tree image NOTHING_MADE s st may x.0 i x.1 x.2;
   }
     where
-      len_part : (test : List ℕ → Bool) (x i : ℕ) → num x ≡ Some i → len (Rattle.sfs_tree.specs.Tree.names_where i test (image_rows image)) ≡ len (Rattle.sfs_tree.specs.Tree.names_where x test tree.rows)
+      len_part : (test : List ℕ → Bool) (x i : ℕ) → num x ≡ Some i →
+          len (Rattle.sfs_tree.specs.Tree.names_where i test (image_rows image)) ≡ len (Rattle.sfs_tree.specs.Tree.names_where x test tree.rows)
       len_part test x i is =
           len-entries _ ∙ ap length (part_renamed num tree (ruled_tree image) (shown_renamed num tree image NOTHING_MADE s st) test x i is) ∙ length-map (entries (Rattle.sfs_tree.specs.Tree.names_where x test tree.rows)) (with_value (inode_under num)) ∙ sym (len-entries _)
 
@@ -243,8 +245,8 @@ module _ (num : Numbering) (tree : TreeState) (image : SeenInodes) (s : IsSound 
       stand (slot ∷ slots) h = (stand_at slot h.0, stand slots h.1)
 
 pub standing_images_show : StandingImagesShow
-standing_images_show num tree image making s may st = record {
-  rules = keeps num tree image s st may;
-  sound = shown_sound num tree image making s st;
-  shape = shown_shape num tree image making s st;
+standing_images_show num tree image making is = record {
+  rules = keeps num tree image is.sound is.stands is.storable;
+  sound = shown_sound num tree image making is.sound is.stands;
+  shape = shown_shape num tree image making is.sound is.stands;
 }

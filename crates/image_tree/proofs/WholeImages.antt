@@ -1,5 +1,5 @@
 -- Images without a fault: their trees are sound and they stand for them; and which images have none.
-use Rattle.std.proofs.Common.{◌≡◌, ℕ, ◌/◌, ◌<◌, ◌≤◌, true, false, cond, List, length, Option, Some, None, IsSome, inl, refl, sym, ap, subst, arith, nat_lt}
+use Rattle.std.proofs.Common.{Bool, ◌≡◌, ℕ, ◌/◌, ◌<◌, ◌≤◌, true, false, cond, List, length, Option, Some, None, IsSome, inl, refl, sym, ap, subst, arith, nat_lt, ◌∙◌, ◌⊎◌, ◌≢◌, inr}
 use borrow.Author.Tests.{ltb-true, ltb-false}
 use Rattle.std.specs.Prelude.{is_none}
 use Rattle.std.specs.FinMap.{get}
@@ -12,12 +12,26 @@ use Rattle.sfs_image.specs.Seen.{SeenInodes}
 use Rattle.sfs_image.proofs.SuperLaws.{super_facts}
 use Rattle.sfs_base.proofs.BasicLists.{zeros_read}
 use Rattle.image_tree.specs.ImageTree.{is_node, image_tree}
-use Rattle.image_tree.specs.Image.{image_inodes, breaks_bytes_of, ImageFault, first_of_faults, fault_of, making_at_mount, HasGoodBytes}
+use Rattle.sfs_image.specs.Part.{Part, seen_of, is_directory_part}
+use Rattle.sfs_image.specs.Rules.{breaks_record, breaks_root, breaks_size, breaks_pointers, breaks_apart, breaks_tail, breaks_slots, breaks_bytes_rule}
+use Rattle.sfs_image.specs.ImageOf.{with_opened}
+use Rattle.sfs_image.specs.Slot.{kind_byte}
+use Rattle.sfs_image.specs.Settled.{parts_of}
+use Rattle.sfs_image.specs.Seen.{Seen}
+use Rattle.sfs_image.proofs.ImageOfLaws.{read_as}
+use Rattle.sfs_image.proofs.RuleLaws.{rule_from_apart}
+use Rattle.sfs_base.proofs.BasicNumbers.{not_same}
+use borrow.Author.Tests.{eqb-true, eqb-false, eq-eqb}
+use Rattle.std.proofs.Common.{nat_eq, not, ◌&&◌}
+use Rattle.image_tree.specs.Renamed.{Numbering}
+use Rattle.image_tree.specs.Stands.{ShowsNode, IsUnused, StandsForTree, StandsForSoundTree}
+use Rattle.image_tree.proofs.Standing.{directory_kind}
+use Rattle.image_tree.specs.Image.{inodes_shown, image_inodes, breaks_bytes_of, ImageFault, first_of_faults, fault_of, making_at_mount, HasGoodBytes}
 use Rattle.image_tree.specs.Keeps.{KeepsRules}
 use Rattle.image_tree.specs.Rules.{TreeFault, tree_fault, breaks_rule, KeepsByteRules}
 use Rattle.image_tree.specs.Mount.{ShowsByKind}
-use Rattle.image_tree.specs.Laws.{TreesOfImagesAreMounted, StandingImagesAreRead}
-use Rattle.sfs_base.proofs.BasicOptions.{none_some, some_same}
+use Rattle.image_tree.specs.Laws.{TreesOfImagesAreMounted, StandingImagesAreRead, StandingPartsAreRead}
+use Rattle.sfs_base.proofs.BasicOptions.{none_some, some_same, none_not_some}
 use Rattle.image_tree.proofs.Images.{no_node_outside, directory_is_node}
 use Rattle.image_tree.proofs.Faults.{no_break, no_fault_is_rules_kept}
 use Rattle.image_tree.proofs.Mounted.{sound_shown, limits_where, rules_make_standing}
@@ -34,23 +48,30 @@ module _ (image : List ℕ) where
   some_inodes : super_fault_of image ≡ None → 0 < inodes.count
   some_inodes none = let low = (super_facts (length image / 4096) layout (image_block image 0) none).fits.ranges.inodes_low in omega arith
 
-  module _ (g : HasGoodBytes image) where
+  -- no rule on bytes is broken
+  record IsGood : Type 0 where
+    super : super_fault_of image ≡ None
+    journals : journal_fault_of layout image ≡ None
+    inodes_good : (rule i : ℕ) → 1 ≤ rule → rule ≤ 7 → i < layout.inodes → breaks_bytes_of image rule i ≡ false
+
+  module _ (g : IsGood) where
     shows : ShowsByKind inodes
-    shows = shows_by_kind (image_block image) (settled layout image) layout.inodes (λ i lt. g.inodes 1 i (omega arith) (omega arith) lt) (λ i lt. g.inodes 3 i (omega arith) (omega arith) lt)
+    shows = shows_by_kind (image_block image) (settled layout image) layout.inodes (λ i lt. g.inodes_good 1 i (omega arith) (omega arith) lt) (λ i lt. g.inodes_good 3 i (omega arith) (omega arith) lt)
 
     byte_rules : KeepsByteRules inodes
     byte_rules = record {
-      root = (some_inodes g.super, root_shown (image_block image) (settled layout image) layout.inodes (g.inodes 2 0 (omega arith) (omega arith) (some_inodes g.super)));
-      apart = holds_apart (image_block image) (settled layout image) layout.inodes (λ i lt. g.inodes 1 i (omega arith) (omega arith) lt) (λ i lt. g.inodes 5 i (omega arith) (omega arith) lt);
+      root = (some_inodes g.super, root_shown (image_block image) (settled layout image) layout.inodes (g.inodes_good 2 0 (omega arith) (omega arith) (some_inodes g.super)));
+      apart = holds_apart (image_block image) (settled layout image) layout.inodes (λ i lt. g.inodes_good 1 i (omega arith) (omega arith) lt) (λ i lt. g.inodes_good 5 i (omega arith) (omega arith) lt);
     }
 
     no_tree_fault : KeepsRules inodes → tree_fault (breaks_bytes_of image) inodes ≡ None
-    no_tree_fault k = (no_fault_is_rules_kept inodes (breaks_bytes_of image) byte_rules g.inodes).1 k
+    no_tree_fault k = (no_fault_is_rules_kept inodes (breaks_bytes_of image) byte_rules g.inodes_good).1 k
 
     faultless : KeepsRules inodes → fault_of image ≡ None
     faultless k = by_faults (super_fault_of image) (journal_fault_of layout image) (tree_fault (breaks_bytes_of image) inodes) g.super g.journals (no_tree_fault k)
       where
-        by_faults : (super : Option ℕ) (journal : Option SlotFault) (tree : Option TreeFault) → super ≡ None → journal ≡ None → tree ≡ None → first_of_faults super journal tree ≡ None
+        by_faults : (super : Option ℕ) (journal : Option SlotFault) (tree : Option TreeFault) → super ≡ None → journal ≡ None → tree ≡ None →
+            first_of_faults super journal tree ≡ None
         by_faults None None None a b c = refl
         by_faults (Some at) journal tree a b c = absurd (none_some (sym a))
         by_faults None (Some slot) tree a b c = absurd (none_some (sym b))
@@ -65,19 +86,20 @@ module _ (image : List ℕ) where
   parts_of_none : fault_of image ≡ None → IsFaultless
   parts_of_none e = by_faults (super_fault_of image) (journal_fault_of layout image) (tree_fault (breaks_bytes_of image) inodes) refl refl refl e
     where
-      by_faults : (super : Option ℕ) (journal : Option SlotFault) (tree : Option TreeFault) → super_fault_of image ≡ super → journal_fault_of layout image ≡ journal → tree_fault (breaks_bytes_of image) inodes ≡ tree → first_of_faults super journal tree ≡ None → IsFaultless
+      by_faults : (super : Option ℕ) (journal : Option SlotFault) (tree : Option TreeFault) → super_fault_of image ≡ super →
+          journal_fault_of layout image ≡ journal → tree_fault (breaks_bytes_of image) inodes ≡ tree → first_of_faults super journal tree ≡ None → IsFaultless
       by_faults None None None a b c e = record { super = a; journals = b; tree = c }
       by_faults (Some at) journal tree a b c e = absurd (none_some (sym e))
       by_faults None (Some slot) tree a b c e = absurd (none_some (sym e))
       by_faults None None (Some fault) a b c e = absurd (none_some (sym e))
 
-  good_bytes : fault_of image ≡ None → HasGoodBytes image
+  good_bytes : fault_of image ≡ None → IsGood
   good_bytes e =
       let f = parts_of_none e in
       record {
         super = f.super;
         journals = f.journals;
-        inodes = λ rule i low high lt. byte_rule rule i high (no_break (breaks_rule (breaks_bytes_of image) inodes) inodes.count f.tree rule i low (omega arith) lt);
+        inodes_good = λ rule i low high lt. byte_rule rule i high (no_break (breaks_rule (breaks_bytes_of image) inodes) inodes.count f.tree rule i low (omega arith) lt);
       }
     where
       byte_rule : (rule i : ℕ) → rule ≤ 7 → breaks_rule (breaks_bytes_of image) inodes rule i ≡ false → breaks_bytes_of image rule i ≡ false
@@ -87,7 +109,7 @@ module _ (image : List ℕ) where
       ] refl e
 
   rules_kept : fault_of image ≡ None → KeepsRules inodes
-  rules_kept e = let g = good_bytes e in (no_fault_is_rules_kept inodes (breaks_bytes_of image) (byte_rules g) g.inodes).0 (parts_of_none e).tree
+  rules_kept e = let g = good_bytes e in (no_fault_is_rules_kept inodes (breaks_bytes_of image) (byte_rules g) g.inodes_good).0 (parts_of_none e).tree
 
   numbered : (share : ℕ) → IsNumbered (image_tree inodes (making_at_mount image share))
   numbered share = record {
@@ -98,15 +120,37 @@ module _ (image : List ℕ) where
       below : (node : ℕ) → IsSome (get (image_tree inodes (making_at_mount image share)).nodes node) → node < layout.inodes
       below node some = elim (nat_lt node layout.inodes) as (λ b. nat_lt node layout.inodes ≡ b → node < layout.inodes) [
         | true ↦ λ t. ltb-true _ _ t
-        | false ↦ λ t. absurd (nothing (get (image_tree inodes (making_at_mount image share)).nodes node) (no_node_outside inodes (is_node inodes) node (ltb-false _ _ t)) some)
+        | false ↦ λ t. absurd (none_not_some (get (image_tree inodes (making_at_mount image share)).nodes node) (no_node_outside inodes (is_node inodes) node (ltb-false _ _ t)) some)
       ] refl
-        where
-          nothing : {X : Type 0} (o : Option X) → o ≡ None → IsSome o → ⊥
-          nothing o none some = cc
 
-  no_fault : (share : ℕ) (tree : TreeState) (o : Option ImageFault) → fault_of image ≡ o → cond (is_none o) (Some (image_tree inodes (making_at_mount image share))) None ≡ Some tree → (fault_of image ≡ None) × (image_tree inodes (making_at_mount image share) ≡ tree)
+  no_fault : (share : ℕ) (tree : TreeState) (o : Option ImageFault) → fault_of image ≡ o →
+      cond (is_none o) (Some (image_tree inodes (making_at_mount image share))) None ≡ Some tree →
+      (fault_of image ≡ None) × (image_tree inodes (making_at_mount image share) ≡ tree)
   no_fault share tree None e is = (e, some_same is)
   no_fault share tree (Some fault) e is = absurd (none_some is)
+
+  -- where the inodes stand for a tree, the rules on the root and on blocks that are held twice hold too
+  module _ (h : HasGoodBytes image) (num : Numbering) (tree : TreeState) (is : StandsForSoundTree num tree inodes) where
+    root_good : (i : ℕ) → breaks_root (parts_of layout image i) i ≡ false
+    root_good i = elim (nat_eq i 0) as (λ b. nat_eq i 0 ≡ b → (b && not (is_directory_part (parts_of layout image i))) ≡ false) [
+      | false ↦ λ _. refl
+      | true ↦ λ t. ap (λ (j : ℕ). not (is_directory_part (parts_of layout image j))) (eqb-true _ _ t) ∙ ap not (eq-eqb _ _ ((is.stands.each 0 0 is.stands.root).kind ∙ ap kind_byte (directory_kind tree 0 is.sound.root)))
+    ] refl
+
+    apart_good : (i : ℕ) → i < layout.inodes → breaks_apart (parts_of layout image) i ≡ false
+    apart_good i lt = rule_from_apart (parts_of layout image) i (λ j p q le small tiny some same. is.stands.apart i p j q lt (omega arith) small tiny some same)
+
+    is_good : IsGood
+    is_good = record { super = h.super; journals = h.journals; inodes_good = each }
+      where
+        each : (rule i : ℕ) → 1 ≤ rule → rule ≤ 7 → i < layout.inodes → breaks_bytes_of image rule i ≡ false
+        each rule i low high lt = elim (nat_eq rule 2) as (λ b. nat_eq rule 2 ≡ b → breaks_bytes_of image rule i ≡ false) [
+          | true ↦ λ t. ap (λ (r : ℕ). breaks_bytes_of image r i) (eqb-true _ _ t) ∙ root_good i
+          | false ↦ λ t. elim (nat_eq rule 5) as (λ b. nat_eq rule 5 ≡ b → breaks_bytes_of image rule i ≡ false) [
+            | true ↦ λ u. ap (λ (r : ℕ). breaks_bytes_of image r i) (eqb-true _ _ u) ∙ apart_good i lt
+            | false ↦ λ u. h.parts rule i low high (eqb-false _ _ t) (eqb-false _ _ u) lt
+          ] refl
+        ] refl
 
 pub trees_of_images_are_mounted : TreesOfImagesAreMounted
 trees_of_images_are_mounted image share tree is =
@@ -119,12 +163,63 @@ trees_of_images_are_mounted image share tree is =
     }
 
 pub standing_images_are_read : StandingImagesAreRead
-standing_images_are_read image share num tree g s may st =
-    let shown = standing_images_show num tree (image_inodes image) (making_at_mount image share) s may st in
-    let none = faultless image g shown.rules in
+standing_images_are_read image share num tree h is =
+    let shown = standing_images_show num tree (image_inodes image) (making_at_mount image share) is in
+    let none = faultless image (is_good image h num tree is) shown.rules in
     record {
       faultless = none;
       shown = image_tree (image_inodes image) (making_at_mount image share);
       read = ap (λ (o : Option ImageFault). cond (is_none o) (Some (image_tree (image_inodes image) (making_at_mount image share))) None) none;
       shape = shown.shape;
     }
+
+-- inodes stand for what others stand for that show the same
+stands_alike : (num : Numbering) (tree : TreeState) (image other : SeenInodes) → other.count ≡ image.count →
+    ((i : ℕ) → i < other.count → other.seen i ≡ image.seen i) → StandsForTree num tree image → StandsForTree num tree other
+stands_alike num tree image other count same st = record {
+  root = st.root;
+  once = st.once;
+  within = within;
+  named = st.named;
+  each = λ node i is. subst (ShowsNode num tree node) (sym (same i (within node i is))) (st.each node i is);
+  rest = λ i lt. elim (st.rest i (subst (λ (n : ℕ). i < n) count lt)) as (λ _. ((node : ℕ) × (num node ≡ Some i)) ⊎ IsUnused (other.seen i)) [
+    | inl node ↦ inl node
+    | inr free ↦ inr (subst IsUnused (sym (same i lt)) free)
+  ];
+  apart = λ i p j q lt less small tiny some both.
+      let a = ap (λ (seen : Seen). seen.blocks p) (same i lt) in
+      let b = ap (λ (seen : Seen). seen.blocks q) (same j less) in
+      st.apart i p j q (subst (λ (n : ℕ). i < n) count lt) (subst (λ (n : ℕ). j < n) count less) small tiny (λ none. some (a ∙ none)) (sym a ∙ both ∙ b);
+}
+  where
+    within : (node i : ℕ) → num node ≡ Some i → i < other.count
+    within node i is = subst (λ (n : ℕ). i < n) (sym count) (st.within node i is)
+
+-- a rule on bytes other than that on blocks that are held twice looks at one part
+module _ (divided : Layout) (parts others : ℕ → Part) (i : ℕ) (same : parts i ≡ others i) where
+  rule_alike : (rule : ℕ) → rule ≢ 5 → breaks_bytes_rule rule divided parts i ≡ breaks_bytes_rule rule divided others i
+  rule_alike rule other =
+      ap (λ (p : Part). by_rule p (breaks_apart parts i) (nat_eq rule 5)) same
+      ∙ ap (λ b. by_rule (others i) (breaks_apart parts i) b) (not_same rule 5 other)
+      ∙ sym (ap (λ b. by_rule (others i) (breaks_apart others i) b) (not_same rule 5 other))
+    where
+      by_rule : Part → Bool → Bool → Bool
+      by_rule part apart fifth = cond (nat_eq rule 1) (breaks_record part) (cond (nat_eq rule 2) (breaks_root part i) (cond (nat_eq rule 3) (breaks_size part) (cond (nat_eq rule 4) (breaks_pointers divided part) (cond fifth apart (cond (nat_eq rule 6) (breaks_tail part) (nat_eq rule 7 && breaks_slots part))))))
+
+pub standing_parts_are_read : StandingPartsAreRead
+standing_parts_are_read divided opened parts image share num tree p =
+    let read = read_as divided opened parts image p.image_of in
+    let settles : (i : ℕ) → i < (layout_of image).inodes → parts_of (layout_of image) image i ≡ with_opened divided opened parts i = subst (λ (l : Layout). (i : ℕ) → i < l.inodes → parts_of l image i ≡ with_opened divided opened parts i) (sym p.image_of.divided) read.settles in
+    let count = ap (λ (l : Layout). l.inodes) p.image_of.divided in
+    standing_images_are_read image share num tree (record {
+      super = read.super;
+      journals = subst (λ (l : Layout). journal_fault_of l image ≡ None) (sym p.image_of.divided) read.journals;
+      parts = λ rule i low high no_root no_apart lt.
+          rule_alike (layout_of image) (parts_of (layout_of image) image) (with_opened divided opened parts) i (settles i lt) rule no_apart
+          ∙ ap (λ (l : Layout). breaks_bytes_rule rule l (with_opened divided opened parts) i) p.image_of.divided
+          ∙ p.bytes rule i low high no_root no_apart (subst (λ (n : ℕ). i < n) count lt);
+    }) (record {
+      sound = p.stands.sound;
+      storable = p.stands.storable;
+      stands = stands_alike num tree (inodes_shown divided (with_opened divided opened parts)) (image_inodes image) count (λ i lt. ap seen_of (settles i lt)) p.stands.stands;
+    })

@@ -1,5 +1,5 @@
 -- A commit: what it makes of the inodes of an image, so that they stand for another tree.
-use Rattle.std.specs.Prelude.{◌≡◌, ◌≢◌, ◌⊎◌, ◌↔◌, ℕ, ◌<◌, Bool, true, false, is_none, List, [], ◌∷◌, map, Option, Some, None, option_map, filter_map, bytes_eq, if◌then◌else◌}
+use Rattle.std.specs.Prelude.{◌≡◌, ◌≢◌, ◌⊎◌, ◌↔◌, ℕ, ◌<◌, Bool, true, false, is_none, List, [], ◌∷◌, map, Option, Some, None, option_map, filter_map, bytes_eq, if◌then◌else◌, slice_get}
 use Rattle.std.specs.List.{find}
 use Rattle.std.specs.Option.{option_map_or}
 use Rattle.sfs_tree.specs.NameRow.{number_of}
@@ -41,6 +41,16 @@ filled (Some held ∷ slots) (row ∷ rows) = Some held ∷ filled slots (row �
 abbrev pub slots_after : Numbering → TreeState → List NetRow → List (Option Row) → List (Option Row)
 slots_after num tree net slots = filled (map (slot_after num tree net) slots) (new_rows num tree net)
 
+-- Where a net leaves each row: a row whose name the net has not stays in its slot, one whose name gets another child is changed in its
+-- slot, and no slot before that of a further row stays empty.
+pub record KeepsPlaces (num : Numbering) (tree : TreeState) (net : List NetRow) (slots : List (Option Row)) : Type 0 where
+  pub stays : (place : ℕ) (row : Row) → slice_get slots place ≡ Some (Some row) → row_in_net row.name net ≡ None
+      → slice_get (slots_after num tree net slots) place ≡ Some (Some row)
+  pub changes : (place : ℕ) (row brought : Row) (change : NetRow) → slice_get slots place ≡ Some (Some row) → row_in_net row.name net ≡ Some change
+      → brought_row num tree change ≡ Some brought → slice_get (slots_after num tree net slots) place ≡ Some (Some brought)
+  pub lowest : (place later : ℕ) → slice_get (slots_after num tree net slots) place ≡ Some None → place < later
+      → slice_get (slots_after num tree net slots) later ≡ slice_get (map (slot_after num tree net) slots) later
+
 -- A commit of some nodes: the numbering before and after, the nodes that it concerns, the net of each directory, and the fresh
 -- blocks by inode and place, with the places that take one.
 pub record Commit : Type 0 where
@@ -51,10 +61,11 @@ pub record Commit : Type 0 where
   pub takes : ℕ → ℕ → Bool
   pub fresh : ℕ → ℕ → ℕ
 
--- the inode that a node has before a commit, as it is seen; a node without one has no slots and no blocks
+-- what an inode shows that has nothing: a free one, and what a node without an inode begins with
 abbrev pub blank : Seen
 blank = record { kind = 0; links = 0; size = 0; slots = []; bytes = []; blocks = λ _. 0 }
 
+-- what the inode of a node shows before a commit
 abbrev pub seen_before : Commit → SeenInodes → ℕ → Seen
 seen_before commit image node = option_map_or image.seen (commit.before node) blank
 
@@ -116,6 +127,11 @@ pub record MayFollow (num : Numbering) (old new : TreeState) : Type 0 where
   pub kinds : (node : ℕ) → kind_of new node ≡ kind_of old node
   pub root : num 0 ≡ Some 0
   pub named : (directory : ℕ) (name : List ℕ) (child : ℕ) → row_of new directory name ≡ Some child → HasNumber num child
+
+-- A place holds a block after a commit: the one that stood there before, or a fresh one that it takes.
+pub data HeldAfter (commit : Commit) (image next : SeenInodes) (i place : ℕ) : Type 0 where
+  before : i < image.count → (image.seen i).blocks place ≡ (next.seen i).blocks place → HeldAfter commit image next i place
+  taken : commit.takes i place ≡ true → (next.seen i).blocks place ≡ commit.fresh i place → HeldAfter commit image next i place
 
 -- A commit's step: an image stands for a sound tree, and the commit changes its inodes to those of a next tree, which is sound, may
 -- follow the first, and is such that an image may stand for it.

@@ -1,20 +1,28 @@
 -- The first fault of an image, and its tree where it has none.
-use Rattle.std.specs.Prelude.{◌≡◌, ℕ, ◌<◌, ◌≤◌, Bool, false, List, replicate, is_none, Option, Some, None, option_map, if◌then◌else◌}
+use Rattle.std.specs.Prelude.{◌≡◌, ◌≢◌, ℕ, ◌<◌, ◌≤◌, Bool, false, List, replicate, is_none, Option, Some, None, option_map, if◌then◌else◌}
 use Rattle.sfs_tree.specs.Tree.{TreeState}
 use Rattle.sfs_tree.specs.Sound.{IsWithinLimits}
 use Rattle.sfs_tree.specs.Laws.{IsSoundTree}
 use Rattle.sfs_tree.specs.Shape.{shape_of}
-use Rattle.sfs_image.specs.Part.{seen_of}
+use Rattle.sfs_image.specs.Super.{Layout}
+use Rattle.sfs_image.specs.ImageOf.{Transaction, with_opened, IsImageOf}
+use Rattle.sfs_image.specs.Part.{Part, seen_of}
 use Rattle.sfs_image.specs.Rules.{breaks_bytes_rule}
 use Rattle.sfs_image.specs.Settled.{SlotFault, layout_of, parts_of, super_fault_of, journal_fault_of}
 use Rattle.sfs_image.specs.Seen.{SeenInodes}
 use Rattle.image_tree.specs.ImageTree.{Making, image_tree}
 use Rattle.image_tree.specs.Rules.{BYTE_RULES, TreeFault, tree_fault}
+use Rattle.image_tree.specs.Renamed.{Numbering}
+use Rattle.image_tree.specs.Stands.{StandsForSoundTree}
 use Rattle.image_tree.specs.Mount.{StandsByItself}
+
+-- the inodes that parts show
+abbrev pub inodes_shown : Layout → (ℕ → Part) → SeenInodes
+inodes_shown layout parts = record { count = layout.inodes; seen = λ i. seen_of (parts i) }
 
 -- the inodes of an image, by their settled parts
 abbrev pub image_inodes : List ℕ → SeenInodes
-image_inodes image = record { count = (layout_of image).inodes; seen = λ i. seen_of (parts_of (layout_of image) image i) }
+image_inodes image = inodes_shown (layout_of image) (parts_of (layout_of image) image)
 
 -- whether an inode of an image breaks a rule on bytes
 abbrev pub breaks_bytes_of : List ℕ → ℕ → ℕ → Bool
@@ -50,11 +58,24 @@ pub record IsMounted (image : List ℕ) (share : ℕ) (tree : TreeState) : Type 
   pub limits : IsWithinLimits tree
   pub itself : StandsByItself (image_inodes image) (making_at_mount image share)
 
--- No byte of the superblock, of a journal or of an inode breaks a rule.
+-- Parts break none of the rules that speak of the bytes of one inode: all rules on bytes but that on the root, and that on blocks that
+-- are held twice.
+abbrev pub HaveGoodBytes : Layout → (ℕ → Part) → Type 0
+HaveGoodBytes layout parts =
+    (rule i : ℕ) → 1 ≤ rule → rule ≤ BYTE_RULES → rule ≢ 2 → rule ≢ 5 → i < layout.inodes → breaks_bytes_rule rule layout parts i ≡ false
+
+-- No byte of the superblock or of a journal is wrong, and the settled parts have good bytes.
 pub record HasGoodBytes (image : List ℕ) : Type 0 where
   pub super : super_fault_of image ≡ None
   pub journals : journal_fault_of (layout_of image) image ≡ None
-  pub inodes : (rule i : ℕ) → 1 ≤ rule → rule ≤ BYTE_RULES → i < (layout_of image).inodes → breaks_bytes_of image rule i ≡ false
+  pub parts : HaveGoodBytes (layout_of image) (parts_of (layout_of image) image)
+
+-- An image stands for parts, with these journal slots open; and these parts, with what the open slots give, have good bytes and show
+-- inodes that stand for a sound tree.
+pub record PartsStandForTree (layout : Layout) (opened : ℕ → Option Transaction) (parts : ℕ → Part) (image : List ℕ) (num : Numbering) (tree : TreeState) : Type 0 where
+  pub image_of : IsImageOf layout opened parts image
+  pub bytes : HaveGoodBytes layout (with_opened layout opened parts)
+  pub stands : StandsForSoundTree num tree (inodes_shown layout (with_opened layout opened parts))
 
 -- What is read of an image: nothing wrong, and a tree of a given tree's shape.
 pub record IsReadAsTree (image : List ℕ) (share : ℕ) (tree : TreeState) : Type 0 where

@@ -9,20 +9,21 @@ use Rattle.sfs_tree.specs.Tree.{Node, TreeState, count_of}
 use Rattle.sfs_image.specs.Slot.{Row, kind_byte, kind_of}
 use Rattle.sfs_image.specs.Seen.{Seen, SeenInodes}
 
--- whether an inode is a directory, and whether it is a file
+-- whether an inode is a directory
 abbrev pub shows_directory : Seen → Bool
 shows_directory seen = seen.kind == kind_byte Directory
 
+-- whether it is a file
 abbrev pub shows_file : Seen → Bool
 shows_file seen = seen.kind == kind_byte File
 
 -- the row of a tree that a slot of a directory is
-abbrev pub slot_row : ℕ → Option Row → Option (Key × ℕ)
-slot_row directory slot = option_map (λ row. ((directory, row.name), row.inode)) slot
+abbrev pub tree_row : ℕ → Option Row → Option (Key × ℕ)
+tree_row directory slot = option_map (λ row. ((directory, row.name), row.inode)) slot
 
 -- the rows in an inode: those of a directory are in its slots, and others have none
 abbrev pub rows_in : SeenInodes → ℕ → List (Key × ℕ)
-rows_in image i = if shows_directory (image.seen i) then filter_map (slot_row i) (image.seen i).slots else []
+rows_in image i = if shows_directory (image.seen i) then filter_map (tree_row i) (image.seen i).slots else []
 
 -- the rows of an image; where a directory has one name twice, the first slot counts
 abbrev pub image_rows : SeenInodes → FinMap key_cmp ℕ

@@ -1,3 +1,4 @@
+pub mod Blocks
 pub mod Commit
 pub mod Elsewhere
 pub mod Image
@@ -5,8 +6,10 @@ pub mod ImageTree
 pub mod Keeps
 pub mod Laws
 pub mod LinkChanges
+pub mod Made
 pub mod Mount
 pub mod Need
+pub mod Numbers
 pub mod Orphans
 pub mod Renamed
 pub mod Rules

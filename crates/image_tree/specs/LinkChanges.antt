@@ -23,10 +23,11 @@ net_changes nets members = flat_map (λ directory. map (λ row. (directory, row)
 abbrev pub counted_row : (Key × ℕ → Bool) → Key → Option ℕ → ℕ
 counted_row test key child = option_map_or (λ x. one_if (test (key, x))) child 0
 
--- how many rows that pass a test come, and how many go
+-- how many rows that pass a test come
 abbrev pub gained : (Key × ℕ → Bool) → List NetChange → ℕ
 gained test changes = sum_by (λ change. counted_row test (change.0, change.1.name) (number_of change.1.after)) changes
 
+-- how many rows that pass a test go
 abbrev pub lost : (Key × ℕ → Bool) → List NetChange → ℕ
 lost test changes = sum_by (λ change. counted_row test (change.0, change.1.name) (number_of change.1.before)) changes
 

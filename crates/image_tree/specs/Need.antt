@@ -1,8 +1,13 @@
 -- Which places of an inode a commit rewrites, and how many fresh blocks it needs.
-use Rattle.std.specs.Prelude.{◌≡◌, ◌≢◌, ℕ, ◌+◌, ◌-◌, ◌*◌, ◌/◌, ◌%◌, ◌<◌, ◌==◌, ◌&&◌, ◌||◌, nat_lt, nat_le, Bool, true, false, not, List, length, count_by, slice_get, slice_index, Some, if◌then◌else◌}
-use Rattle.std.specs.List.{range_with_len, list_any}
-use Rattle.std.specs.Option.{option_map_or}
-use Rattle.sfs_image.specs.Seen.{SeenInodes, FILE_BLOCKS, PLACES}
+use Rattle.std.specs.Prelude.{◌≡◌, ◌≢◌, ℕ, ◌+◌, ◌-◌, ◌*◌, ◌/◌, ◌%◌, ◌<◌, ◌==◌, ◌&&◌, ◌||◌, nat_lt, nat_le, Bool, true, false, not, List, length, count_by, slice_get, slice_index, Some, if◌then◌else◌, ◌≤◌, is_none, drop, bytes_eq, Option}
+use Rattle.std.specs.List.{range_with_len, list_any, list_all}
+use Rattle.std.specs.Cmp.Lexicographic.{pointwise}
+use Rattle.std.specs.Option.{option_map_or, option_eq}
+use Rattle.sfs_image.specs.Bytes.{nonzero_in}
+use Rattle.sfs_image.specs.Slot.{Row, kind_byte}
+use Rattle.sfs_image.specs.Seen.{Seen, SeenInodes, FILE_BLOCKS, PLACES}
+use Rattle.image_tree.specs.Slots.{BLOCK_SLOTS, at_length, blocks_up_to_last}
+use Rattle.image_tree.specs.Stands.{BLOCK_BYTES}
 use Rattle.image_tree.specs.Commit.{Commit, seen_before}
 
 -- What a commit rewrites of an inode: how many blocks its size then has, which blocks are rewritten, which of them are then all zeros,
@@ -77,6 +82,50 @@ blocks_needed rewrites = rank (takes_in_row rewrites) (PLACES * length rewrites)
 -- the block that a grant has for a place in the row
 abbrev pub granted_block : List Rewrite → List ℕ → ℕ → ℕ
 granted_block rewrites grant p = slice_index grant (rank (takes_in_row rewrites) p)
+
+-- a block's slots
+abbrev pub slots_in_block : ℕ → List (Option Row) → List (Option Row)
+slots_in_block n slots = at_length BLOCK_SLOTS (drop (BLOCK_SLOTS * n) slots)
+
+-- whether two rows are one
+abbrev pub same_row : Row → Row → Bool
+same_row row other = row.inode == other.inode && (kind_byte row.kind == kind_byte other.kind && bytes_eq row.name other.name)
+
+-- whether two lists of slots are one
+abbrev pub same_slots : List (Option Row) → List (Option Row) → Bool
+same_slots slots others = pointwise (option_eq same_row) slots others
+
+-- a block of a directory is rewritten where one of its slots changed, or where it is there and lies behind the last one with a row
+abbrev pub rewrites_slots : Seen → List (Option Row) → ℕ → Bool
+rewrites_slots old slots n =
+    not (same_slots (slots_in_block n old.slots) (slots_in_block n slots)) || (nat_le (blocks_up_to_last slots) n && not (old.blocks n == 0))
+
+-- what a commit rewrites of a directory that gets these slots
+abbrev pub directory_rewrite : Seen → List (Option Row) → Rewrite
+directory_rewrite old slots = record {
+  blocks = blocks_up_to_last slots;
+  is_rewritten = rewrites_slots old slots;
+  is_zero = λ n. list_all is_none (slots_in_block n slots);
+  pointers = old.blocks;
+}
+
+-- how many blocks bytes fill
+abbrev pub blocks_filled : List ℕ → ℕ
+blocks_filled bytes = (length bytes + (BLOCK_BYTES - 1)) / BLOCK_BYTES
+
+-- what a commit rewrites of a file that gets these bytes: the blocks that a change touched
+abbrev pub file_rewrite : (ℕ → Bool) → Seen → List ℕ → Rewrite
+file_rewrite is_touched old bytes = record {
+  blocks = blocks_filled bytes;
+  is_rewritten = is_touched;
+  is_zero = λ n. is_none (nonzero_in (BLOCK_BYTES * n) BLOCK_BYTES bytes);
+  pointers = old.blocks;
+}
+
+-- A block of a directory that is not rewritten has its slots as before, and, behind the last block with a row, is not there.
+pub record KeepsBlock (old : Seen) (slots : List (Option Row)) (n : ℕ) : Type 0 where
+  pub slots_kept : slots_in_block n slots ≡ slots_in_block n old.slots
+  pub gone : blocks_up_to_last slots ≤ n → old.blocks n ≡ 0
 
 -- Ranks tell the places that take a block apart, and stay below the need.
 pub record RanksServe (takes : ℕ → Bool) : Type 0 where

@@ -59,10 +59,11 @@ breaks_tree_rule image rule i =
     if rule == 13 then is_used image i && has_wrong_links image i else
     if rule == 14 then shows_directory (image.seen i) && is_unreached image i else false
 
--- how many rules there are, of which so many first ones speak of the bytes of one inode and of the blocks that it holds
+-- how many rules there are
 abbrev pub RULES : ℕ
 RULES = 14
 
+-- how many of them, the first ones, speak of the bytes of an inode and of the blocks that it holds
 abbrev pub BYTE_RULES : ℕ
 BYTE_RULES = 7
 
@@ -80,7 +81,7 @@ abbrev pub first_fault : (ℕ → ℕ → Bool) → ℕ → Option TreeFault
 first_fault breaks count = slice_get (filter_map (fault_by breaks count) (range_with_len 1 RULES)) 0
 
 -- A fault is the first: its inode breaks its rule, no inode breaks a lesser rule, and no lesser inode breaks its own.
-pub record IsFirstFault (breaks : ℕ → ℕ → Bool) (count : ℕ) (fault : TreeFault) : Type 0 where
+pub record IsLeastFault (breaks : ℕ → ℕ → Bool) (count : ℕ) (fault : TreeFault) : Type 0 where
   pub rule_low : 1 ≤ fault.rule
   pub rule_high : fault.rule ≤ RULES
   pub within : fault.inode < count
@@ -91,7 +92,7 @@ pub record IsFirstFault (breaks : ℕ → ℕ → Bool) (count : ℕ) (fault : T
 -- what a search for a fault finds: the first one, or none where no inode breaks a rule
 abbrev pub FindsFault : (ℕ → ℕ → Bool) → ℕ → Option TreeFault → Type 0
 FindsFault breaks count None = (rule i : ℕ) → 1 ≤ rule → rule ≤ RULES → i < count → breaks rule i ≡ false
-FindsFault breaks count (Some fault) = IsFirstFault breaks count fault
+FindsFault breaks count (Some fault) = IsLeastFault breaks count fault
 
 -- whether an inode breaks a rule, where the rules on bytes are given
 abbrev pub breaks_rule : (ℕ → ℕ → Bool) → SeenInodes → ℕ → ℕ → Bool

@@ -2,7 +2,7 @@
 use Rattle.std.specs.Prelude.{◌≡◌, ◌≢◌, ◌⊎◌, ℕ, ◌*◌, ◌/◌, ◌<◌, ◌≤◌, true, List, length, Some, option_map, if◌then◌else◌}
 use Rattle.std.specs.Option.{unwrap_or}
 use Rattle.sfs_tree.specs.Tree.{TreeState, row_of, kind_of, bytes_of, links_of, is_directory}
-use Rattle.sfs_tree.specs.Sound.{IsWithinLimits}
+use Rattle.sfs_tree.specs.Sound.{IsSound, IsWithinLimits}
 use Rattle.sfs_image.specs.Slot.{Row, kind_byte}
 use Rattle.sfs_image.specs.Seen.{Seen, SeenInodes, PLACES}
 use Rattle.image_tree.specs.Slots.{BLOCK_SLOTS, looked_up, name_count}
@@ -62,3 +62,9 @@ pub record StandsForTree (num : Numbering) (tree : TreeState) (image : SeenInode
 pub record IsStorable (num : Numbering) (tree : TreeState) : Type 0 where
   pub placed : (node i : ℕ) → num node ≡ Some i → is_directory tree node ≡ true → IsMet tree node
   pub limits : IsWithinLimits tree
+
+-- The inodes of an image stand for a sound tree for which they may.
+pub record StandsForSoundTree (num : Numbering) (tree : TreeState) (image : SeenInodes) : Type 0 where
+  pub sound : IsSound tree
+  pub storable : IsStorable num tree
+  pub stands : StandsForTree num tree image
