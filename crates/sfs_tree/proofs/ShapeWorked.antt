@@ -10,7 +10,7 @@ use Rattle.sfs_base.specs.declared.numbers.Kind.TheVariants.{File}
 use Rattle.sfs_tree.specs.Order.{Key, key_cmp}
 use Rattle.sfs_tree.specs.Tree.{Node, is_directory, is_directory_kind, names_it, name_row, names_of}
 use Rattle.sfs_tree.specs.Shape.{Met, Line, with_file, line_of, met_from}
-use Rattle.sfs_tree.specs.ShapeWorked.{ROWS, NODES, THREE_NAMES, THREE_NAMES_SHAPE}
+use Rattle.sfs_tree.specs.ShapeWorked.{WORKED_ROWS, WORKED_NODES, THREE_NAMES, THREE_NAMES_SHAPE}
 use Rattle.sfs_tree.proofs.Names.{entries-names_where}
 use Rattle.sfs_tree.specs.Laws.{ShapeIsAsWorked}
 
@@ -53,16 +53,16 @@ abbrev given_by : (ℕ → Option Node) → (ℕ → List (List ℕ × ℕ)) →
 given_by node names rows steps = record { node = node; names = names; rows = rows; steps = steps }
 
 -- what the maps of this tree give
-nodes_are : (n : ℕ) → get THREE_NAMES.nodes n ≡ entry nat_cmp n NODES
-nodes_are n = get-entries THREE_NAMES.nodes n ∙ ap (entry nat_cmp n) (entries-from_sorted nat_cmp NODES _)
+nodes_are : (n : ℕ) → get THREE_NAMES.nodes n ≡ entry nat_cmp n WORKED_NODES
+nodes_are n = get-entries THREE_NAMES.nodes n ∙ ap (entry nat_cmp n) (entries-from_sorted nat_cmp WORKED_NODES _)
 
-rows_are : entries THREE_NAMES.rows ≡ ROWS
-rows_are = entries-from_sorted key_cmp ROWS _
+rows_are : entries THREE_NAMES.rows ≡ WORKED_ROWS
+rows_are = entries-from_sorted key_cmp WORKED_ROWS _
 
 abbrev names_in : ℕ → List (Key × ℕ) → List (List ℕ × ℕ)
 names_in n rows = filter_map (name_row n (λ _. true)) rows
 
-names_are : (n : ℕ) → entries (names_of n THREE_NAMES.rows) ≡ names_in n ROWS
+names_are : (n : ℕ) → entries (names_of n THREE_NAMES.rows) ≡ names_in n WORKED_ROWS
 names_are n = entries-names_where n (λ _. true) THREE_NAMES.rows ∙ ap (names_in n) rows_are
 
 abbrev shape_within : ℕ → List Line

@@ -7,11 +7,11 @@ use Rattle.sfs_tree.specs.Tree.{Node, TreeState}
 use Rattle.sfs_tree.specs.Shape.{Line}
 
 -- "a" and "c" in the root name file 7, which holds a byte; "b" names directory 4, in which "d" names file 7 and "e" file 5
-abbrev pub ROWS : List (Key × ℕ)
-ROWS = ((0, 97 ∷ []), 7) ∷ ((0, 98 ∷ []), 4) ∷ ((0, 99 ∷ []), 7) ∷ ((4, 100 ∷ []), 7) ∷ ((4, 101 ∷ []), 5) ∷ []
+abbrev pub WORKED_ROWS : List (Key × ℕ)
+WORKED_ROWS = ((0, 97 ∷ []), 7) ∷ ((0, 98 ∷ []), 4) ∷ ((0, 99 ∷ []), 7) ∷ ((4, 100 ∷ []), 7) ∷ ((4, 101 ∷ []), 5) ∷ []
 
-abbrev pub NODES : List (ℕ × Node)
-NODES =
+abbrev pub WORKED_NODES : List (ℕ × Node)
+WORKED_NODES =
     (0, record { kind = Directory; bytes = [] })
     ∷ (4, record { kind = Directory; bytes = [] })
     ∷ (5, record { kind = File; bytes = [] })
@@ -20,8 +20,8 @@ NODES =
 
 abbrev pub THREE_NAMES : TreeState
 THREE_NAMES = record {
-  rows = from_sorted ROWS;
-  nodes = from_sorted NODES;
+  rows = from_sorted WORKED_ROWS;
+  nodes = from_sorted WORKED_NODES;
   first = 8;
   share = 1;
   made = 0 ∷ [];
