@@ -8,6 +8,7 @@ pub mod GivenLaws
 pub mod ImageOfLaws
 pub mod InodeLaws
 pub mod JournalLaws
+pub mod JustMadeLaws
 pub mod KeptLaws
 pub mod LayoutLaws
 pub mod NewestLaws

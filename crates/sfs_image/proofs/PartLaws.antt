@@ -1,5 +1,5 @@
 -- Laws of the part of one inode: stores that agree on what a part reaches gather it alike.
-use Rattle.std.proofs.Common.{◌≡◌, ◌≢◌, ℕ, ◌+◌, ◌-◌, ◌*◌, ◌/◌, ◌%◌, ◌<◌, ◌≤◌, eqb, ltb, List, [], map, length, get_or, slice_index, None, sym, ap, ◌∙◌, subst, arith, inl, inr}
+use Rattle.std.proofs.Common.{◌≡◌, ◌≢◌, ℕ, ◌+◌, ◌-◌, ◌*◌, ◌/◌, ◌%◌, ◌<◌, ◌≤◌, eqb, ltb, List, [], map, length, get_or, slice_index, replicate, None, sym, ap, ◌∙◌, subst, arith, inl, inr}
 use Rattle.std.specs.Prelude.{slice_index_or}
 use Rattle.std.proofs.lemmas.List.{get_or-map, get_or_past}
 use Rattle.std.proofs.lemmas.Bool.{cases_Bool, cases_lt, cond-true, cond-false, ne_eqb, eq-eqb, le-ltb, lt-ltb, eqb-false}
@@ -96,21 +96,26 @@ pub byte_of_block : (store : ℕ → List ℕ) (raw : List ℕ) (place : ℕ) �
 byte_of_block store raw place below there =
     ap (λ (block : List ℕ). slice_index block (place % 4096)) (block_is_read store raw (place / 4096) (omega arith) ∙ block_behind store (pointer_at (part_of store raw) (place / 4096)) there)
 
--- a free inode without a fault has no pointers
-pub free_has_none : (store : ℕ → List ℕ) (raw : List ℕ) → length raw ≡ 512 → inode_fault raw ≡ None → slice_index raw 0 ≡ 0 → (place : ℕ) →
-    pointer_at (part_of store raw) place ≡ 0
+-- a record of holes alone has no pointers
+pub holes_have_none : (store : ℕ → List ℕ) (raw : List ℕ) → (inode_of raw).direct ≡ replicate 108 0 → (inode_of raw).indirect ≡ replicate 16 0 →
+    (place : ℕ) → pointer_at (part_of store raw) place ≡ 0
 unfolding part_of
-free_has_none store raw len none kind place =
-    let free = IsFree-inode_of raw len none kind in
+holes_have_none store raw direct indirect place =
     let part = part_of store raw in
-    let tables : (k : ℕ) → pointer_at part (FILE_BLOCKS + k) ≡ 0 = λ k. pointer_of_table part k ∙ ap (λ (xs : List ℕ). slice_index xs k) free.indirect ∙ get_or-holes 16 k in
+    let tables : (k : ℕ) → pointer_at part (FILE_BLOCKS + k) ≡ 0 = λ k. pointer_of_table part k ∙ ap (λ (xs : List ℕ). slice_index xs k) indirect ∙ get_or-holes 16 k in
     elim (cases_lt place FILE_BLOCKS) [
       | inl below ↦ pointer_of_block part place below ∙ elim (cases_lt place 108) [
-        | inl near ↦ cond-true (ltb place 108) _ _ (lt-ltb place 108 near) ∙ ap (λ (xs : List ℕ). slice_index xs place) free.direct ∙ get_or-holes 108 place
+        | inl near ↦ cond-true (ltb place 108) _ _ (lt-ltb place 108 near) ∙ ap (λ (xs : List ℕ). slice_index xs place) direct ∙ get_or-holes 108 place
         | inr far ↦ cond-false (ltb place 108) _ _ (le-ltb place 108 far)
             ∙ ap (λ (block : List ℕ). slice_index (pointers_of block) (entry_of place))
             (table_is_read store raw (table_of place) (omega arith) ∙ hole_is_read store (pointer_at part (FILE_BLOCKS + table_of place)) (tables (table_of place)))
             ∙ pointers_of-zeros (entry_of place)
       ]
-      | inr behind ↦ cond-false (ltb place FILE_BLOCKS) _ _ (le-ltb place FILE_BLOCKS behind) ∙ ap (λ (xs : List ℕ). slice_index xs (place - FILE_BLOCKS)) free.indirect ∙ get_or-holes 16 (place - FILE_BLOCKS)
+      | inr behind ↦ cond-false (ltb place FILE_BLOCKS) _ _ (le-ltb place FILE_BLOCKS behind)
+          ∙ ap (λ (xs : List ℕ). slice_index xs (place - FILE_BLOCKS)) indirect ∙ get_or-holes 16 (place - FILE_BLOCKS)
     ]
+
+-- a free inode without a fault has no pointers
+pub free_has_none : (store : ℕ → List ℕ) (raw : List ℕ) → length raw ≡ 512 → inode_fault raw ≡ None → slice_index raw 0 ≡ 0 →
+    (place : ℕ) → pointer_at (part_of store raw) place ≡ 0
+free_has_none store raw len none kind = let free = IsFree-inode_of raw len none kind in holes_have_none store raw free.direct free.indirect

@@ -1,11 +1,14 @@
 -- Which parts an image stands for, whatever journal slots are open in it.
-use Rattle.std.specs.Prelude.{◌≡◌, ◌≢◌, ℕ, ◌<◌, ◌≤◌, ◌==◌, true, false, All, List, map, Option, None, Some, option_map, unwrap_or, if◌then◌else◌}
+use Rattle.std.specs.Prelude.{◌≡◌, ◌≢◌, ℕ, ◌<◌, ◌≤◌, ◌==◌, true, false, All, List, map, Option, None, Some, option_map, unwrap_or, if◌then◌else◌, length, replicate, ◌/◌}
 use Rattle.std.specs.List.{range_with_len, find}
-use Rattle.sfs_image.specs.Bytes.{part}
+use Rattle.sfs_image.specs.Bytes.{part, zeros}
+use Rattle.sfs_image.specs.Inode.{Inode, inode_bytes}
+use Rattle.sfs_image.specs.Slot.{kind_byte}
+use Rattle.sfs_base.specs.declared.numbers.Kind.TheVariants.{Directory}
 use Rattle.sfs_image.specs.Journal.{head_of, numbers_of, numbers_fault}
 use Rattle.sfs_image.specs.Part.{Part, part_of, IsGathered, pointer_at}
 use Rattle.sfs_image.specs.Settled.{Body, Stamped, newest, body_in, image_block, journal_slot, layout_of, slot_count, super_fault_of, table_record, journal_fault_of, parts_of}
-use Rattle.sfs_image.specs.Super.{Layout, data_start}
+use Rattle.sfs_image.specs.Super.{Layout, data_start, IsLayout, super_bytes}
 
 -- an inode and its part
 pub record InodePart : Type 0 where
@@ -106,6 +109,18 @@ pub record IsAccepted (layout : Layout) (image : List ℕ) : Type 0 where
   pub divided : layout_of image ≡ layout
   pub journals : journal_fault_of layout image ≡ None
   pub pointers : (i : ℕ) → i < layout.inodes → PointsToData layout (parts_of layout image i)
+
+-- the inode of an empty directory
+abbrev pub empty_directory : Inode
+empty_directory = record { kind = kind_byte Directory; links = 2; size = 0; direct = replicate 108 0; indirect = replicate 16 0 }
+
+-- An image that is just made: the superblock of a layout, closed slots, the root as an empty directory and free inodes.
+pub record IsJustMade (layout : Layout) (image : List ℕ) : Type 0 where
+  pub fits : IsLayout (length image / 4096) layout
+  pub super : image_block image 0 ≡ super_bytes layout
+  pub shut : (k : ℕ) → k < slot_count layout → IsShut (journal_slot layout image k)
+  pub root : table_record layout image 0 ≡ inode_bytes empty_directory
+  pub free : (i : ℕ) → i < layout.inodes → i ≢ 0 → table_record layout image i ≡ zeros 512
 
 -- the slots of a disk with another transaction, or none, in one of them
 abbrev pub with_slot : (ℕ → Option Transaction) → ℕ → Option Transaction → ℕ → Option Transaction

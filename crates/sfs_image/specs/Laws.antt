@@ -1,10 +1,11 @@
 -- The laws of images, each of which a function of the module laws proves.
-use Rattle.std.specs.Prelude.{◌≡◌, ◌≢◌, ◌⊎◌, ℕ, ◌+◌, ◌*◌, ◌/◌, ◌%◌, ◌<◌, ◌≤◌, ◌^◌, List, Option, None, Some, if◌then◌else◌}
+use Rattle.std.specs.Prelude.{◌≡◌, ◌≢◌, ◌⊎◌, ℕ, ◌+◌, ◌*◌, ◌/◌, ◌%◌, ◌<◌, ◌≤◌, ◌^◌, List, Option, None, Some, if◌then◌else◌, true, false}
 use Rattle.sfs_image.specs.Bytes.{part}
-use Rattle.sfs_image.specs.ImageOf.{MayBeSlotOf, opened_among, IsSlotOf, IsAccepted, transaction_in, table_parts, Transaction, with_opened, with_slot, IsImageOf, FreshBlock, StandIn, TurnsInto}
+use Rattle.sfs_image.specs.ImageOf.{MayBeSlotOf, opened_among, IsSlotOf, IsAccepted, transaction_in, table_parts, Transaction, with_opened, with_slot, IsImageOf, FreshBlock, StandIn, TurnsInto, empty_directory, IsJustMade}
 use Rattle.sfs_image.specs.ImageWrites.{IsFullTable, HasRecordsOf, IsOldest, MayShut, LeavesGate, WritesData, WritesRecord, WritesBody, OpensGate, ShutsGate}
+use Rattle.sfs_image.specs.Rules.{breaks_bytes_rule}
 use Rattle.sfs_image.specs.Journal.{Entry, head_of, entries_of, numbers_of, numbers_fault, number_byte, record_byte, records_start, AreEntries, HasEntries}
-use Rattle.sfs_image.specs.Part.{Part, IsGathered}
+use Rattle.sfs_image.specs.Part.{Part, IsGathered, inode_in, is_free_part}
 use Rattle.sfs_image.specs.Settled.{SlotFault, slot_fault_of, image_block, Stamped, body_in, record_in, journal_slot, slot_byte, slot_count, table_byte, table_record, settled, parts_of, super_fault_of, journal_fault_of}
 use Rattle.sfs_image.specs.Super.{Layout, slot_blocks, slot_start, table_start, data_start}
 
@@ -90,6 +91,19 @@ GatesSayWhichAreOpen = (layout : Layout) (may : ℕ → Option Transaction) (ima
 -- An image in which nothing is wrong up to where its pointers point stands for the parts of its table, with its open slots open.
 abbrev pub AcceptedImagesStand : Type 0
 AcceptedImagesStand = (layout : Layout) (image : List ℕ) → IsAccepted layout image → IsImageOf layout (transaction_in layout image) (table_parts layout image) image
+
+-- what an image that is just made shows: it is accepted, its settled records are the table's, inode 0 is an empty directory and the
+-- others are free, and none breaks a rule on bytes and pointers
+pub record ShowsRootAlone (layout : Layout) (image : List ℕ) : Type 0 where
+  pub accepted : IsAccepted layout image
+  pub settles : (i : ℕ) → settled layout image i ≡ table_record layout image i
+  pub root : inode_in (parts_of layout image 0) ≡ empty_directory
+  pub free : (i : ℕ) → i < layout.inodes → i ≢ 0 → is_free_part (parts_of layout image i) ≡ true
+  pub rules : (rule i : ℕ) → i < layout.inodes → breaks_bytes_rule rule layout (parts_of layout image) i ≡ false
+
+-- An image that is just made shows the root alone.
+abbrev pub JustMadeShowsRoot : Type 0
+JustMadeShowsRoot = (layout : Layout) (image : List ℕ) → IsJustMade layout image → ShowsRootAlone layout image
 
 -- A write to the data area, whole or torn, apart from the blocks of all parts keeps what an image stands for.
 abbrev pub DataWritesKeep : Type 0

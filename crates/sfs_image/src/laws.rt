@@ -3,7 +3,7 @@ ghost use Rattle.std.specs.Prelude.{◌≡◌, ℕ, None, false};
 ghost use Rattle.sfs_image.specs.Format.{IsFormat};
 ghost use Rattle.sfs_image.specs.Inode.{IsInode, inode_of, inode_fault, inode_bytes, ArePointers, pointers_of, pointers_bytes};
 ghost use Rattle.sfs_image.specs.Journal.{Head, IsHead, head_of, head_bytes};
-ghost use Rattle.sfs_image.specs.Laws.{AcceptedImagesStand, LeftGatesKeep, GatesSayWhichAreOpen};
+ghost use Rattle.sfs_image.specs.Laws.{JustMadeShowsRoot, AcceptedImagesStand, LeftGatesKeep, GatesSayWhichAreOpen};
 ghost use Rattle.sfs_image.specs.Laws.{JournalFaultsAreFirst, FreshBlocksMakeParts, LayoutsDivide};
 ghost use Rattle.sfs_image.specs.Laws.{SlotsAreNumbered, EntriesAreReadAgain, SettledIsNewest};
 ghost use Rattle.sfs_image.specs.Laws.{SettledIsTables, ImagesStandForParts, DataWritesKeep, TableWritesKeep};
@@ -176,4 +176,9 @@ pub fn oldest_may_shut()
 /// A table that has the records of all parts has them once a gate has shut.
 pub fn tables_stay_full()
     ensures { TablesStayFull }
+{}
+
+/// An image that is just made shows the root alone.
+pub fn just_made_shows_root()
+    ensures { JustMadeShowsRoot }
 {}
