@@ -4,7 +4,7 @@ use Rattle.sfs_image.specs.Bytes.{part}
 use Rattle.sfs_image.specs.ImageOf.{MayBeSlotOf, opened_among, IsSlotOf, IsAccepted, transaction_in, table_parts, Transaction, with_opened, with_slot, IsImageOf, FreshBlock, StandIn, TurnsInto, empty_directory, IsJustMade}
 use Rattle.sfs_image.specs.ImageWrites.{IsFullTable, HasRecordsOf, IsOldest, MayShut, LeavesGate, WritesData, WritesRecord, WritesBody, OpensGate, ShutsGate}
 use Rattle.sfs_image.specs.Rules.{breaks_bytes_rule}
-use Rattle.sfs_image.specs.Journal.{Entry, head_of, entries_of, numbers_of, numbers_fault, number_byte, record_byte, records_start, AreEntries, HasEntries}
+use Rattle.sfs_image.specs.Journal.{Entry, head_of, entries_of, numbers_of, numbers_fault, number_byte, record_byte, records_start, AreEntries, HasEntries, HasRangesOf}
 use Rattle.sfs_image.specs.Part.{Part, IsGathered, inode_in, is_free_part}
 use Rattle.sfs_image.specs.Settled.{SlotFault, slot_fault_of, image_block, Stamped, body_in, record_in, journal_slot, slot_byte, slot_count, table_byte, table_record, settled, parts_of, super_fault_of, journal_fault_of}
 use Rattle.sfs_image.specs.Super.{Layout, slot_blocks, slot_start, table_start, data_start}
@@ -43,6 +43,10 @@ pub record AreReadAgain (inodes : ℕ) (entries : List Entry) (slot : List ℕ) 
 abbrev pub EntriesAreReadAgain : Type 0
 EntriesAreReadAgain = (inodes : ℕ) (entries : List Entry) (slot : List ℕ) → inodes ≤ 2 ^ 32 → AreEntries inodes entries → HasEntries inodes entries slot
     → AreReadAgain inodes entries slot
+
+-- Entries whose numbers and records stand in two ranges of a slot have each its own at its place.
+abbrev pub RangesHaveEntries : Type 0
+RangesHaveEntries = (inodes : ℕ) (entries : List Entry) (slot : List ℕ) → HasRangesOf inodes entries slot → HasEntries inodes entries slot
 
 -- the record of inode i in the slot of a number, if the slot is open and has one, under the slot's commit stamp
 abbrev pub record_at : Layout → List ℕ → ℕ → ℕ → Option (Stamped (List ℕ))

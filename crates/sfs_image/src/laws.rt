@@ -5,7 +5,7 @@ ghost use Rattle.sfs_image.specs.Inode.{IsInode, inode_of, inode_fault, inode_by
 ghost use Rattle.sfs_image.specs.Journal.{Head, IsHead, head_of, head_bytes};
 ghost use Rattle.sfs_image.specs.Laws.{JustMadeShowsRoot, AcceptedImagesStand, LeftGatesKeep, GatesSayWhichAreOpen};
 ghost use Rattle.sfs_image.specs.Laws.{JournalFaultsAreFirst, FreshBlocksMakeParts, LayoutsDivide};
-ghost use Rattle.sfs_image.specs.Laws.{SlotsAreNumbered, EntriesAreReadAgain, SettledIsNewest};
+ghost use Rattle.sfs_image.specs.Laws.{RangesHaveEntries, SlotsAreNumbered, EntriesAreReadAgain, SettledIsNewest};
 ghost use Rattle.sfs_image.specs.Laws.{SettledIsTables, ImagesStandForParts, DataWritesKeep, TableWritesKeep};
 ghost use Rattle.sfs_image.specs.Laws.{OldestMayShut, TablesStayFull, BodyWritesKeep, OpenedGatesAdd, ShutGatesKeep};
 ghost use Rattle.sfs_image.specs.LawsOfParts.{BytesAreShown, SlotsAreShown, SizesSay, PointersSay, TailsSay};
@@ -181,4 +181,9 @@ pub fn tables_stay_full()
 /// An image that is just made shows the root alone.
 pub fn just_made_shows_root()
     ensures { JustMadeShowsRoot }
+{}
+
+/// Entries whose numbers and records stand in two ranges of a slot have each its own at its place.
+pub fn ranges_have_entries()
+    ensures { RangesHaveEntries }
 {}
