@@ -96,7 +96,8 @@ module _ (layout : Layout) (image : List ℕ) (is : IsAccepted layout image) whe
   -- a slot with a transaction is open, and the transaction is its body's
   opened_by : (k : ℕ) (one : Transaction) → transaction_in layout image k ≡ Some one →
       ((head_of (part 0 4096 (journal_slot layout image k))).gate ≡ true) × (gathered_body (image_block image) (body_in layout.inodes (journal_slot layout image k)) ≡ one)
-  opened_by k one there = cond_some (head_of (part 0 4096 (journal_slot layout image k))).gate (gathered_body (image_block image) (body_in layout.inodes (journal_slot layout image k))) one there
+  opened_by k one there =
+      cond_some (head_of (part 0 4096 (journal_slot layout image k))).gate (gathered_body (image_block image) (body_in layout.inodes (journal_slot layout image k))) one there
 
   -- no slot has the commit stamp of one before it
   none_twice : (j k : ℕ) (one other : Transaction) → k < slot_count layout → transaction_in layout image j ≡ Some one → transaction_in layout image k ≡ Some other →
@@ -129,7 +130,8 @@ module _ (layout : Layout) (image : List ℕ) (is : IsAccepted layout image) whe
       go : (o : Option Part) → given layout (transaction_in layout image) i ≡ o → IsGathered (image_block image) (unwrap_or o (table_parts layout image i))
       go None none = is_gathered (image_block image) (table_record layout image i)
       go (Some part) there =
-          let top = option_map-Some (λ (s : Stamped Part). s.value) (newest (map (λ k. part_given i (transaction_in layout image k)) (range_with_len 0 (slot_count layout)))) part there in
+          let top =
+          option_map-Some (λ (s : Stamped Part). s.value) (newest (map (λ k. part_given i (transaction_in layout image k)) (range_with_len 0 (slot_count layout)))) part there in
           let from = newest_from (λ k. part_given i (transaction_in layout image k)) 0 (slot_count layout) top.0 top.1 in
           let giver = given_by i (transaction_in layout image from.0) top.0 from.3 in
           let own = opened_by from.0 giver.0 giver.1 in

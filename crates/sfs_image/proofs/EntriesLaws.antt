@@ -30,7 +30,8 @@ place_below : (xs : List ℕ) (k : ℕ) → IsStrictlyIncreasing xs → k < leng
 place_below xs zero ascend h = omega arith
 place_below xs (suc k) ascend h =
     let before = place_below xs k ascend (omega arith) in
-    let next : slice_index xs k < slice_index xs (suc k) = subst (λ (j : ℕ). slice_index xs k < slice_index xs j) (let e : k + 1 ≡ suc k = omega arith in e) (ascend k (omega arith)) in
+    let next : slice_index xs k < slice_index xs (suc k) =
+    subst (λ (j : ℕ). slice_index xs k < slice_index xs j) (let e : k + 1 ≡ suc k = omega arith in e) (ascend k (omega arith)) in
     omega arith
 
 -- so there are no more of them than of the numbers below what is above each
@@ -78,6 +79,7 @@ module _ (inodes : ℕ) (entries : List Entry) (slot : List ℕ) (small : inodes
       let within : k < n = subst (λ (l : ℕ). k < l) (length-u32s_at 4096 n slot) h in
       get_or-u32s_at 4096 n slot k d within
       ∙ number_of_four (drop (4 * k) (part 4096 (4 * n) slot))
+
       ∙ ap (number_from 0 4) (part-part (4 * k) 4 4096 (4 * n) slot (omega arith) ∙ has.numbers k (get_or entries k nothing) (slice_get-get_or entries k nothing within))
       ∙ number_from-u32_bytes (get_or entries k nothing).inode [] (let low = inode_below k within in let e = inode_at k 0 within in omega arith)
       ∙ sym (inode_at k d within))
@@ -86,7 +88,11 @@ module _ (inodes : ℕ) (entries : List Entry) (slot : List ℕ) (small : inodes
   entries_again : entries_of inodes slot ≡ entries
   entries_again =
       ap (λ (numbers : List ℕ). map (made numbers) (range_with_len 0 (length numbers))) numbers_again
-      ∙ sym (fill_by_all (made inodes_of_entries) entries (length inodes_of_entries) nothing (sym as_many) (λ k h. same_entry (inode_at k 0 (omega (arith, as_many))) (has.records k (get_or entries k nothing) (slice_get-get_or entries k nothing (omega (arith, as_many))))))
+
+      ∙ sym (fill_by_all (made inodes_of_entries) entries (length inodes_of_entries) nothing (sym as_many)
+      (λ k h.
+      same_entry (inode_at k 0 (omega (arith, as_many)))
+      (has.records k (get_or entries k nothing) (slice_get-get_or entries k nothing (omega (arith, as_many))))))
     where
       made : List ℕ → ℕ → Entry
       made numbers k = record { inode = slice_index numbers k; bytes = part (record_byte inodes k) 512 slot }
@@ -103,8 +109,10 @@ module _ (inodes : ℕ) (entries : List Entry) (slot : List ℕ) (small : inodes
         | inr later ↦ (let above : k ≡ 0 → ⊥ = eqb-false k 0 later in
             let back : k - 1 + 1 ≡ k = omega arith in
             let order : slice_index inodes_of_entries (k - 1) < slice_index inodes_of_entries (k - 1 + 1) = ascending (k - 1) (omega (arith, as_many)) in
-            let rises : slice_index inodes_of_entries (k - 1) < slice_index inodes_of_entries k = subst (λ (j : ℕ). slice_index inodes_of_entries (k - 1) < slice_index inodes_of_entries j) back order in
-            or_right (eqb k 0) (ltb (slice_index inodes_of_entries (k - 1)) (slice_index inodes_of_entries k)) (lt-ltb (slice_index inodes_of_entries (k - 1)) (slice_index inodes_of_entries k) rises))
+            let rises : slice_index inodes_of_entries (k - 1) < slice_index inodes_of_entries k =
+            subst (λ (j : ℕ). slice_index inodes_of_entries (k - 1) < slice_index inodes_of_entries j) back order in
+            or_right (eqb k 0) (ltb (slice_index inodes_of_entries (k - 1)) (slice_index inodes_of_entries k))
+            (lt-ltb (slice_index inodes_of_entries (k - 1)) (slice_index inodes_of_entries k) rises))
       ])
 
   numbers_are_sound : numbers_fault inodes (numbers_of inodes slot) ≡ None
@@ -125,7 +133,8 @@ read_again inodes entries slot small are has = record {
 piece_at : {X : Type 0} (f : X → List ℕ) (m : ℕ) (d : X) (xs : List X) (from : ℕ) (bytes : List ℕ) → ((j : ℕ) → j < length xs → length (f (get_or xs j d)) ≡ m) →
     part from (m * length xs) bytes ≡ flat_map f xs → (k : ℕ) → k < length xs → part (from + m * k) m bytes ≡ f (get_or xs k d)
 piece_at f m d xs from bytes long is k h =
-    let fits : m * k + m ≤ m * length xs = (let more : (k + 1) * m ≤ length xs * m = mul-le-mul_right m (let e : k + 1 ≤ length xs = omega arith in e) in omega arith) in
+    let fits : m * k + m ≤ m * length xs =
+    (let more : (k + 1) * m ≤ length xs * m = mul-le-mul_right m (let e : k + 1 ≤ length xs = omega arith in e) in omega arith) in
     sym (part-part (m * k) m from (m * length xs) bytes fits)
     ∙ ap (part (m * k) m) (is ∙ sym (append-nil (flat_map f xs)))
     ∙ part-flat_map f m d xs [] k long h

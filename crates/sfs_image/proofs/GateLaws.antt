@@ -185,7 +185,8 @@ record_given_is : (layout : Layout) (one : Transaction) (image : List ℕ) (i : 
 record_given_is layout one image i ours records gives =
     let found = given_from i one ours gives in
     let place : found.0.inode ≡ i = found.2 in
-    ap (table_record layout image) (sym place) ∙ found_has (λ (inner : InodePart). table_record layout image inner.inode ≡ inner.part.raw) _ one.parts found.0 records found.1
+    ap (table_record layout image) (sym place)
+    ∙ found_has (λ (inner : InodePart). table_record layout image inner.inode ≡ inner.part.raw) _ one.parts found.0 records found.1
     ∙ ap (λ (part : Part). part.raw) (sym found.3)
 
 pub gate_opens : (layout : Layout) (opened : ℕ → Option Transaction) (parts : ℕ → Part) (k : ℕ) (one : Transaction) (old new : List ℕ) →
@@ -217,4 +218,6 @@ oldest_may_shut layout opened parts k one image within open_with oldest has = re
 pub tables_stay_full : (layout : Layout) (opened : ℕ → Option Transaction) (parts : ℕ → Part) (k : ℕ) (old new : List ℕ) → IsImageOf layout opened parts old →
     ShutsGate layout opened k old new → IsFullTable layout opened parts old → IsFullTable layout (with_slot opened k None) (with_opened layout opened parts) new
 tables_stay_full layout opened parts k old new is shuts full i h =
-    record_stays layout k old new shuts.within shuts.written i ∙ full i h ∙ ap (λ (part : Part). part.raw) (sym (same_then layout opened parts k old new is shuts i))
+    record_stays layout k old new shuts.within shuts.written i
+    ∙ full i h
+    ∙ ap (λ (part : Part). part.raw) (sym (same_then layout opened parts k old new is shuts i))

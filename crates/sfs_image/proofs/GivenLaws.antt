@@ -66,7 +66,8 @@ module _ (layout : Layout) (opened : ℕ → Option Transaction) (k : ℕ) (with
   pub given_same : (other : ℕ → Option Transaction) (i : ℕ) → ((j : ℕ) → j < slot_count layout → part_given i (other j) ≡ part_given i (opened j)) →
       given layout other i ≡ given layout opened i
   given_same other i same =
-      ap (option_map (λ newest. newest.value)) (newest_same (λ j. part_given i (other j)) (λ j. part_given i (opened j)) 0 (slot_count layout) (λ j low high. same j (omega arith)))
+      ap (option_map (λ newest. newest.value))
+      (newest_same (λ j. part_given i (other j)) (λ j. part_given i (opened j)) 0 (slot_count layout) (λ j low high. same j (omega arith)))
 
   -- an inode to which neither the new nor the old transaction of a slot gives a part
   pub given_aside : (one : Option Transaction) (i : ℕ) → part_given i one ≡ part_given i (opened k) →
@@ -95,7 +96,8 @@ module _ (layout : Layout) (opened : ℕ → Option Transaction) (k : ℕ) (with
   remains : (i j : ℕ) (top : Stamped Part) → part_given i (with_slot opened k None j) ≡ Some top → (j ≢ k) × (part_given i (opened j) ≡ Some top)
   remains i j top there =
       elim (cases_eq j k) [
-        | inl here ↦ absurd (let gone : part_given i (with_slot opened k None j) ≡ None = ap (λ (m : ℕ). part_given i (with_slot opened k None m)) here ∙ ap (part_given i) (with_slot-same opened k None) in cc)
+        | inl here ↦ absurd (let gone : part_given i (with_slot opened k None j) ≡ None =
+            ap (λ (m : ℕ). part_given i (with_slot opened k None m)) here ∙ ap (part_given i) (with_slot-same opened k None) in cc)
         | inr other ↦ (other, sym (ap (part_given i) (with_slot-other opened k None j other)) ∙ there)
       ]
 
@@ -110,7 +112,8 @@ module _ (layout : Layout) (opened : ℕ → Option Transaction) (k : ℕ) (with
     here = here;
     others = λ m u low high apart there. elim (cases_eq m k) [
       | inl gone ↦ older u (ap (λ (x : ℕ). part_given i (opened x)) (sym gone) ∙ there)
-      | inr stays ↦ (let bound = newest_max (λ x. part_given i (with_slot opened k None x)) 0 (slot_count layout) top most m u low high (ap (part_given i) (with_slot-other opened k None m stays) ∙ there) in
+      | inr stays ↦ (let bound = newest_max (λ x. part_given i (with_slot opened k None x)) 0 (slot_count layout) top most m u low high
+              (ap (part_given i) (with_slot-other opened k None m stays) ∙ there) in
           let giver = given_by i (opened m) u there in
           let first = given_by i (opened j) top here in
           let one = giver.2 in let two = first.2 in
@@ -148,6 +151,7 @@ module _ (layout : Layout) (opened : ℕ → Option Transaction) (k : ℕ) (with
     where
       none_other : (j : ℕ) (other : Stamped Part) → 0 ≤ j → j < 0 + slot_count layout → j ≢ k → part_given i (opened j) ≡ Some other → ⊥
       none_other j other low high apart there =
-          let gone = newest_none (λ m. part_given i (with_slot opened k None m)) 0 (slot_count layout) (None-option_map (λ newest. newest.value) _ none) j low high in
+          let gone =
+          newest_none (λ m. part_given i (with_slot opened k None m)) 0 (slot_count layout) (None-option_map (λ newest. newest.value) _ none) j low high in
           let stays : part_given i (with_slot opened k None j) ≡ Some other = ap (part_given i) (with_slot-other opened k None j apart) ∙ there in
           cc

@@ -64,7 +64,9 @@ module _ (layout : Layout) (opened : ℕ → Option Transaction) (image : List �
       (newest_of_pieces (record_in i) (λ k. open_body layout.inodes (journal_slot layout image k)) (λ k. option_map (over (λ part. part.raw)) (part_given i (opened k))) 0 (slot_count layout)
       (λ k low high. slot_shows layout.inodes i (opened k) (journal_slot layout image k) (slots k (omega arith)))
       ∙ newest_over (λ part. part.raw) (λ k. part_given i (opened k)) (range_with_len 0 (slot_count layout)))
+
       ∙ option_map-option_map (λ newest. newest.value) (over (λ part. part.raw)) (newest (map (λ k. part_given i (opened k)) (range_with_len 0 (slot_count layout))))
+
       ∙ sym (option_map-option_map (λ part. part.raw) (λ newest. newest.value) (newest (map (λ k. part_given i (opened k)) (range_with_len 0 (slot_count layout)))))
 
 -- among the bodies of slots there is none with a commit stamp that none of them has

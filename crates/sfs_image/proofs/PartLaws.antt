@@ -42,7 +42,8 @@ gather_same store other raw same =
     λ place pointer is. read_same store other pointer (subst (λ (p : ℕ). p ≢ 0 → other p ≡ store p) is (same place)) in
     let tables : map (read_block other) inode.indirect ≡ map (read_block store) inode.indirect =
     map_same (read_block other) (read_block store) 0 inode.indirect (λ k h. agree (FILE_BLOCKS + k) (get_or inode.indirect k 0) (pointer_of_table old k)) in
-    let blocks : tabulate FILE_BLOCKS (λ n. read_block other (block_pointer inode (map (read_block other) inode.indirect) n)) ≡ tabulate FILE_BLOCKS (λ n. read_block store (block_pointer inode (map (read_block store) inode.indirect) n)) =
+    let blocks : tabulate FILE_BLOCKS (λ n. read_block other (block_pointer inode (map (read_block other) inode.indirect) n))
+        ≡ tabulate FILE_BLOCKS (λ n. read_block store (block_pointer inode (map (read_block store) inode.indirect) n)) =
     tabulate_same FILE_BLOCKS _ _
     (λ n h.
     ap (λ (those : List (List ℕ)). read_block other (block_pointer inode those n)) tables
@@ -81,7 +82,8 @@ block_behind store pointer there = cond-false (eqb pointer 0) _ _ (ne_eqb pointe
 pub none_past_places : (store : ℕ → List ℕ) (raw : List ℕ) (place : ℕ) → PLACES ≤ place → pointer_at (part_of store raw) place ≡ 0
 unfolding part_of
 none_past_places store raw place past =
-    cond-false (ltb place FILE_BLOCKS) _ _ (le-ltb place FILE_BLOCKS (omega arith)) ∙ get_or_past (inode_of raw).indirect (place - FILE_BLOCKS) 0 (omega (arith, length-u32s_at 448 16 raw))
+    cond-false (ltb place FILE_BLOCKS) _ _ (le-ltb place FILE_BLOCKS (omega arith))
+    ∙ get_or_past (inode_of raw).indirect (place - FILE_BLOCKS) 0 (omega (arith, length-u32s_at 448 16 raw))
 
 -- the byte of a file in a hole is 0
 pub hole_byte : (store : ℕ → List ℕ) (raw : List ℕ) (place : ℕ) → place < 4096 * FILE_BLOCKS → pointer_at (part_of store raw) (place / 4096) ≡ 0 →
@@ -102,7 +104,8 @@ pub holes_have_none : (store : ℕ → List ℕ) (raw : List ℕ) → (inode_of 
 unfolding part_of
 holes_have_none store raw direct indirect place =
     let part = part_of store raw in
-    let tables : (k : ℕ) → pointer_at part (FILE_BLOCKS + k) ≡ 0 = λ k. pointer_of_table part k ∙ ap (λ (xs : List ℕ). slice_index xs k) indirect ∙ get_or-holes 16 k in
+    let tables : (k : ℕ) → pointer_at part (FILE_BLOCKS + k) ≡ 0 =
+    λ k. pointer_of_table part k ∙ ap (λ (xs : List ℕ). slice_index xs k) indirect ∙ get_or-holes 16 k in
     elim (cases_lt place FILE_BLOCKS) [
       | inl below ↦ pointer_of_block part place below ∙ elim (cases_lt place 108) [
         | inl near ↦ cond-true (ltb place 108) _ _ (lt-ltb place 108 near) ∙ ap (λ (xs : List ℕ). slice_index xs place) direct ∙ get_or-holes 108 place

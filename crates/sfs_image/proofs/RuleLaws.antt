@@ -42,14 +42,17 @@ free_breaks_none rule layout parts i later inner free =
 module _ (parts : ℕ → Part) (i p : ℕ) (has : HasBlockAt parts i p) where
   neither : (any_below i (λ j. stands_below PLACES (parts j) (pointer_at (parts i) p)) ≡ false) × (stands_below p (parts i) (pointer_at (parts i) p) ≡ false)
   neither =
-      let each = second_fails (not (is_free_part (parts i))) (any_below PLACES (is_held_before parts i)) has.keeps (not_from_false (is_free_part (parts i)) has.used) in
+      let each =
+      second_fails (not (is_free_part (parts i))) (any_below PLACES (is_held_before parts i)) has.keeps (not_from_false (is_free_part (parts i)) has.used) in
       let here = any_below-none PLACES (is_held_before parts i) each p has.within in
       or_parts (any_below i (λ j. stands_below PLACES (parts j) (pointer_at (parts i) p))) (stands_below p (parts i) (pointer_at (parts i) p))
       (second_fails (not (eqb (pointer_at (parts i) p) 0)) _ here (not_from_false (eqb (pointer_at (parts i) p) 0) (ne_eqb (pointer_at (parts i) p) 0 has.there)))
 
   none_below : (j q : ℕ) → j < i → q < PLACES → pointer_at (parts j) q ≢ pointer_at (parts i) p
   none_below j q below place =
-      eqb-false _ _ (any_below-none PLACES (λ k. eqb (pointer_at (parts j) k) (pointer_at (parts i) p)) (any_below-none i (λ m. stands_below PLACES (parts m) (pointer_at (parts i) p)) neither.0 j below) q place)
+      eqb-false _ _
+      (any_below-none PLACES (λ k. eqb (pointer_at (parts j) k) (pointer_at (parts i) p))
+      (any_below-none i (λ m. stands_below PLACES (parts m) (pointer_at (parts i) p)) neither.0 j below) q place)
 
   none_before : (q : ℕ) → q < p → pointer_at (parts i) q ≢ pointer_at (parts i) p
   none_before q before = eqb-false _ _ (any_below-none p (λ k. eqb (pointer_at (parts i) k) (pointer_at (parts i) p)) neither.1 q before)
@@ -81,8 +84,10 @@ rule_from_apart parts i apart =
     (λ p within. elim (cases_Bool (eqb (pointer_at (parts i) p) 0)) [
       | inl hole ↦ and_left _ _ (not_from_true (eqb (pointer_at (parts i) p) 0) hole)
       | inr some ↦ and_right _ _ (or_from _ _
-          (any_below-from i _ (λ j below. any_below-from PLACES _ (λ q inside. ne_eqb _ _ (λ same. let both = apart j p q (omega arith) within inside (eqb-false _ _ some) (sym same) in let e = both.0 in omega arith))))
-          (any_below-from p _ (λ q before. ne_eqb _ _ (λ same. let both = apart i p q (omega arith) within (omega arith) (eqb-false _ _ some) (sym same) in let e = both.1 in omega arith))))
+          (any_below-from i _ (λ j below. any_below-from PLACES _ (λ q inside. ne_eqb _ _ (λ same.
+          let both = apart j p q (omega arith) within inside (eqb-false _ _ some) (sym same) in let e = both.0 in omega arith))))
+          (any_below-from p _ (λ q before. ne_eqb _ _ (λ same.
+          let both = apart i p q (omega arith) within (omega arith) (eqb-false _ _ some) (sym same) in let e = both.1 in omega arith))))
     ]))
 
 -- a test that its negation fails
