@@ -79,7 +79,6 @@ module _ (inodes : ℕ) (entries : List Entry) (slot : List ℕ) (small : inodes
       let within : k < n = subst (λ (l : ℕ). k < l) (length-u32s_at 4096 n slot) h in
       get_or-u32s_at 4096 n slot k d within
       ∙ number_of_four (drop (4 * k) (part 4096 (4 * n) slot))
-
       ∙ ap (number_from 0 4) (part-part (4 * k) 4 4096 (4 * n) slot (omega arith) ∙ has.numbers k (get_or entries k nothing) (slice_get-get_or entries k nothing within))
       ∙ number_from-u32_bytes (get_or entries k nothing).inode [] (let low = inode_below k within in let e = inode_at k 0 within in omega arith)
       ∙ sym (inode_at k d within))
@@ -88,7 +87,6 @@ module _ (inodes : ℕ) (entries : List Entry) (slot : List ℕ) (small : inodes
   entries_again : entries_of inodes slot ≡ entries
   entries_again =
       ap (λ (numbers : List ℕ). map (made numbers) (range_with_len 0 (length numbers))) numbers_again
-
       ∙ sym (fill_by_all (made inodes_of_entries) entries (length inodes_of_entries) nothing (sym as_many)
       (λ k h.
       same_entry (inode_at k 0 (omega (arith, as_many)))

@@ -10,8 +10,9 @@ use Rattle.sfs_image.specs.Part.{Part, IsGathered, pointer_at}
 use Rattle.sfs_image.specs.Settled.{table_byte, Stamped, image_block, slot_byte, slot_count, journal_slot, table_record}
 use Rattle.sfs_image.specs.Super.{Layout, slot_blocks}
 use Rattle.sfs_image.proofs.FrameLaws.{part_apart, part_changes, whole_kept}
-use Rattle.sfs_image.proofs.GivenLaws.{given_alone, given_by, given_from, found_has, stamp_given, with_slot-same, with_slot-other, given_has, given_aside, given_newer, given_behind}
+use Rattle.sfs_image.proofs.GivenLaws.{given_alone, given_by, given_from, stamp_given, with_slot-same, with_slot-other, given_has, given_aside, given_newer, given_behind}
 use Rattle.sfs_image.proofs.KeptLaws.{sound_kept, divided_kept, gathered_kept, slots_apart, slot_before_table, slot_before_data}
+use Rattle.sfs_image.proofs.Basics.{found_has}
 use Rattle.sfs_image.proofs.LayoutLaws.{divided}
 
 -- the gate's byte, as one of its slot

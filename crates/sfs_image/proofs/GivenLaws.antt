@@ -1,13 +1,13 @@
 -- What the open slots give an inode once a transaction has come to them, or has gone.
-use Rattle.std.proofs.Common.{◌≡◌, ◌≢◌, ℕ, ◌+◌, ◌<◌, ◌≤◌, Bool, true, eqb, List, [], ◌∷◌, map, All, Option, None, Some, option_map, refl, sym, ap, ◌∙◌, subst, arith, inl, inr}
+use Rattle.std.proofs.Common.{◌≡◌, ◌≢◌, ℕ, ◌+◌, ◌<◌, ◌≤◌, eqb, map, All, Option, None, Some, option_map, refl, sym, ap, ◌∙◌, subst, arith, inl, inr}
 use Rattle.std.specs.List.{range_with_len, find}
-use Rattle.std.proofs.lemmas.List.Elements.{All-head, All-tail}
-use Rattle.std.proofs.lemmas.Bool.{cases_Bool, cases_eq, cond-true, cond-false, eqb-true, eq-eqb, ne_eqb}
+use Rattle.std.proofs.lemmas.Bool.{cases_eq, cond-true, cond-false, eqb-true, eq-eqb, ne_eqb}
 use Rattle.sfs_image.specs.ImageOf.{InodePart, Transaction, part_given, given, with_slot, HaveOwnStamps}
 use Rattle.sfs_image.specs.Part.{Part}
 use Rattle.sfs_image.specs.Settled.{Stamped, newest, slot_count}
 use Rattle.sfs_image.specs.Super.{Layout}
 use Rattle.sfs_image.proofs.BytesLaws.{option_map-Some, None-option_map}
+use Rattle.sfs_image.proofs.Basics.{found_has, found_passes}
 use Rattle.sfs_image.proofs.NewestLaws.{newest_same, newest_from, newest_none, newest_greatest, newest_max, IsGreatest}
 
 -- the slot that was changed, and each other
@@ -26,25 +26,6 @@ pub given_by : (i : ℕ) (one : Option Transaction) (ours : Stamped Part) → pa
     (giver : Transaction) × (one ≡ Some giver) × (ours.stamp ≡ giver.stamp)
 given_by i None ours is = absurd cc
 given_by i (Some one) ours is = (one, refl, stamp_given i one ours is)
-
--- what each element has is had by the one that is found
-pub found_has : {X : Type 0} (P : X → Type 0) (test : X → Bool) (xs : List X) (x : X) → All P xs → find test xs ≡ Some x → P x
-found_has P test [] x all is = absurd cc
-found_has P test (y ∷ xs) x all is =
-    elim (cases_Bool (test y)) [
-      | inl passes ↦ (let e : Some y ≡ Some x = sym (cond-true (test y) (Some y) (find test xs) passes) ∙ is in let same : y ≡ x = cc in subst P same (All-head P y xs all))
-      | inr fails ↦ found_has P test xs x (All-tail P y xs all) (sym (cond-false (test y) (Some y) (find test xs) fails) ∙ is)
-    ]
-
--- what passes a test is found
-found_passes : {X : Type 0} (test : X → Bool) (xs : List X) (x : X) → find test xs ≡ Some x → test x ≡ true
-found_passes test [] x is = absurd cc
-found_passes test (y ∷ xs) x is =
-    elim (cases_Bool (test y)) [
-      | inl passes ↦ (let e : Some y ≡ Some x = sym (cond-true (test y) (Some y) (find test xs) passes) ∙ is in
-          let same : y ≡ x = cc in sym (ap test same) ∙ passes)
-      | inr fails ↦ found_passes test xs x (sym (cond-false (test y) (Some y) (find test xs) fails) ∙ is)
-    ]
 
 -- what a transaction gives an inode is the part of an entry of it
 pub given_from : (i : ℕ) (one : Transaction) (ours : Stamped Part) → part_given i (Some one) ≡ Some ours →
@@ -113,7 +94,7 @@ module _ (layout : Layout) (opened : ℕ → Option Transaction) (k : ℕ) (with
     others = λ m u low high apart there. elim (cases_eq m k) [
       | inl gone ↦ older u (ap (λ (x : ℕ). part_given i (opened x)) (sym gone) ∙ there)
       | inr stays ↦ (let bound = newest_max (λ x. part_given i (with_slot opened k None x)) 0 (slot_count layout) top most m u low high
-              (ap (part_given i) (with_slot-other opened k None m stays) ∙ there) in
+          (ap (part_given i) (with_slot-other opened k None m stays) ∙ there) in
           let giver = given_by i (opened m) u there in
           let first = given_by i (opened j) top here in
           let one = giver.2 in let two = first.2 in

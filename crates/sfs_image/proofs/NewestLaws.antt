@@ -128,8 +128,8 @@ newest_greatest {A = A} at a (suc n) k s is =
       | inl first ↦ ap (λ (o : Option (Stamped A)). newer o (newest (map at (range_with_len (a + 1) n)))) (ap at (sym first) ∙ is.here)
           ∙ newer_first s (newest (map at (range_with_len (a + 1) n)))
           (λ other rest.
-            let one = newest_from at (a + 1) n other rest in let l = one.1 in let h = one.2 in
-            is.others one.0 other (omega arith) (omega arith) (omega arith) one.3)
+          let one = newest_from at (a + 1) n other rest in let l = one.1 in let h = one.2 in
+          is.others one.0 other (omega arith) (omega arith) (omega arith) one.3)
       | inr later ↦ ap (newer (at a)) (newest_greatest at (a + 1) n k s (behind later))
           ∙ newer_last s (at a) (λ other here. is.others a other (omega arith) (omega arith) (λ same. later (sym same)) here)
     ]

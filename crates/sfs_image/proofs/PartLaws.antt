@@ -43,7 +43,7 @@ gather_same store other raw same =
     let tables : map (read_block other) inode.indirect ≡ map (read_block store) inode.indirect =
     map_same (read_block other) (read_block store) 0 inode.indirect (λ k h. agree (FILE_BLOCKS + k) (get_or inode.indirect k 0) (pointer_of_table old k)) in
     let blocks : tabulate FILE_BLOCKS (λ n. read_block other (block_pointer inode (map (read_block other) inode.indirect) n))
-        ≡ tabulate FILE_BLOCKS (λ n. read_block store (block_pointer inode (map (read_block store) inode.indirect) n)) =
+    ≡ tabulate FILE_BLOCKS (λ n. read_block store (block_pointer inode (map (read_block store) inode.indirect) n)) =
     tabulate_same FILE_BLOCKS _ _
     (λ n h.
     ap (λ (those : List (List ℕ)). read_block other (block_pointer inode those n)) tables
