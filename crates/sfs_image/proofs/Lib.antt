@@ -11,6 +11,7 @@ pub mod JournalLaws
 pub mod JustMadeLaws
 pub mod KeptLaws
 pub mod LayoutLaws
+pub mod MadeLaws
 pub mod NewestLaws
 pub mod PartLaws
 pub mod PiecesLaws

@@ -1,12 +1,13 @@
 -- Which parts an image stands for, whatever journal slots are open in it.
-use Rattle.std.specs.Prelude.{◌≡◌, ◌≢◌, ℕ, ◌<◌, ◌≤◌, ◌==◌, true, false, All, List, map, Option, None, Some, option_map, unwrap_or, if◌then◌else◌, length, replicate, ◌/◌}
+use Rattle.std.specs.Prelude.{◌≡◌, ◌≢◌, ℕ, ◌<◌, ◌≤◌, ◌==◌, true, false, All, List, map, Option, None, Some, option_map, unwrap_or, if◌then◌else◌, length, replicate, ◌/◌, Contains}
 use Rattle.std.specs.List.{range_with_len, find}
 use Rattle.sfs_image.specs.Bytes.{part, zeros}
 use Rattle.sfs_image.specs.Inode.{Inode, inode_bytes}
 use Rattle.sfs_image.specs.Slot.{kind_byte}
 use Rattle.sfs_base.specs.declared.numbers.Kind.TheVariants.{Directory}
 use Rattle.sfs_image.specs.Journal.{head_of, numbers_of, numbers_fault}
-use Rattle.sfs_image.specs.Part.{Part, part_of, IsGathered, pointer_at}
+use Rattle.sfs_image.specs.Part.{Part, part_of, IsGathered, pointer_at, content_at}
+use Rattle.sfs_image.specs.Seen.{FILE_BLOCKS, PLACES}
 use Rattle.sfs_image.specs.Settled.{Body, Stamped, newest, body_in, image_block, journal_slot, layout_of, slot_count, super_fault_of, table_record, journal_fault_of, parts_of}
 use Rattle.sfs_image.specs.Super.{Layout, data_start, IsLayout, super_bytes}
 
@@ -138,3 +139,15 @@ StandIn store fresh = All (λ one. store one.block ≡ one.bytes) fresh
 -- In each store that has the old part and the fresh blocks the new part's record gathers the new part.
 abbrev pub TurnsInto : List FreshBlock → Part → Part → Type 0
 TurnsInto fresh old new = (store : ℕ → List ℕ) → StandIn store fresh → IsGathered store old → IsGathered store new
+
+-- Where the block of a pointer comes from that a new part has: there is none, it is fresh, or it stood at a place of the old part.
+pub data ComesFrom (fresh : List FreshBlock) (old : Part) : ℕ → List ℕ → Type 0 where
+  hole : ComesFrom fresh old 0 (zeros 4096)
+  written : (one : FreshBlock) → Contains fresh one → one.block ≢ 0 → ComesFrom fresh old one.block one.bytes
+  kept : (place : ℕ) → place < PLACES → pointer_at old place ≢ 0 → ComesFrom fresh old (pointer_at old place) (content_at old place)
+
+-- A new part is made of fresh blocks and of an old part: it has all its places, and what stands at each comes from them.
+pub record IsMadeOf (fresh : List FreshBlock) (old new : Part) : Type 0 where
+  pub tables : length new.tables ≡ 16
+  pub blocks : length new.blocks ≡ FILE_BLOCKS
+  pub comes : (place : ℕ) → place < PLACES → ComesFrom fresh old (pointer_at new place) (content_at new place)

@@ -1,7 +1,7 @@
 -- The laws of images, each of which a function of the module laws proves.
 use Rattle.std.specs.Prelude.{◌≡◌, ◌≢◌, ◌⊎◌, ℕ, ◌+◌, ◌*◌, ◌/◌, ◌%◌, ◌<◌, ◌≤◌, ◌^◌, List, Option, None, Some, if◌then◌else◌, true, false}
 use Rattle.sfs_image.specs.Bytes.{part}
-use Rattle.sfs_image.specs.ImageOf.{MayBeSlotOf, opened_among, IsSlotOf, IsAccepted, transaction_in, table_parts, Transaction, with_opened, with_slot, IsImageOf, FreshBlock, StandIn, TurnsInto, empty_directory, IsJustMade}
+use Rattle.sfs_image.specs.ImageOf.{MayBeSlotOf, opened_among, IsSlotOf, IsAccepted, transaction_in, table_parts, Transaction, with_opened, with_slot, IsImageOf, FreshBlock, StandIn, TurnsInto, empty_directory, IsJustMade, IsMadeOf}
 use Rattle.sfs_image.specs.ImageWrites.{IsFullTable, HasRecordsOf, IsOldest, MayShut, LeavesGate, WritesData, WritesRecord, WritesBody, OpensGate, ShutsGate}
 use Rattle.sfs_image.specs.Rules.{breaks_bytes_rule}
 use Rattle.sfs_image.specs.Journal.{Entry, head_of, entries_of, numbers_of, numbers_fault, number_byte, record_byte, records_start, AreEntries, HasEntries, HasRangesOf}
@@ -128,6 +128,10 @@ BodyWritesKeep = (layout : Layout) (opened : ℕ → Option Transaction) (parts 
 abbrev pub LeftGatesKeep : Type 0
 LeftGatesKeep = (layout : Layout) (opened : ℕ → Option Transaction) (parts : ℕ → Part) (k : ℕ) (old new : List ℕ) → IsImageOf layout opened parts old
     → LeavesGate layout k old new → IsImageOf layout opened parts new
+
+-- Fresh blocks turn an old part into a new one that is made of them and of the old part.
+abbrev pub MadePartsTurn : Type 0
+MadePartsTurn = (fresh : List FreshBlock) (old new : Part) → IsMadeOf fresh old new → TurnsInto fresh old new
 
 -- Where fresh blocks stand in an image that turn the part of an inode into a new one, the image has all that the new part reaches.
 abbrev pub FreshBlocksMakeParts : Type 0

@@ -6,7 +6,7 @@ ghost use Rattle.sfs_image.specs.Journal.{Head, IsHead, head_of, head_bytes};
 ghost use Rattle.sfs_image.specs.Laws.{JustMadeShowsRoot, AcceptedImagesStand, LeftGatesKeep, GatesSayWhichAreOpen};
 ghost use Rattle.sfs_image.specs.Laws.{JournalFaultsAreFirst, FreshBlocksMakeParts, LayoutsDivide};
 ghost use Rattle.sfs_image.specs.Laws.{RangesHaveEntries, SlotsAreNumbered, EntriesAreReadAgain, SettledIsNewest};
-ghost use Rattle.sfs_image.specs.Laws.{SettledIsTables, ImagesStandForParts, DataWritesKeep, TableWritesKeep};
+ghost use Rattle.sfs_image.specs.Laws.{MadePartsTurn, SettledIsTables, ImagesStandForParts, DataWritesKeep, TableWritesKeep};
 ghost use Rattle.sfs_image.specs.Laws.{OldestMayShut, TablesStayFull, BodyWritesKeep, OpenedGatesAdd, ShutGatesKeep};
 ghost use Rattle.sfs_image.specs.LawsOfParts.{BytesAreShown, SlotsAreShown, SizesSay, PointersSay, TailsSay};
 ghost use Rattle.sfs_image.specs.LawsOfParts.{SlotsSay, HolesAreZeros, BytesAreTheBlocks};
@@ -186,4 +186,9 @@ pub fn just_made_shows_root()
 /// Entries whose numbers and records stand in two ranges of a slot have each its own at its place.
 pub fn ranges_have_entries()
     ensures { RangesHaveEntries }
+{}
+
+/// Fresh blocks turn an old part into a new one that is made of them and of the old part.
+pub fn made_parts_turn()
+    ensures { MadePartsTurn }
 {}
