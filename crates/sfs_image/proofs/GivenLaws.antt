@@ -2,7 +2,7 @@
 use Rattle.std.proofs.Common.{◌≡◌, ◌≢◌, ℕ, ◌+◌, ◌<◌, ◌≤◌, eqb, map, All, Option, None, Some, option_map, refl, sym, ap, ◌∙◌, subst, arith, inl, inr}
 use Rattle.std.specs.List.{range_with_len, find}
 use Rattle.std.proofs.lemmas.Bool.{cases_eq, cond-true, cond-false, eqb-true, eq-eqb, ne_eqb}
-use Rattle.sfs_image.specs.ImageOf.{InodePart, Transaction, part_given, given, with_slot, HaveOwnStamps}
+use Rattle.sfs_image.specs.ImageOf.{IsGiver, InodePart, Transaction, part_given, given, with_slot, HaveOwnStamps}
 use Rattle.sfs_image.specs.Part.{Part}
 use Rattle.sfs_image.specs.Settled.{Stamped, newest, slot_count}
 use Rattle.sfs_image.specs.Super.{Layout}
@@ -136,3 +136,27 @@ module _ (layout : Layout) (opened : ℕ → Option Transaction) (k : ℕ) (with
           newest_none (λ m. part_given i (with_slot opened k None m)) 0 (slot_count layout) (None-option_map (λ newest. newest.value) _ none) j low high in
           let stays : part_given i (with_slot opened k None j) ≡ Some other = ap (part_given i) (with_slot-other opened k None j apart) ∙ there in
           cc
+
+-- each part that the open slots give is given by one of them
+pub giver_of : (layout : Layout) (opened : ℕ → Option Transaction) (i : ℕ) (part : Part) → HaveOwnStamps layout opened → given layout opened i ≡ Some part →
+    (k : ℕ) × (ours : Stamped Part) × IsGiver layout opened i k ours × (part ≡ ours.value)
+giver_of layout opened i part stamps there =
+    let at : ℕ → Option (Stamped Part) = λ k. part_given i (opened k) in
+    let top = option_map-Some (λ (s : Stamped Part). s.value) (newest (map at (range_with_len 0 (slot_count layout)))) part there in
+    let from = newest_from at 0 (slot_count layout) top.0 top.1 in
+    let below : from.0 < slot_count layout = (let h = from.2 in omega arith) in (
+      from.0,
+      top.0,
+      (record {
+        within = below;
+        gives = from.3;
+        newest = λ j other h apart gives.
+            let bound = newest_max at 0 (slot_count layout) top.0 top.1 j other (omega arith) (omega arith) gives in
+            let one = given_by i (opened j) other gives in
+            let two = given_by i (opened from.0) top.0 from.3 in
+            let first = one.2 in let second = two.2 in
+            let differs : other.stamp ≢ top.0.stamp = λ same. apart (stamps j from.0 one.0 two.0 h below one.1 two.1 (omega arith)) in
+            omega arith;
+      }),
+      top.2,
+    )

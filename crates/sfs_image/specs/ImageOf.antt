@@ -35,6 +35,12 @@ part_given i (Some one) = option_map (λ own. record { stamp = one.stamp; value 
 abbrev pub given : Layout → (ℕ → Option Transaction) → ℕ → Option Part
 given layout opened i = option_map (λ newest. newest.value) (newest (map (λ k. part_given i (opened k)) (range_with_len 0 (slot_count layout))))
 
+-- open slot k gives inode i its part: its commit stamp is greater than that of each other open slot that gives it one
+pub record IsGiver (layout : Layout) (opened : ℕ → Option Transaction) (i k : ℕ) (ours : Stamped Part) : Type 0 where
+  pub within : k < slot_count layout
+  pub gives : part_given i (opened k) ≡ Some ours
+  pub newest : (j : ℕ) (other : Stamped Part) → j < slot_count layout → j ≢ k → part_given i (opened j) ≡ Some other → other.stamp < ours.stamp
+
 -- the part of inode i with what the open slots give
 abbrev pub with_opened : Layout → (ℕ → Option Transaction) → (ℕ → Part) → ℕ → Part
 with_opened layout opened parts i = unwrap_or (given layout opened i) (parts i)

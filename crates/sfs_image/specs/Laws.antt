@@ -2,7 +2,7 @@
 use Rattle.std.specs.Prelude.{◌≡◌, ◌≢◌, ◌⊎◌, ℕ, ◌+◌, ◌*◌, ◌/◌, ◌%◌, ◌<◌, ◌≤◌, ◌^◌, List, Option, None, Some, if◌then◌else◌, true, false}
 use Rattle.sfs_image.specs.Bytes.{part}
 use Rattle.sfs_image.specs.ImageOf.{MayBeSlotOf, opened_among, IsSlotOf, IsAccepted, transaction_in, table_parts, Transaction, with_opened, with_slot, IsImageOf, FreshBlock, StandIn, TurnsInto, empty_directory, IsJustMade, IsMadeOf}
-use Rattle.sfs_image.specs.ImageWrites.{IsFullTable, HasRecordsOf, IsOldest, MayShut, LeavesGate, WritesData, WritesRecord, WritesBody, OpensGate, ShutsGate}
+use Rattle.sfs_image.specs.ImageWrites.{HasNewestRecords, IsFullTable, HasRecordsOf, IsOldest, MayShut, LeavesGate, WritesData, WritesRecord, WritesBody, OpensGate, ShutsGate}
 use Rattle.sfs_image.specs.Rules.{breaks_bytes_rule}
 use Rattle.sfs_image.specs.Journal.{Entry, head_of, entries_of, numbers_of, numbers_fault, number_byte, record_byte, records_start, AreEntries, HasEntries, HasRangesOf}
 use Rattle.sfs_image.specs.Part.{Part, IsGathered, inode_in, is_free_part}
@@ -160,6 +160,11 @@ ShutGatesKeep = (layout : Layout) (opened : ℕ → Option Transaction) (parts :
 abbrev pub OldestMayShut : Type 0
 OldestMayShut = (layout : Layout) (opened : ℕ → Option Transaction) (parts : ℕ → Part) (k : ℕ) (one : Transaction) (image : List ℕ) → k < slot_count layout
     → opened k ≡ Some one → IsOldest layout opened k one → (IsFullTable layout opened parts image) ⊎ (HasRecordsOf layout one image) → MayShut layout opened k image
+
+-- A table that has the newest records of the open slots has the records of all parts.
+abbrev pub NewestRecordsFill : Type 0
+NewestRecordsFill = (layout : Layout) (opened : ℕ → Option Transaction) (parts : ℕ → Part) (image : List ℕ) → IsImageOf layout opened parts image
+    → HasNewestRecords layout opened image → IsFullTable layout opened parts image
 
 -- A table that has the records of all parts has them once a gate has shut.
 abbrev pub TablesStayFull : Type 0

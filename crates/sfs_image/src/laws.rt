@@ -3,7 +3,7 @@ ghost use Rattle.std.specs.Prelude.{◌≡◌, ℕ, None, false};
 ghost use Rattle.sfs_image.specs.Format.{IsFormat};
 ghost use Rattle.sfs_image.specs.Inode.{IsInode, inode_of, inode_fault, inode_bytes, ArePointers, pointers_of, pointers_bytes};
 ghost use Rattle.sfs_image.specs.Journal.{Head, IsHead, head_of, head_bytes};
-ghost use Rattle.sfs_image.specs.Laws.{JustMadeShowsRoot, AcceptedImagesStand, LeftGatesKeep, GatesSayWhichAreOpen};
+ghost use Rattle.sfs_image.specs.Laws.{NewestRecordsFill, JustMadeShowsRoot, AcceptedImagesStand, LeftGatesKeep, GatesSayWhichAreOpen};
 ghost use Rattle.sfs_image.specs.Laws.{JournalFaultsAreFirst, FreshBlocksMakeParts, LayoutsDivide};
 ghost use Rattle.sfs_image.specs.Laws.{RangesHaveEntries, SlotsAreNumbered, EntriesAreReadAgain, SettledIsNewest};
 ghost use Rattle.sfs_image.specs.Laws.{MadePartsTurn, SettledIsTables, ImagesStandForParts, DataWritesKeep, TableWritesKeep};
@@ -191,4 +191,9 @@ pub fn ranges_have_entries()
 /// Fresh blocks turn an old part into a new one that is made of them and of the old part.
 pub fn made_parts_turn()
     ensures { MadePartsTurn }
+{}
+
+/// A table that has the newest records of the open slots has the records of all parts.
+pub fn newest_records_fill()
+    ensures { NewestRecordsFill }
 {}
