@@ -4,7 +4,7 @@ use Rattle.std.specs.Prelude.{◌↔◌}
 use Rattle.std.proofs.lemmas.Bool.{not-false, cases_Bool, cases_lt, cases_order, cond_both, cond-false, ne_eqb, eqb-true, eqb-false, and_left, and_right, and_parts, or_from, or_parts, not_from_true, not_from_false, leb-true, ltb-true, le-leb, lt-ltb, or_left, or_right, and_from}
 use Rattle.sfs_image.specs.Inode.{inode_fault}
 use Rattle.sfs_image.specs.ImageOf.{PointsToData}
-use Rattle.sfs_image.specs.LawsOfParts.{PointsWell}
+use Rattle.sfs_image.specs.LawsOfParts.{StandsNowhereBefore, PointsWell}
 use Rattle.sfs_image.specs.Part.{Part, part_of, inode_in, pointer_at, is_free_part, is_file_part, is_directory_part}
 use Rattle.sfs_image.specs.Rules.{any_below, breaks_record, is_data_block, is_good_pointer, first_covered, breaks_pointers, stands_below, is_held_before, HasBlockAt, breaks_apart, breaks_bytes_rule}
 use Rattle.sfs_image.specs.Seen.{PLACES}
@@ -69,21 +69,40 @@ apart_from_rule parts i j p q one other same =
       | inr (inr above) ↦ absurd (none_below parts i p one j q above other.within (sym same))
     ]
 
+-- An inode keeps the fifth rule where each of its blocks stands at no place before.
+rule_from_before : (parts : ℕ → Part) (i : ℕ) → ((place : ℕ) → place < PLACES → pointer_at (parts i) place ≢ 0 → StandsNowhereBefore parts i place) →
+    breaks_apart parts i ≡ false
+rule_from_before parts i nowhere =
+    and_right (not (is_free_part (parts i))) _
+    (any_below-from PLACES (is_held_before parts i)
+    (λ p within. elim (cases_Bool (eqb (pointer_at (parts i) p) 0)) [
+      | inl hole ↦ and_left _ _ (not_from_true (eqb (pointer_at (parts i) p) 0) hole)
+      | inr some ↦ (let stands = nowhere p within (eqb-false _ _ some) in
+          and_right _ _ (or_from _ _
+          (any_below-from i _ (λ j below. any_below-from PLACES _ (λ q inside. ne_eqb _ _ (stands.below j q below inside))))
+          (any_below-from p _ (λ q before. ne_eqb _ _ (stands.before q before)))))
+    ]))
+
+pub blocks_say : (parts : ℕ → Part) (i : ℕ) → is_free_part (parts i) ≡ false →
+    (breaks_apart parts i ≡ false) ↔ ((place : ℕ) → place < PLACES → pointer_at (parts i) place ≢ 0 → StandsNowhereBefore parts i place)
+blocks_say parts i used = (
+  (λ keeps place within there. record {
+    below = none_below parts i place (record { used = used; keeps = keeps; within = within; there = there });
+    before = none_before parts i place (record { used = used; keeps = keeps; within = within; there = there });
+  }),
+  rule_from_before parts i,
+)
+
 -- An inode keeps the fifth rule where each of its blocks stands at no other place of it or of an inode below it.
 pub rule_from_apart : (parts : ℕ → Part) (i : ℕ) →
     ((j p q : ℕ) → j ≤ i → p < PLACES → q < PLACES → pointer_at (parts i) p ≢ 0 → pointer_at (parts i) p ≡ pointer_at (parts j) q → (i ≡ j) × (p ≡ q)) →
     breaks_apart parts i ≡ false
 rule_from_apart parts i apart =
-    and_right (not (is_free_part (parts i))) _
-    (any_below-from PLACES (is_held_before parts i)
-    (λ p within. elim (cases_Bool (eqb (pointer_at (parts i) p) 0)) [
-      | inl hole ↦ and_left _ _ (not_from_true (eqb (pointer_at (parts i) p) 0) hole)
-      | inr some ↦ and_right _ _ (or_from _ _
-          (any_below-from i _ (λ j below. any_below-from PLACES _ (λ q inside. ne_eqb _ _ (λ same.
-          let both = apart j p q (omega arith) within inside (eqb-false _ _ some) (sym same) in let e = both.0 in omega arith))))
-          (any_below-from p _ (λ q before. ne_eqb _ _ (λ same.
-          let both = apart i p q (omega arith) within (omega arith) (eqb-false _ _ some) (sym same) in let e = both.1 in omega arith))))
-    ]))
+    rule_from_before parts i
+    (λ p within there. record {
+      below = λ j q below inside same. let both = apart j p q (omega arith) within inside there (sym same) in let e = both.0 in omega arith;
+      before = λ q before same. let both = apart i p q (omega arith) within (omega arith) there (sym same) in let e = both.1 in omega arith;
+    })
 
 -- Where an inode in use keeps the fourth rule each pointer names a block of the data area and covers a byte below the size.
 pub good_from_rule : (layout : Layout) (part : Part) (p : ℕ) → breaks_pointers layout part ≡ false → is_free_part part ≡ false → p < PLACES →

@@ -1,7 +1,7 @@
 -- The laws of the parts of inodes and of the rules on them, each of which a function of the module laws proves.
 use Rattle.std.specs.Prelude.{◌≡◌, ◌≢◌, ◌↔◌, All, length, slice_index_or, [], ℕ, ◌+◌, ◌*◌, ◌/◌, ◌%◌, ◌<◌, ◌≤◌, false, true, List, Option, None, slice_index}
 use Rattle.sfs_image.specs.Part.{Part, inode_in, part_of, seen_of, pointer_at, file_byte, directory_blocks, is_free_part, is_file_part, is_directory_part}
-use Rattle.sfs_image.specs.Rules.{DIRECTORY_BLOCKS, HasBlockAt, first_covered, breaks_size, breaks_pointers, breaks_tail, breaks_slots, breaks_bytes_rule}
+use Rattle.sfs_image.specs.Rules.{DIRECTORY_BLOCKS, HasBlockAt, first_covered, breaks_size, breaks_pointers, breaks_apart, breaks_tail, breaks_slots, breaks_bytes_rule}
 use Rattle.sfs_image.specs.Seen.{FILE_BLOCKS, PLACES}
 use Rattle.sfs_image.specs.Slot.{Row}
 use Rattle.sfs_image.specs.SlotBlock.{slot_in, slots_fault}
@@ -71,6 +71,16 @@ pub record PointsWell (layout : Layout) (part : Part) (place : ℕ) : Type 0 whe
 abbrev pub PointersSay : Type 0
 PointersSay = (layout : Layout) (part : Part) → is_free_part part ≡ false
     → (breaks_pointers layout part ≡ false) ↔ ((place : ℕ) → place < PLACES → pointer_at part place ≢ 0 → PointsWell layout part place)
+
+-- the block at a place of inode i stands at no place before it: of an inode below i, or of its own
+pub record StandsNowhereBefore (parts : ℕ → Part) (i place : ℕ) : Type 0 where
+  pub below : (j q : ℕ) → j < i → q < PLACES → pointer_at (parts j) q ≢ pointer_at (parts i) place
+  pub before : (q : ℕ) → q < place → pointer_at (parts i) q ≢ pointer_at (parts i) place
+
+-- An inode in use keeps the fifth rule exactly where each of its blocks stands at no place before.
+abbrev pub BlocksSay : Type 0
+BlocksSay = (parts : ℕ → Part) (i : ℕ) → is_free_part (parts i) ≡ false
+    → (breaks_apart parts i ≡ false) ↔ ((place : ℕ) → place < PLACES → pointer_at (parts i) place ≢ 0 → StandsNowhereBefore parts i place)
 
 -- A file keeps the sixth rule exactly where each byte past its size in its last block is 0.
 abbrev pub TailsSay : Type 0

@@ -9,7 +9,7 @@ ghost use Rattle.sfs_image.specs.Laws.{RangesHaveEntries, SlotsAreNumbered, Entr
 ghost use Rattle.sfs_image.specs.Laws.{MadePartsTurn, SettledIsTables, ImagesStandForParts, DataWritesKeep, TableWritesKeep};
 ghost use Rattle.sfs_image.specs.Laws.{OldestMayShut, TablesStayFull, BodyWritesKeep, OpenedGatesAdd, ShutGatesKeep};
 ghost use Rattle.sfs_image.specs.LawsOfParts.{BytesAreShown, SlotsAreShown, SizesSay, PointersSay, TailsSay};
-ghost use Rattle.sfs_image.specs.LawsOfParts.{SlotsSay, HolesAreZeros, BytesAreTheBlocks};
+ghost use Rattle.sfs_image.specs.LawsOfParts.{BlocksSay, SlotsSay, HolesAreZeros, BytesAreTheBlocks};
 ghost use Rattle.sfs_image.specs.LawsOfParts.{PartsAreWhatTheyReach, FreeInodesBreakNone, BlocksHaveOnePlace};
 ghost use Rattle.sfs_image.specs.Slot.{IsSlot, slot_of, slot_fault, slot_bytes};
 ghost use Rattle.sfs_image.specs.SlotBlock.{AreSlots, slots_of, slots_fault, slots_bytes};
@@ -145,10 +145,11 @@ pub fn directories_show_their_slots()
     ensures { SlotsAreShown }
 {}
 
-/// What the rules on sizes, pointers, last blocks and slots say: an inode keeps one exactly where a fact of it holds.
+/// What the rules on sizes, pointers, blocks, last blocks and slots say: an inode keeps one exactly where a fact of it holds.
 pub fn rules_say()
     ensures sizes { SizesSay }
     ensures pointers { PointersSay }
+    ensures blocks { BlocksSay }
     ensures tails { TailsSay }
     ensures slots { SlotsSay }
 {}
