@@ -5,6 +5,7 @@ use Rattle.std.proofs.lemmas.List.{get_or-map, get_or_past}
 use Rattle.std.proofs.lemmas.Bool.{cases_Bool, cases_lt, cond-true, cond-false, ne_eqb, eq-eqb, le-ltb, lt-ltb, eqb-false}
 use Rattle.sfs_image.specs.Bytes.{zeros}
 use Rattle.sfs_image.specs.Inode.{inode_of, inode_fault, pointers_of, table_of, entry_of}
+use Rattle.sfs_image.specs.LawsOfParts.{HavePlaces}
 use Rattle.sfs_image.specs.Part.{Part, inode_in, read_block, block_pointer, part_of, pointer_at, file_byte, tabulate, IsGathered}
 use Rattle.sfs_image.specs.Seen.{FILE_BLOCKS, PLACES}
 use Rattle.sfs_image.proofs.Basics.{map_same, tabulate_same, get_or-tabulate}
@@ -122,3 +123,20 @@ holes_have_none store raw direct indirect place =
 pub free_has_none : (store : ℕ → List ℕ) (raw : List ℕ) → length raw ≡ 512 → inode_fault raw ≡ None → slice_index raw 0 ≡ 0 →
     (place : ℕ) → pointer_at (part_of store raw) place ≡ 0
 free_has_none store raw len none kind = let free = IsFree-inode_of raw len none kind in holes_have_none store raw free.direct free.indirect
+
+pub have_places : (store : ℕ → List ℕ) (raw : List ℕ) → HavePlaces store raw
+unfolding part_of
+have_places store raw = record {
+  direct = λ n near. pointer_of_block (part_of store raw) n (omega arith) ∙ cond-true (ltb n 108) _ _ (lt-ltb n 108 near);
+  through = λ k entry below small.
+      let n = 108 + 1024 * k + entry in
+      let table : table_of n ≡ k = omega arith in
+      let place : entry_of n ≡ entry = omega arith in
+      pointer_of_block (part_of store raw) n (omega arith)
+      ∙ cond-false (ltb n 108) _ _ (le-ltb n 108 (omega arith))
+      ∙ ap (λ (t : ℕ). slice_index (pointers_of (slice_index_or (part_of store raw).tables t [])) (entry_of n)) table
+      ∙ ap (λ (e : ℕ). slice_index (pointers_of (slice_index_or (part_of store raw).tables k [])) e) place
+      ∙ ap (λ (block : List ℕ). slice_index (pointers_of block) entry)
+      (table_is_read store raw k below ∙ ap (read_block store) (pointer_of_table (part_of store raw) k));
+  indirect = pointer_of_table (part_of store raw);
+}

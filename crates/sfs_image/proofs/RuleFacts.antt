@@ -2,13 +2,14 @@
 use Rattle.std.proofs.Common.{◌≡◌, ◌≢◌, ℕ, ◌+◌, ◌-◌, ◌*◌, ◌/◌, ◌%◌, ◌<◌, ◌≤◌, Bool, true, false, not, eqb, ltb, ◌&&◌, List, [], drop, length, get_or, slice_index, None, is_some, is_none, option_map, replicate, All, refl, sym, ap, ◌∙◌, arith, inl, inr}
 use Rattle.std.specs.Prelude.{◌↔◌, slice_index_or}
 use Rattle.std.specs.List.{position}
-use Rattle.std.proofs.lemmas.Bool.{not-false, cases_Bool, eqb-true, eq-eqb, ne_eqb, eqb-false, ltb-false, le-ltb, and_left, and_right, and_from, and_parts, not-true, or_from, or_parts, not_from_true, not_from_false, both_ways}
+use Rattle.std.proofs.lemmas.Bool.{cond-true, cond-false, lt-ltb, not-false, cases_Bool, eqb-true, eq-eqb, ne_eqb, eqb-false, ltb-false, le-ltb, and_left, and_right, and_from, and_parts, not-true, or_from, or_parts, not_from_true, not_from_false, both_ways}
 use Rattle.std.proofs.lemmas.List.{get_or-take, get_or-drop, length-take, same_lists, length-replicate, get_or-replicate, get_or_default}
 use Rattle.std.proofs.lemmas.List.Folds.{list_any_at, list_any_none}
 use Rattle.sfs_image.specs.Bytes.{part, zeros, is_nonzero, nonzero_in}
-use Rattle.sfs_image.specs.LawsOfParts.{FitsSize}
+use Rattle.sfs_image.specs.Inode.{table_of, entry_of}
+use Rattle.sfs_image.specs.LawsOfParts.{AreTheLimits, FitsSize}
 use Rattle.sfs_image.specs.Part.{Part, inode_in, file_byte, directory_blocks, is_file_part, is_directory_part}
-use Rattle.sfs_image.specs.Rules.{DIRECTORY_BLOCKS, breaks_size, breaks_tail, breaks_slots}
+use Rattle.sfs_image.specs.Rules.{first_covered, DIRECTORY_BLOCKS, breaks_size, breaks_tail, breaks_slots}
 use Rattle.sfs_image.specs.Seen.{FILE_BLOCKS}
 use Rattle.sfs_image.specs.SlotBlock.{slots_fault}
 use Rattle.sfs_image.proofs.BytesLaws.{zeros_from_none, zeros-byte, zeros-is, no_nonzero-zeros, none_from_map}
@@ -116,3 +117,14 @@ slots_say part = (facts, rule)
 
     rule : (is_directory_part part ≡ true → All (λ block. slots_fault block ≡ None) (directory_blocks part)) → breaks_slots part ≡ false
     rule sound = asked (is_directory_part part) _ (λ directory. list_any_none wrong (directory_blocks part) (λ k d h. ap is_some (sound directory k d h)))
+
+pub blocks_cover : (n : ℕ) → n < FILE_BLOCKS → first_covered n ≡ 4096 * n
+blocks_cover n below = cond-true (ltb n FILE_BLOCKS) _ _ (lt-ltb n FILE_BLOCKS below)
+
+pub tables_cover : (k n : ℕ) → 108 ≤ n → table_of n ≡ k → entry_of n ≡ 0 → first_covered (FILE_BLOCKS + k) ≡ 4096 * n
+tables_cover k n far table entry =
+    cond-false (ltb (FILE_BLOCKS + k) FILE_BLOCKS) _ _ (le-ltb (FILE_BLOCKS + k) FILE_BLOCKS (omega arith))
+    ∙ (let first : 108 + 1024 * (FILE_BLOCKS + k - FILE_BLOCKS) ≡ n = omega arith in ap (λ (m : ℕ). 4096 * m) first)
+
+pub limits : AreTheLimits
+limits = record { file = refl; directory = refl }

@@ -9,6 +9,7 @@ ghost use Rattle.sfs_image.specs.Laws.{RangesHaveEntries, SlotsAreNumbered, Entr
 ghost use Rattle.sfs_image.specs.Laws.{MadePartsTurn, SettledIsTables, ImagesStandForParts, DataWritesKeep, TableWritesKeep};
 ghost use Rattle.sfs_image.specs.Laws.{OldestMayShut, TablesStayFull, BodyWritesKeep, OpenedGatesAdd, ShutGatesKeep};
 ghost use Rattle.sfs_image.specs.LawsOfParts.{BytesAreShown, SlotsAreShown, SizesSay, PointersSay, TailsSay};
+ghost use Rattle.sfs_image.specs.LawsOfParts.{PointersHavePlaces, BlocksCoverTheirOwn, TablesCoverFromTheirFirst, AreTheLimits};
 ghost use Rattle.sfs_image.specs.LawsOfParts.{BlocksSay, SlotsSay, HolesAreZeros, BytesAreTheBlocks};
 ghost use Rattle.sfs_image.specs.LawsOfParts.{PartsAreWhatTheyReach, FreeInodesBreakNone, BlocksHaveOnePlace};
 ghost use Rattle.sfs_image.specs.Slot.{IsSlot, slot_of, slot_fault, slot_bytes};
@@ -197,4 +198,16 @@ pub fn made_parts_turn()
 /// A table that has the newest records of the open slots has the records of all parts.
 pub fn newest_records_fill()
     ensures { NewestRecordsFill }
+{}
+
+/// What pointers cover, and the limits of files and directories.
+pub fn pointers_cover()
+    ensures blocks { BlocksCoverTheirOwn }
+    ensures tables { TablesCoverFromTheirFirst }
+    ensures limits { AreTheLimits }
+{}
+
+/// Pointers stand in the record and in the indirect blocks, each at its place.
+pub fn pointers_have_places()
+    ensures { PointersHavePlaces }
 {}
