@@ -1,11 +1,11 @@
 -- An image in which nothing is wrong stands for its own settled parts.
-use Rattle.std.proofs.Common.{◌≡◌, ℕ, zero, suc, ◌+◌, ◌<◌, ◌≤◌, Bool, true, false, eqb, ltb, List, [], ◌∷◌, map, All, Option, None, Some, refl, sym, ap, ◌∙◌, subst, arith, inl, inr}
+use Rattle.std.proofs.Common.{get_or, ◌≡◌, ℕ, zero, suc, ◌+◌, ◌<◌, ◌≤◌, Bool, true, false, eqb, ltb, List, [], ◌∷◌, map, All, Option, None, Some, refl, sym, ap, ◌∙◌, subst, arith, inl, inr}
 use Rattle.std.specs.Prelude.{unwrap_or}
 use Rattle.std.specs.List.{range_with_len, flat_map, list_any}
 use Rattle.std.proofs.lemmas.Bool.{cases_Bool, cases_eq, cases_order, cond-true, cond-false, eq-eqb, ltb-false, or_left, or_right, both_ways}
 use Rattle.std.proofs.lemmas.Option.{cond_some}
 use Rattle.std.proofs.lemmas.List.{map-append}
-use Rattle.std.proofs.lemmas.List.Elements.{All-nil, All-cons}
+use Rattle.std.proofs.lemmas.List.Elements.{All-map}
 use Rattle.std.proofs.lemmas.List.Folds.{list_any-append}
 use Rattle.sfs_image.specs.Bytes.{part, fault_at}
 use Rattle.sfs_image.specs.ImageOf.{InodePart, Transaction, transaction_in, table_parts, part_given, given, with_opened, IsSlotOf, HaveOwnStamps, IsImageOf, IsAccepted, PointsToData}
@@ -15,7 +15,8 @@ use Rattle.sfs_image.specs.Settled.{Body, Stamped, newest, body_in, open_body, o
 use Rattle.sfs_image.specs.Super.{Layout}
 use Rattle.sfs_image.proofs.BytesLaws.{option_or-None, false_from_fault, None-option_map, option_map-Some}
 use Rattle.sfs_image.proofs.GivenLaws.{given_by, given_has}
-use Rattle.sfs_image.proofs.ImageOfLaws.{held_given, unwrap_made}
+use Rattle.sfs_image.proofs.ImageOfLaws.{held_given}
+use Rattle.sfs_image.proofs.Basics.{unwrap_made}
 use Rattle.sfs_image.proofs.NewestLaws.{newest_from}
 use Rattle.sfs_image.proofs.PiecesLaws.{first_of-None}
 
@@ -39,11 +40,6 @@ entries_again store (entry ∷ entries) =
     let raw = raw_of store entry.bytes in
     let rest = entries_again store entries in
     λ i. record { inode = entry.inode; bytes = raw i } ∷ rest i
-
--- what a function gives each element has what it gives any
-all_made : {A B : Type 0} (P : B → Type 0) (f : A → B) (xs : List A) → ((x : A) → P (f x)) → All P (map f xs)
-all_made P f [] each = All-nil P
-all_made P f (x ∷ xs) each = All-cons P (f x) (map f xs) (each x) (all_made P f xs each)
 
 -- a test that a body at one of some numbers passes is passed among all of them
 found_among : (test : ℕ → Bool) (at : ℕ → List Body) (a n j : ℕ) → a ≤ j → j < a + n → list_any test (map (λ body. body.stamp) (at j)) ≡ true →
@@ -96,7 +92,8 @@ module _ (layout : Layout) (image : List ℕ) (is : IsAccepted layout image) whe
   -- a slot with a transaction is open, and the transaction is its body's
   opened_by : (k : ℕ) (one : Transaction) → transaction_in layout image k ≡ Some one →
       ((head_of (part 0 4096 (journal_slot layout image k))).gate ≡ true) × (gathered_body (image_block image) (body_in layout.inodes (journal_slot layout image k)) ≡ one)
-  opened_by k one there = cond_some (head_of (part 0 4096 (journal_slot layout image k))).gate (gathered_body (image_block image) (body_in layout.inodes (journal_slot layout image k))) one there
+  opened_by k one there =
+      cond_some (head_of (part 0 4096 (journal_slot layout image k))).gate (gathered_body (image_block image) (body_in layout.inodes (journal_slot layout image k))) one there
 
   -- no slot has the commit stamp of one before it
   none_twice : (j k : ℕ) (one other : Transaction) → k < slot_count layout → transaction_in layout image j ≡ Some one → transaction_in layout image k ≡ Some other →
@@ -129,12 +126,13 @@ module _ (layout : Layout) (image : List ℕ) (is : IsAccepted layout image) whe
       go : (o : Option Part) → given layout (transaction_in layout image) i ≡ o → IsGathered (image_block image) (unwrap_or o (table_parts layout image i))
       go None none = is_gathered (image_block image) (table_record layout image i)
       go (Some part) there =
-          let top = option_map-Some (λ (s : Stamped Part). s.value) (newest (map (λ k. part_given i (transaction_in layout image k)) (range_with_len 0 (slot_count layout)))) part there in
+          let top =
+          option_map-Some (λ (s : Stamped Part). s.value) (newest (map (λ k. part_given i (transaction_in layout image k)) (range_with_len 0 (slot_count layout)))) part there in
           let from = newest_from (λ k. part_given i (transaction_in layout image k)) 0 (slot_count layout) top.0 top.1 in
           let giver = given_by i (transaction_in layout image from.0) top.0 from.3 in
           let own = opened_by from.0 giver.0 giver.1 in
-          let all = all_made (λ (inner : InodePart). IsGathered (image_block image) inner.part) (gathered_entry (image_block image))
-          (body_in layout.inodes (journal_slot layout image from.0)).entries (λ entry. is_gathered (image_block image) entry.bytes) in
+          let all = All-map (λ (inner : InodePart). IsGathered (image_block image) inner.part) (gathered_entry (image_block image))
+          (body_in layout.inodes (journal_slot layout image from.0)).entries (λ k entry h. is_gathered (image_block image) (get_or (body_in layout.inodes (journal_slot layout image from.0)).entries k entry).bytes) in
           subst (IsGathered (image_block image)) (sym top.2)
           (given_has (IsGathered (image_block image)) i giver.0 top.0
           (subst (λ (t : Transaction). All (λ (inner : InodePart). IsGathered (image_block image) inner.part) t.parts) own.1 all)

@@ -1,9 +1,11 @@
--- Laws of tables of a function, of tests of the first numbers, and of lists that two functions make alike.
-use Rattle.std.proofs.Common.{◌≡◌, ℕ, zero, suc, ◌+◌, ◌<◌, ◌≤◌, Bool, true, false, List, [], ◌∷◌, ◌++◌, map, length, get_or, refl, sym, ap, ◌∙◌, arith, inl, inr, ◌⊎◌}
-use Rattle.std.proofs.lemmas.Bool.{or_parts, or_from, or_cases, or_left, or_right, cases_lt, false≢true}
+-- Laws of tables of a function, of tests of the first numbers, of options, and of what is found in lists.
+use Rattle.std.proofs.Common.{◌||◌, Option, None, Some, option_map, is_some, All, ◌&&◌, subst, ◌≡◌, ℕ, zero, suc, ◌+◌, ◌<◌, ◌≤◌, Bool, true, false, List, [], ◌∷◌, ◌++◌, map, length, get_or, refl, sym, ap, ◌∙◌, arith, inl, inr, ◌⊎◌}
+use Rattle.std.proofs.lemmas.Bool.{cases_Bool, cond-true, cond-false, both_ways, or_parts, or_from, or_cases, or_left, or_right, cases_lt, false≢true}
 use Rattle.std.proofs.lemmas.List.{same_lists}
+use Rattle.std.proofs.lemmas.List.Elements.{All-head, All-tail}
 use Rattle.std.proofs.lemmas.List.FromFn.{length-map-range_with_len, get_or-map-range_with_len}
-use Rattle.std.specs.List.{range_with_len, flat_map}
+use Rattle.std.specs.Prelude.{unwrap_or}
+use Rattle.std.specs.List.{find, range_with_len, flat_map}
 use Rattle.sfs_image.specs.Part.{tabulate}
 use Rattle.sfs_image.specs.Rules.{any_below}
 
@@ -71,3 +73,56 @@ any_below-some (suc n) test some = go (or_cases (any_below n test) (test n) some
     go : (any_below n test ≡ true) ⊎ (test n ≡ true) → (any_below n test ≡ true → (k : ℕ) × (k < n) × (test k ≡ true)) → (k : ℕ) × (k < suc n) × (test k ≡ true)
     go (inl below) found = let one = found below in (one.0, (let h = one.1 in omega arith), one.2)
     go (inr here) found = (n, omega arith, here)
+
+-- where both of two tests are not passed and the first is passed the second is not
+pub then_false : (x y : Bool) → (x && y) ≡ false → x ≡ true → y ≡ false
+then_false true y fails passes = fails
+then_false false y fails passes = absurd cc
+
+-- where one of two tests passes and the first fails the second passes
+pub else_true : (x y : Bool) → (x || y) ≡ true → x ≡ false → y ≡ true
+else_true x y passes fails = elim (or_cases x y passes) [ inl first ↦ absurd (both_ways x fails first) | inr second ↦ second ]
+
+-- an option that is none
+pub none_of : {A : Type 0} (o : Option A) → is_some o ≡ false → o ≡ None
+none_of None h = refl
+none_of (Some x) h = absurd cc
+
+-- two functions one behind the other
+pub option_map-option_map : {A B C : Type 0} (f : B → C) (g : A → B) (o : Option A) → option_map f (option_map g o) ≡ option_map (λ x. f (g x)) o
+option_map-option_map f g None = refl
+option_map-option_map f g (Some x) = refl
+
+-- a default in the place of nothing, behind a function
+pub unwrap_made : {A B : Type 0} (f : A → B) (o : Option A) (default : B) (one : A) → (o ≡ None → default ≡ f one) →
+    unwrap_or (option_map f o) default ≡ f (unwrap_or o one)
+unwrap_made f None default one is = is refl
+unwrap_made f (Some x) default one is = refl
+
+-- what is found among what a function makes is made of what is found
+pub find_made : {A B : Type 0} (f : A → B) (test : B → Bool) (xs : List A) → find test (map f xs) ≡ option_map f (find (λ x. test (f x)) xs)
+find_made f test [] = refl
+find_made f test (x ∷ xs) =
+    elim (cases_Bool (test (f x))) [
+      | inl passes ↦ cond-true (test (f x)) _ _ passes ∙ sym (ap (option_map f) (cond-true (test (f x)) (Some x) (find (λ x. test (f x)) xs) passes))
+      | inr fails ↦ cond-false (test (f x)) _ _ fails ∙ find_made f test xs ∙ sym (ap (option_map f) (cond-false (test (f x)) (Some x) (find (λ x. test (f x)) xs) fails))
+    ]
+
+-- what each element has is had by the one that is found
+pub found_has : {X : Type 0} (P : X → Type 0) (test : X → Bool) (xs : List X) (x : X) → All P xs → find test xs ≡ Some x → P x
+found_has P test [] x all is = absurd cc
+found_has P test (y ∷ xs) x all is =
+    elim (cases_Bool (test y)) [
+      | inl passes ↦ (let e : Some y ≡ Some x = sym (cond-true (test y) (Some y) (find test xs) passes) ∙ is in let same : y ≡ x = cc in subst P same (All-head P y xs all))
+      | inr fails ↦ found_has P test xs x (All-tail P y xs all) (sym (cond-false (test y) (Some y) (find test xs) fails) ∙ is)
+    ]
+
+-- what passes a test is found
+pub found_passes : {X : Type 0} (test : X → Bool) (xs : List X) (x : X) → find test xs ≡ Some x → test x ≡ true
+found_passes test [] x is = absurd cc
+found_passes test (y ∷ xs) x is =
+    elim (cases_Bool (test y)) [
+      | inl passes ↦ (let e : Some y ≡ Some x = sym (cond-true (test y) (Some y) (find test xs) passes) ∙ is in
+          let same : y ≡ x = cc in sym (ap test same) ∙ passes)
+      | inr fails ↦ found_passes test xs x (sym (cond-false (test y) (Some y) (find test xs) fails) ∙ is)
+    ]

@@ -4,14 +4,15 @@ use Rattle.std.specs.Prelude.{unwrap_or}
 use Rattle.std.proofs.lemmas.Bool.{cases_eq}
 use Rattle.sfs_image.specs.Bytes.{part}
 use Rattle.sfs_image.specs.ImageOf.{InodePart, Transaction, part_given, given, with_opened, with_slot, HasBody, IsSlotOf, HaveOwnStamps, IsImageOf, PointsToData}
-use Rattle.sfs_image.specs.ImageWrites.{MayShut, IsFullTable, HasRecordsOf, IsOldest, AgreesOutside, OpensGate, ShutsGate}
+use Rattle.sfs_image.specs.ImageWrites.{HasNewestRecords, MayShut, IsFullTable, HasRecordsOf, IsOldest, AgreesOutside, OpensGate, ShutsGate}
 use Rattle.sfs_image.specs.Laws.{IsShutAfter}
 use Rattle.sfs_image.specs.Part.{Part, IsGathered, pointer_at}
 use Rattle.sfs_image.specs.Settled.{table_byte, Stamped, image_block, slot_byte, slot_count, journal_slot, table_record}
 use Rattle.sfs_image.specs.Super.{Layout, slot_blocks}
 use Rattle.sfs_image.proofs.FrameLaws.{part_apart, part_changes, whole_kept}
-use Rattle.sfs_image.proofs.GivenLaws.{given_alone, given_by, given_from, found_has, stamp_given, with_slot-same, with_slot-other, given_has, given_aside, given_newer, given_behind}
+use Rattle.sfs_image.proofs.GivenLaws.{giver_of, given_alone, given_by, given_from, stamp_given, with_slot-same, with_slot-other, given_has, given_aside, given_newer, given_behind}
 use Rattle.sfs_image.proofs.KeptLaws.{sound_kept, divided_kept, gathered_kept, slots_apart, slot_before_table, slot_before_data}
+use Rattle.sfs_image.proofs.Basics.{found_has}
 use Rattle.sfs_image.proofs.LayoutLaws.{divided}
 
 -- the gate's byte, as one of its slot
@@ -185,7 +186,8 @@ record_given_is : (layout : Layout) (one : Transaction) (image : List ℕ) (i : 
 record_given_is layout one image i ours records gives =
     let found = given_from i one ours gives in
     let place : found.0.inode ≡ i = found.2 in
-    ap (table_record layout image) (sym place) ∙ found_has (λ (inner : InodePart). table_record layout image inner.inode ≡ inner.part.raw) _ one.parts found.0 records found.1
+    ap (table_record layout image) (sym place)
+    ∙ found_has (λ (inner : InodePart). table_record layout image inner.inode ≡ inner.part.raw) _ one.parts found.0 records found.1
     ∙ ap (λ (part : Part). part.raw) (sym found.3)
 
 pub gate_opens : (layout : Layout) (opened : ℕ → Option Transaction) (parts : ℕ → Part) (k : ℕ) (one : Transaction) (old new : List ℕ) →
@@ -217,4 +219,16 @@ oldest_may_shut layout opened parts k one image within open_with oldest has = re
 pub tables_stay_full : (layout : Layout) (opened : ℕ → Option Transaction) (parts : ℕ → Part) (k : ℕ) (old new : List ℕ) → IsImageOf layout opened parts old →
     ShutsGate layout opened k old new → IsFullTable layout opened parts old → IsFullTable layout (with_slot opened k None) (with_opened layout opened parts) new
 tables_stay_full layout opened parts k old new is shuts full i h =
-    record_stays layout k old new shuts.within shuts.written i ∙ full i h ∙ ap (λ (part : Part). part.raw) (sym (same_then layout opened parts k old new is shuts i))
+    record_stays layout k old new shuts.within shuts.written i
+    ∙ full i h
+    ∙ ap (λ (part : Part). part.raw) (sym (same_then layout opened parts k old new is shuts i))
+
+pub newest_records_fill : (layout : Layout) (opened : ℕ → Option Transaction) (parts : ℕ → Part) (image : List ℕ) → IsImageOf layout opened parts image →
+    HasNewestRecords layout opened image → IsFullTable layout opened parts image
+newest_records_fill layout opened parts image is has i h = go (given layout opened i) refl
+  where
+    go : (o : Option Part) → given layout opened i ≡ o → table_record layout image i ≡ (unwrap_or o (parts i)).raw
+    go None none = is.table i h none
+    go (Some part) there =
+        let found = giver_of layout opened i part is.stamps there in
+        has i found.0 found.1 h found.2 ∙ ap (λ (own : Part). own.raw) (sym found.3)

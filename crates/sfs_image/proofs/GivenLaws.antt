@@ -1,13 +1,13 @@
 -- What the open slots give an inode once a transaction has come to them, or has gone.
-use Rattle.std.proofs.Common.{◌≡◌, ◌≢◌, ℕ, ◌+◌, ◌<◌, ◌≤◌, Bool, true, eqb, List, [], ◌∷◌, map, All, Option, None, Some, option_map, refl, sym, ap, ◌∙◌, subst, arith, inl, inr}
+use Rattle.std.proofs.Common.{◌≡◌, ◌≢◌, ℕ, ◌+◌, ◌<◌, ◌≤◌, eqb, map, All, Option, None, Some, option_map, refl, sym, ap, ◌∙◌, subst, arith, inl, inr}
 use Rattle.std.specs.List.{range_with_len, find}
-use Rattle.std.proofs.lemmas.List.Elements.{All-head, All-tail}
-use Rattle.std.proofs.lemmas.Bool.{cases_Bool, cases_eq, cond-true, cond-false, eqb-true, eq-eqb, ne_eqb}
-use Rattle.sfs_image.specs.ImageOf.{InodePart, Transaction, part_given, given, with_slot, HaveOwnStamps}
+use Rattle.std.proofs.lemmas.Bool.{cases_eq, cond-true, cond-false, eqb-true, eq-eqb, ne_eqb}
+use Rattle.sfs_image.specs.ImageOf.{IsGiver, InodePart, Transaction, part_given, given, with_slot, HaveOwnStamps}
 use Rattle.sfs_image.specs.Part.{Part}
 use Rattle.sfs_image.specs.Settled.{Stamped, newest, slot_count}
 use Rattle.sfs_image.specs.Super.{Layout}
 use Rattle.sfs_image.proofs.BytesLaws.{option_map-Some, None-option_map}
+use Rattle.sfs_image.proofs.Basics.{found_has, found_passes}
 use Rattle.sfs_image.proofs.NewestLaws.{newest_same, newest_from, newest_none, newest_greatest, newest_max, IsGreatest}
 
 -- the slot that was changed, and each other
@@ -26,25 +26,6 @@ pub given_by : (i : ℕ) (one : Option Transaction) (ours : Stamped Part) → pa
     (giver : Transaction) × (one ≡ Some giver) × (ours.stamp ≡ giver.stamp)
 given_by i None ours is = absurd cc
 given_by i (Some one) ours is = (one, refl, stamp_given i one ours is)
-
--- what each element has is had by the one that is found
-pub found_has : {X : Type 0} (P : X → Type 0) (test : X → Bool) (xs : List X) (x : X) → All P xs → find test xs ≡ Some x → P x
-found_has P test [] x all is = absurd cc
-found_has P test (y ∷ xs) x all is =
-    elim (cases_Bool (test y)) [
-      | inl passes ↦ (let e : Some y ≡ Some x = sym (cond-true (test y) (Some y) (find test xs) passes) ∙ is in let same : y ≡ x = cc in subst P same (All-head P y xs all))
-      | inr fails ↦ found_has P test xs x (All-tail P y xs all) (sym (cond-false (test y) (Some y) (find test xs) fails) ∙ is)
-    ]
-
--- what passes a test is found
-found_passes : {X : Type 0} (test : X → Bool) (xs : List X) (x : X) → find test xs ≡ Some x → test x ≡ true
-found_passes test [] x is = absurd cc
-found_passes test (y ∷ xs) x is =
-    elim (cases_Bool (test y)) [
-      | inl passes ↦ (let e : Some y ≡ Some x = sym (cond-true (test y) (Some y) (find test xs) passes) ∙ is in
-          let same : y ≡ x = cc in sym (ap test same) ∙ passes)
-      | inr fails ↦ found_passes test xs x (sym (cond-false (test y) (Some y) (find test xs) fails) ∙ is)
-    ]
 
 -- what a transaction gives an inode is the part of an entry of it
 pub given_from : (i : ℕ) (one : Transaction) (ours : Stamped Part) → part_given i (Some one) ≡ Some ours →
@@ -66,7 +47,8 @@ module _ (layout : Layout) (opened : ℕ → Option Transaction) (k : ℕ) (with
   pub given_same : (other : ℕ → Option Transaction) (i : ℕ) → ((j : ℕ) → j < slot_count layout → part_given i (other j) ≡ part_given i (opened j)) →
       given layout other i ≡ given layout opened i
   given_same other i same =
-      ap (option_map (λ newest. newest.value)) (newest_same (λ j. part_given i (other j)) (λ j. part_given i (opened j)) 0 (slot_count layout) (λ j low high. same j (omega arith)))
+      ap (option_map (λ newest. newest.value))
+      (newest_same (λ j. part_given i (other j)) (λ j. part_given i (opened j)) 0 (slot_count layout) (λ j low high. same j (omega arith)))
 
   -- an inode to which neither the new nor the old transaction of a slot gives a part
   pub given_aside : (one : Option Transaction) (i : ℕ) → part_given i one ≡ part_given i (opened k) →
@@ -95,7 +77,8 @@ module _ (layout : Layout) (opened : ℕ → Option Transaction) (k : ℕ) (with
   remains : (i j : ℕ) (top : Stamped Part) → part_given i (with_slot opened k None j) ≡ Some top → (j ≢ k) × (part_given i (opened j) ≡ Some top)
   remains i j top there =
       elim (cases_eq j k) [
-        | inl here ↦ absurd (let gone : part_given i (with_slot opened k None j) ≡ None = ap (λ (m : ℕ). part_given i (with_slot opened k None m)) here ∙ ap (part_given i) (with_slot-same opened k None) in cc)
+        | inl here ↦ absurd (let gone : part_given i (with_slot opened k None j) ≡ None =
+            ap (λ (m : ℕ). part_given i (with_slot opened k None m)) here ∙ ap (part_given i) (with_slot-same opened k None) in cc)
         | inr other ↦ (other, sym (ap (part_given i) (with_slot-other opened k None j other)) ∙ there)
       ]
 
@@ -110,7 +93,8 @@ module _ (layout : Layout) (opened : ℕ → Option Transaction) (k : ℕ) (with
     here = here;
     others = λ m u low high apart there. elim (cases_eq m k) [
       | inl gone ↦ older u (ap (λ (x : ℕ). part_given i (opened x)) (sym gone) ∙ there)
-      | inr stays ↦ (let bound = newest_max (λ x. part_given i (with_slot opened k None x)) 0 (slot_count layout) top most m u low high (ap (part_given i) (with_slot-other opened k None m stays) ∙ there) in
+      | inr stays ↦ (let bound = newest_max (λ x. part_given i (with_slot opened k None x)) 0 (slot_count layout) top most m u low high
+          (ap (part_given i) (with_slot-other opened k None m stays) ∙ there) in
           let giver = given_by i (opened m) u there in
           let first = given_by i (opened j) top here in
           let one = giver.2 in let two = first.2 in
@@ -148,6 +132,31 @@ module _ (layout : Layout) (opened : ℕ → Option Transaction) (k : ℕ) (with
     where
       none_other : (j : ℕ) (other : Stamped Part) → 0 ≤ j → j < 0 + slot_count layout → j ≢ k → part_given i (opened j) ≡ Some other → ⊥
       none_other j other low high apart there =
-          let gone = newest_none (λ m. part_given i (with_slot opened k None m)) 0 (slot_count layout) (None-option_map (λ newest. newest.value) _ none) j low high in
+          let gone =
+          newest_none (λ m. part_given i (with_slot opened k None m)) 0 (slot_count layout) (None-option_map (λ newest. newest.value) _ none) j low high in
           let stays : part_given i (with_slot opened k None j) ≡ Some other = ap (part_given i) (with_slot-other opened k None j apart) ∙ there in
           cc
+
+-- each part that the open slots give is given by one of them
+pub giver_of : (layout : Layout) (opened : ℕ → Option Transaction) (i : ℕ) (part : Part) → HaveOwnStamps layout opened → given layout opened i ≡ Some part →
+    (k : ℕ) × (ours : Stamped Part) × IsGiver layout opened i k ours × (part ≡ ours.value)
+giver_of layout opened i part stamps there =
+    let at : ℕ → Option (Stamped Part) = λ k. part_given i (opened k) in
+    let top = option_map-Some (λ (s : Stamped Part). s.value) (newest (map at (range_with_len 0 (slot_count layout)))) part there in
+    let from = newest_from at 0 (slot_count layout) top.0 top.1 in
+    let below : from.0 < slot_count layout = (let h = from.2 in omega arith) in (
+      from.0,
+      top.0,
+      (record {
+        within = below;
+        gives = from.3;
+        newest = λ j other h apart gives.
+            let bound = newest_max at 0 (slot_count layout) top.0 top.1 j other (omega arith) (omega arith) gives in
+            let one = given_by i (opened j) other gives in
+            let two = given_by i (opened from.0) top.0 from.3 in
+            let first = one.2 in let second = two.2 in
+            let differs : other.stamp ≢ top.0.stamp = λ same. apart (stamps j from.0 one.0 two.0 h below one.1 two.1 (omega arith)) in
+            omega arith;
+      }),
+      top.2,
+    )

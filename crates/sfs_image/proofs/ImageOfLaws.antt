@@ -1,10 +1,10 @@
 -- An image that stands for parts: its settled parts are those with what the open slots give, and nothing is wrong in its
 -- superblock and journals.
-use Rattle.std.proofs.Common.{cond, true, ◌≡◌, ◌≢◌, ℕ, zero, suc, ◌+◌, ◌^◌, ◌<◌, ◌≤◌, Bool, false, eqb, ltb, List, [], ◌∷◌, map, Option, None, Some, option_map, refl, sym, ap, ◌∙◌, subst, arith, inl, inr}
+use Rattle.std.proofs.Common.{cond, true, ◌≡◌, ◌≢◌, ℕ, zero, suc, ◌+◌, ◌^◌, ◌<◌, ◌≤◌, Bool, false, eqb, ltb, List, [], ◌∷◌, map, Option, None, Some, option_map, refl, sym, ap, ◌∙◌, subst, arith}
 use Rattle.std.specs.Prelude.{unwrap_or}
 use Rattle.std.specs.Option.{option_or}
 use Rattle.std.specs.List.{range_with_len, flat_map, find, list_any}
-use Rattle.std.proofs.lemmas.Bool.{cases_Bool, cond-true, cond-false, le-ltb, ne_eqb, or_from}
+use Rattle.std.proofs.lemmas.Bool.{cond-true, cond-false, le-ltb, ne_eqb, or_from}
 use Rattle.std.proofs.lemmas.List.{map-append}
 use Rattle.std.proofs.lemmas.List.Folds.{list_any-append}
 use Rattle.sfs_image.specs.Bytes.{part, fault_at}
@@ -15,6 +15,7 @@ use Rattle.sfs_image.specs.Part.{Part, part_of, IsGathered}
 use Rattle.sfs_image.specs.Settled.{Body, Stamped, newest, body_in, open_body, open_below, open_bodies, record_in, held, table_record, settled, parts_of, journal_slot, slot_count, image_block, slot_fault_of, journal_fault_of}
 use Rattle.sfs_image.specs.Super.{Layout}
 use Rattle.sfs_image.proofs.EntriesLaws.{read_again}
+use Rattle.sfs_image.proofs.Basics.{find_made, option_map-option_map, unwrap_made}
 use Rattle.sfs_image.proofs.NewestLaws.{over, IsOnce, newest_of_pieces, newest_over}
 use Rattle.sfs_image.proofs.NewestLaws.IsOnce.{nothing, once}
 use Rattle.sfs_image.proofs.PiecesLaws.{first_of-from}
@@ -22,20 +23,6 @@ use Rattle.sfs_image.proofs.PiecesLaws.{first_of-from}
 -- the entry of an inode's part
 abbrev entry_of_part : InodePart → Entry
 entry_of_part own = record { inode = own.inode; bytes = own.part.raw }
-
--- what is found among what a function makes is made of what is found
-find_made : {A B : Type 0} (f : A → B) (test : B → Bool) (xs : List A) → find test (map f xs) ≡ option_map f (find (λ x. test (f x)) xs)
-find_made f test [] = refl
-find_made f test (x ∷ xs) =
-    elim (cases_Bool (test (f x))) [
-      | inl passes ↦ cond-true (test (f x)) _ _ passes ∙ sym (ap (option_map f) (cond-true (test (f x)) (Some x) (find (λ x. test (f x)) xs) passes))
-      | inr fails ↦ cond-false (test (f x)) _ _ fails ∙ find_made f test xs ∙ sym (ap (option_map f) (cond-false (test (f x)) (Some x) (find (λ x. test (f x)) xs) fails))
-    ]
-
--- two functions one behind the other
-option_map-option_map : {A B C : Type 0} (f : B → C) (g : A → B) (o : Option A) → option_map f (option_map g o) ≡ option_map (λ x. f (g x)) o
-option_map-option_map f g None = refl
-option_map-option_map f g (Some x) = refl
 
 -- a transaction's body has the record of the part that the transaction gives
 record_given : (i : ℕ) (one : Transaction) → record_in i (transaction_body one) ≡ option_map (over (λ part. part.raw)) (part_given i (Some one))
@@ -101,12 +88,6 @@ sound_slot inodes stamps (Some one) slot is fresh =
     ∙ ap (λ (wrong : Bool). option_or (option_or (fault_at wrong 512) (fault_at (list_any (λ stamp. eqb stamp head.stamp) stamps) 520)) (numbers_fault inodes (numbers_of inodes slot))) few
     ∙ ap (λ (wrong : Bool). option_or (fault_at wrong 520) (numbers_fault inodes (numbers_of inodes slot))) own
     ∙ is.whole.numbers
-
--- a default in the place of nothing, behind a function
-pub unwrap_made : {A B : Type 0} (f : A → B) (o : Option A) (default : B) (one : A) → (o ≡ None → default ≡ f one) →
-    unwrap_or (option_map f o) default ≡ f (unwrap_or o one)
-unwrap_made f None default one is = is refl
-unwrap_made f (Some x) default one is = refl
 
 module _ (layout : Layout) (opened : ℕ → Option Transaction) (parts : ℕ → Part) (image : List ℕ) (is : IsImageOf layout opened parts image) where
   -- the settled record of an inode is its part's

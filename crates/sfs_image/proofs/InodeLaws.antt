@@ -29,8 +29,10 @@ inode_of-inode_bytes inode is =
     let first : part 16 432 (inode_bytes inode) ≡ u32s_bytes inode.direct = take_at (u32s_bytes inode.direct) (u32s_bytes inode.indirect) 432 long in
     let behind : drop 448 (inode_bytes inode) ≡ u32s_bytes inode.indirect = drop_at (u32s_bytes inode.direct) (u32s_bytes inode.indirect) 432 long in
     let second : part 448 64 (inode_bytes inode) ≡ u32s_bytes inode.indirect = ap (take 64) behind ∙ take_all 64 (u32s_bytes inode.indirect) (omega arith) in
-    let direct : u32s_at 16 108 (inode_bytes inode) ≡ inode.direct = u32s_at-u32s_bytes 16 inode.direct (inode_bytes inode) 108 is.direct_count first is.direct in
-    let indirect : u32s_at 448 16 (inode_bytes inode) ≡ inode.indirect = u32s_at-u32s_bytes 448 inode.indirect (inode_bytes inode) 16 is.indirect_count second is.indirect in
+    let direct : u32s_at 16 108 (inode_bytes inode) ≡ inode.direct =
+    u32s_at-u32s_bytes 16 inode.direct (inode_bytes inode) 108 is.direct_count first is.direct in
+    let indirect : u32s_at 448 16 (inode_bytes inode) ≡ inode.indirect =
+    u32s_at-u32s_bytes 448 inode.indirect (inode_bytes inode) 16 is.indirect_count second is.indirect in
     same_inode inode links size direct indirect
   where
     same_inode : (i : Inode) {a b : ℕ} {c d : List ℕ} → a ≡ i.links → b ≡ i.size → c ≡ i.direct → d ≡ i.indirect →
@@ -108,7 +110,8 @@ inode_bytes-inode_of raw len small none =
     let links = front_u32 4 raw head (omega arith) small four in
     let size = front_u64 8 raw (head ++ u32_bytes (u32_at 4 raw)) (omega arith) small links in
     let direct = front_u32s 16 108 raw (head ++ u32_bytes (u32_at 4 raw) ++ u64_bytes (u64_at 8 raw)) (omega arith) small size in
-    let indirect = front_u32s 448 16 raw (head ++ u32_bytes (u32_at 4 raw) ++ u64_bytes (u64_at 8 raw) ++ u32s_bytes (u32s_at 16 108 raw)) (omega arith) small direct in
+    let indirect =
+    front_u32s 448 16 raw (head ++ u32_bytes (u32_at 4 raw) ++ u64_bytes (u64_at 8 raw) ++ u32s_bytes (u32s_at 16 108 raw)) (omega arith) small direct in
     indirect ∙ take_all 512 raw (omega arith)
 
 -- numbers read from bytes are u32s

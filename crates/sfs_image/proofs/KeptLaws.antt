@@ -36,7 +36,9 @@ module _ (at n : ℕ) (old new : List ℕ) (same : AgreesOutside at n old new) (
   -- a part stays that points to blocks apart
   pub gathered_kept : (part : Part) → IsGathered (image_block old) part →
       ((place : ℕ) → pointer_at part place ≢ 0 → LiesApart (4096 * pointer_at part place) 4096 at n) → IsGathered (image_block new) part
-  gathered_kept part is apart = gathered_same (image_block old) (image_block new) part is (λ place there. part_apart at n old new same (4096 * pointer_at part place) 4096 (apart place there))
+  gathered_kept part is apart =
+      gathered_same (image_block old) (image_block new) part is
+      (λ place there. part_apart at n old new same (4096 * pointer_at part place) 4096 (apart place there))
 
 pub aside_kept : (layout : Layout) (opened : ℕ → Option Transaction) (parts : ℕ → Part) (at n : ℕ) (old new : List ℕ) →
     IsAside layout opened parts at n old new →

@@ -8,8 +8,10 @@ pub mod GivenLaws
 pub mod ImageOfLaws
 pub mod InodeLaws
 pub mod JournalLaws
+pub mod JustMadeLaws
 pub mod KeptLaws
 pub mod LayoutLaws
+pub mod MadeLaws
 pub mod NewestLaws
 pub mod PartLaws
 pub mod PiecesLaws

@@ -15,8 +15,10 @@ newer_over f None other = refl
 newer_over f (Some one) None = refl
 newer_over f (Some one) (Some other) =
     elim (cases_Bool (ltb one.stamp other.stamp)) [
-      | inl later ↦ cond-true (ltb one.stamp other.stamp) _ _ later ∙ sym (ap (option_map (over f)) (cond-true (ltb one.stamp other.stamp) (Some other) (Some one) later))
-      | inr earlier ↦ cond-false (ltb one.stamp other.stamp) _ _ earlier ∙ sym (ap (option_map (over f)) (cond-false (ltb one.stamp other.stamp) (Some other) (Some one) earlier))
+      | inl later ↦ cond-true (ltb one.stamp other.stamp) _ _ later
+          ∙ sym (ap (option_map (over f)) (cond-true (ltb one.stamp other.stamp) (Some other) (Some one) later))
+      | inr earlier ↦ cond-false (ltb one.stamp other.stamp) _ _ earlier
+          ∙ sym (ap (option_map (over f)) (cond-false (ltb one.stamp other.stamp) (Some other) (Some one) earlier))
     ]
 
 -- the newest of values that a function makes is made of the newest
@@ -125,7 +127,9 @@ newest_greatest {A = A} at a (suc n) k s is =
     elim (cases_eq k a) [
       | inl first ↦ ap (λ (o : Option (Stamped A)). newer o (newest (map at (range_with_len (a + 1) n)))) (ap at (sym first) ∙ is.here)
           ∙ newer_first s (newest (map at (range_with_len (a + 1) n)))
-          (λ other rest. let one = newest_from at (a + 1) n other rest in let l = one.1 in let h = one.2 in is.others one.0 other (omega arith) (omega arith) (omega arith) one.3)
+          (λ other rest.
+          let one = newest_from at (a + 1) n other rest in let l = one.1 in let h = one.2 in
+          is.others one.0 other (omega arith) (omega arith) (omega arith) one.3)
       | inr later ↦ ap (newer (at a)) (newest_greatest at (a + 1) n k s (behind later))
           ∙ newer_last s (at a) (λ other here. is.others a other (omega arith) (omega arith) (λ same. later (sym same)) here)
     ]
@@ -138,23 +142,26 @@ newest_greatest {A = A} at a (suc n) k s is =
       others = λ j other low high apart there. is.others j other (omega arith) (omega arith) apart there;
     }
 
--- what is newest has no lesser stamp than any of these
+-- the same thing has the same stamp
+stamp_same : {A : Type 0} (u s : Stamped A) → Some u ≡ Some s → u.stamp ≡ s.stamp
+stamp_same {A = A} u s is = let same : u ≡ s = cc in ap (λ (v : Stamped A). v.stamp) same
+
+-- what is newer of two has no lesser stamp than each
 newer_max : {A : Type 0} (one other : Option (Stamped A)) (s : Stamped A) → newer one other ≡ Some s →
     ((u : Stamped A) → one ≡ Some u → u.stamp ≤ s.stamp) × ((u : Stamped A) → other ≡ Some u → u.stamp ≤ s.stamp)
-newer_max {A = A} None other s is = ((λ u none. absurd cc), (λ u there. let e : Some u ≡ Some s = sym there ∙ is in let same : u ≡ s = cc in let h = ap (λ (v : Stamped A). v.stamp) same in omega arith))
-newer_max {A = A} (Some one) None s is = ((λ u there. let e : Some u ≡ Some s = sym there ∙ is in let same : u ≡ s = cc in let h = ap (λ (v : Stamped A). v.stamp) same in omega arith), (λ u none. absurd cc))
-newer_max {A = A} (Some one) (Some other) s is =
+newer_max None other s is = ((λ u none. absurd cc), (λ u there. let e = stamp_same u s (sym there ∙ is) in omega arith))
+newer_max (Some one) None s is = ((λ u there. let e = stamp_same u s (sym there ∙ is) in omega arith), (λ u none. absurd cc))
+newer_max (Some one) (Some other) s is =
     elim (cases_Bool (ltb one.stamp other.stamp)) [
-      | inl later ↦ (let same : other ≡ s = (let e : Some other ≡ Some s = sym (cond-true (ltb one.stamp other.stamp) (Some other) (Some one) later) ∙ is in cc) in
-          let top = ap (λ (v : Stamped A). v.stamp) same in
+      | inl later ↦ (let top = stamp_same other s (sym (cond-true (ltb one.stamp other.stamp) (Some other) (Some one) later) ∙ is) in
           let order = ltb-true one.stamp other.stamp later in
-          ((λ u there. let e : one ≡ u = cc in let h = ap (λ (v : Stamped A). v.stamp) e in omega arith), (λ u there. let e : other ≡ u = cc in let h = ap (λ (v : Stamped A). v.stamp) e in omega arith)))
-      | inr earlier ↦ (let same : one ≡ s = (let e : Some one ≡ Some s = sym (cond-false (ltb one.stamp other.stamp) (Some other) (Some one) earlier) ∙ is in cc) in
-          let top = ap (λ (v : Stamped A). v.stamp) same in
+          ((λ u there. let e = stamp_same one u there in omega arith), (λ u there. let e = stamp_same other u there in omega arith)))
+      | inr earlier ↦ (let top = stamp_same one s (sym (cond-false (ltb one.stamp other.stamp) (Some other) (Some one) earlier) ∙ is) in
           let order = ltb-false one.stamp other.stamp earlier in
-          ((λ u there. let e : one ≡ u = cc in let h = ap (λ (v : Stamped A). v.stamp) e in omega arith), (λ u there. let e : other ≡ u = cc in let h = ap (λ (v : Stamped A). v.stamp) e in omega arith)))
+          ((λ u there. let e = stamp_same one u there in omega arith), (λ u there. let e = stamp_same other u there in omega arith)))
     ]
 
+-- what is newest has no lesser stamp than any of these
 pub newest_max : {A : Type 0} (at : ℕ → Option (Stamped A)) (a n : ℕ) (s : Stamped A) → newest (map at (range_with_len a n)) ≡ Some s →
     (k : ℕ) (u : Stamped A) → a ≤ k → k < a + n → at k ≡ Some u → u.stamp ≤ s.stamp
 newest_max at a zero s is k u low high here = absurd (omega arith)
@@ -162,7 +169,9 @@ newest_max {A = A} at a (suc n) s is k u low high here =
     let both = newer_max (at a) (newest (map at (range_with_len (a + 1) n))) s is in
     elim (cases_eq k a) [
       | inl first ↦ both.0 u (ap at (sym first) ∙ here)
-      | inr later ↦ go both.1 (newest (map at (range_with_len (a + 1) n))) refl (λ w is_w. newest_max at (a + 1) n w is_w k u (omega arith) (omega arith) here) (λ none. newest_none at (a + 1) n none k (omega arith) (omega arith))
+      | inr later ↦ go both.1 (newest (map at (range_with_len (a + 1) n))) refl
+          (λ w is_w. newest_max at (a + 1) n w is_w k u (omega arith) (omega arith) here)
+          (λ none. newest_none at (a + 1) n none k (omega arith) (omega arith))
     ]
   where
     go : ((w : Stamped A) → newest (map at (range_with_len (a + 1) n)) ≡ Some w → w.stamp ≤ s.stamp) → (o : Option (Stamped A)) →

@@ -1,18 +1,19 @@
 -- What the rules on sizes, on last blocks and on slots say.
-use Rattle.std.proofs.Common.{◌≡◌, ◌≢◌, ℕ, ◌+◌, ◌-◌, ◌*◌, ◌/◌, ◌%◌, ◌<◌, ◌≤◌, Bool, true, false, not, eqb, ltb, ◌&&◌, List, [], drop, length, get_or, slice_index, Option, None, Some, is_some, is_none, option_map, replicate, All, refl, sym, ap, ◌∙◌, arith, inl, inr}
+use Rattle.std.proofs.Common.{◌≡◌, ◌≢◌, ℕ, ◌+◌, ◌-◌, ◌*◌, ◌/◌, ◌%◌, ◌<◌, ◌≤◌, Bool, true, false, not, eqb, ltb, ◌&&◌, List, [], drop, length, get_or, slice_index, None, is_some, is_none, option_map, replicate, All, refl, sym, ap, ◌∙◌, arith, inl, inr}
 use Rattle.std.specs.Prelude.{◌↔◌, slice_index_or}
 use Rattle.std.specs.List.{position}
-use Rattle.std.proofs.lemmas.Bool.{cases_Bool, eqb-true, eq-eqb, ne_eqb, eqb-false, ltb-false, le-ltb, and_left, and_right, and_from, and_parts, not-true, or_from, or_parts, not_from_true, not_from_false, both_ways}
+use Rattle.std.proofs.lemmas.Bool.{cond-true, cond-false, lt-ltb, not-false, cases_Bool, eqb-true, eq-eqb, ne_eqb, eqb-false, ltb-false, le-ltb, and_left, and_right, and_from, and_parts, not-true, or_from, or_parts, not_from_true, not_from_false, both_ways}
 use Rattle.std.proofs.lemmas.List.{get_or-take, get_or-drop, length-take, same_lists, length-replicate, get_or-replicate, get_or_default}
 use Rattle.std.proofs.lemmas.List.Folds.{list_any_at, list_any_none}
 use Rattle.sfs_image.specs.Bytes.{part, zeros, is_nonzero, nonzero_in}
-use Rattle.sfs_image.specs.LawsOfParts.{FitsSize}
+use Rattle.sfs_image.specs.Inode.{table_of, entry_of}
+use Rattle.sfs_image.specs.LawsOfParts.{AreTheLimits, FitsSize}
 use Rattle.sfs_image.specs.Part.{Part, inode_in, file_byte, directory_blocks, is_file_part, is_directory_part}
-use Rattle.sfs_image.specs.Rules.{DIRECTORY_BLOCKS, breaks_size, breaks_tail, breaks_slots}
+use Rattle.sfs_image.specs.Rules.{first_covered, DIRECTORY_BLOCKS, breaks_size, breaks_tail, breaks_slots}
 use Rattle.sfs_image.specs.Seen.{FILE_BLOCKS}
 use Rattle.sfs_image.specs.SlotBlock.{slots_fault}
 use Rattle.sfs_image.proofs.BytesLaws.{zeros_from_none, zeros-byte, zeros-is, no_nonzero-zeros, none_from_map}
-use Rattle.sfs_image.proofs.RuleLaws.{second_fails, passes_then}
+use Rattle.sfs_image.proofs.Basics.{then_false, none_of}
 
 -- a test of a kind fails where what it asks fails
 asked : (kind wrong : Bool) → (kind ≡ true → wrong ≡ false) → (kind && wrong) ≡ false
@@ -26,10 +27,10 @@ sizes_say part = (facts, rule)
     facts keeps =
         let both = or_parts (is_file_part part && ltb (4096 * FILE_BLOCKS) (inode_in part).size) _ keeps in
         let tests = λ (directory : is_directory_part part ≡ true).
-        or_parts (not (eqb ((inode_in part).size % 4096) 0)) (ltb (4096 * DIRECTORY_BLOCKS) (inode_in part).size) (second_fails (is_directory_part part) _ both.1 directory) in
+        or_parts (not (eqb ((inode_in part).size % 4096) 0)) (ltb (4096 * DIRECTORY_BLOCKS) (inode_in part).size) (then_false (is_directory_part part) _ both.1 directory) in
         record {
-          file = λ file. ltb-false (4096 * FILE_BLOCKS) (inode_in part).size (second_fails (is_file_part part) _ both.0 file);
-          whole = λ directory. eqb-true ((inode_in part).size % 4096) 0 (passes_then (eqb ((inode_in part).size % 4096) 0) (tests directory).0);
+          file = λ file. ltb-false (4096 * FILE_BLOCKS) (inode_in part).size (then_false (is_file_part part) _ both.0 file);
+          whole = λ directory. eqb-true ((inode_in part).size % 4096) 0 (not-false (eqb ((inode_in part).size % 4096) 0) (tests directory).0);
           few = λ directory. ltb-false (4096 * DIRECTORY_BLOCKS) (inode_in part).size (tests directory).1;
         }
 
@@ -41,11 +42,6 @@ sizes_say part = (facts, rule)
         (λ directory. or_from (not (eqb ((inode_in part).size % 4096) 0)) (ltb (4096 * DIRECTORY_BLOCKS) (inode_in part).size)
         (not_from_true _ (eq-eqb ((inode_in part).size % 4096) 0 (fits.whole directory)))
         (le-ltb (4096 * DIRECTORY_BLOCKS) (inode_in part).size (fits.few directory))))
-
--- an option that is none
-none_then : {A : Type 0} (o : Option A) → is_some o ≡ false → o ≡ None
-none_then None h = refl
-none_then (Some x) h = absurd cc
 
 -- no byte of a range is other than 0 exactly where each is 0
 zeros_in_range : (at n : ℕ) (bytes : List ℕ) → nonzero_in at n bytes ≡ None → (k : ℕ) → k < n → slice_index bytes (at + k) ≡ 0
@@ -81,7 +77,7 @@ tails_say part = (facts, rule)
     facts keeps file place low high =
         let open_end : size % 4096 ≢ 0 = λ full. let e : (size + 4095) / 4096 ≡ size / 4096 = omega arith in omega arith in
         let asks = and_from (is_file_part part) _ file (not_from_false (eqb (size % 4096) 0) (ne_eqb (size % 4096) 0 open_end)) in
-        let none = none_then (nonzero_in (size % 4096) (4096 - size % 4096) last) (second_fails _ _ keeps asks) in
+        let none = none_of (nonzero_in (size % 4096) (4096 - size % 4096) last) (then_false _ _ keeps asks) in
         let same_block : place / 4096 ≡ size / 4096 = omega arith in
         let within : size % 4096 + (place % 4096 - size % 4096) ≡ place % 4096 = omega arith in
         ap (λ (n : ℕ). slice_index (slice_index_or part.blocks n []) (place % 4096)) same_block
@@ -112,8 +108,8 @@ slots_say part = (facts, rule)
 
     facts : breaks_slots part ≡ false → is_directory_part part ≡ true → All (λ block. slots_fault block ≡ None) (directory_blocks part)
     facts keeps directory k d h =
-        let each = second_fails (is_directory_part part) _ keeps directory in
-        none_then (slots_fault (get_or (directory_blocks part) k d))
+        let each = then_false (is_directory_part part) _ keeps directory in
+        none_of (slots_fault (get_or (directory_blocks part) k d))
         (elim (cases_Bool (wrong (get_or (directory_blocks part) k d))) [
           | inl fault ↦ absurd (both_ways _ each (list_any_at wrong (directory_blocks part) k d h fault))
           | inr sound ↦ sound
@@ -121,3 +117,14 @@ slots_say part = (facts, rule)
 
     rule : (is_directory_part part ≡ true → All (λ block. slots_fault block ≡ None) (directory_blocks part)) → breaks_slots part ≡ false
     rule sound = asked (is_directory_part part) _ (λ directory. list_any_none wrong (directory_blocks part) (λ k d h. ap is_some (sound directory k d h)))
+
+pub blocks_cover : (n : ℕ) → n < FILE_BLOCKS → first_covered n ≡ 4096 * n
+blocks_cover n below = cond-true (ltb n FILE_BLOCKS) _ _ (lt-ltb n FILE_BLOCKS below)
+
+pub tables_cover : (k n : ℕ) → 108 ≤ n → table_of n ≡ k → entry_of n ≡ 0 → first_covered (FILE_BLOCKS + k) ≡ 4096 * n
+tables_cover k n far table entry =
+    cond-false (ltb (FILE_BLOCKS + k) FILE_BLOCKS) _ _ (le-ltb (FILE_BLOCKS + k) FILE_BLOCKS (omega arith))
+    ∙ (let first : 108 + 1024 * (FILE_BLOCKS + k - FILE_BLOCKS) ≡ n = omega arith in ap (λ (m : ℕ). 4096 * m) first)
+
+pub limits : AreTheLimits
+limits = record { file = refl; directory = refl }

@@ -1,11 +1,15 @@
 -- Which parts an image stands for, whatever journal slots are open in it.
-use Rattle.std.specs.Prelude.{◌≡◌, ◌≢◌, ℕ, ◌<◌, ◌≤◌, ◌==◌, true, false, All, List, map, Option, None, Some, option_map, unwrap_or, if◌then◌else◌}
+use Rattle.std.specs.Prelude.{◌≡◌, ◌≢◌, ℕ, ◌<◌, ◌≤◌, ◌==◌, true, false, All, List, map, Option, None, Some, option_map, unwrap_or, if◌then◌else◌, length, replicate, ◌/◌, Contains}
 use Rattle.std.specs.List.{range_with_len, find}
-use Rattle.sfs_image.specs.Bytes.{part}
+use Rattle.sfs_image.specs.Bytes.{part, zeros}
+use Rattle.sfs_image.specs.Inode.{Inode, inode_bytes}
+use Rattle.sfs_image.specs.Slot.{kind_byte}
+use Rattle.sfs_base.specs.declared.numbers.Kind.TheVariants.{Directory}
 use Rattle.sfs_image.specs.Journal.{head_of, numbers_of, numbers_fault}
-use Rattle.sfs_image.specs.Part.{Part, part_of, IsGathered, pointer_at}
+use Rattle.sfs_image.specs.Part.{Part, part_of, IsGathered, pointer_at, content_at}
+use Rattle.sfs_image.specs.Seen.{FILE_BLOCKS, PLACES}
 use Rattle.sfs_image.specs.Settled.{Body, Stamped, newest, body_in, image_block, journal_slot, layout_of, slot_count, super_fault_of, table_record, journal_fault_of, parts_of}
-use Rattle.sfs_image.specs.Super.{Layout, data_start}
+use Rattle.sfs_image.specs.Super.{Layout, data_start, IsLayout, super_bytes}
 
 -- an inode and its part
 pub record InodePart : Type 0 where
@@ -30,6 +34,12 @@ part_given i (Some one) = option_map (λ own. record { stamp = one.stamp; value 
 -- with a transaction or is closed
 abbrev pub given : Layout → (ℕ → Option Transaction) → ℕ → Option Part
 given layout opened i = option_map (λ newest. newest.value) (newest (map (λ k. part_given i (opened k)) (range_with_len 0 (slot_count layout))))
+
+-- open slot k gives inode i its part: its commit stamp is greater than that of each other open slot that gives it one
+pub record IsGiver (layout : Layout) (opened : ℕ → Option Transaction) (i k : ℕ) (ours : Stamped Part) : Type 0 where
+  pub within : k < slot_count layout
+  pub gives : part_given i (opened k) ≡ Some ours
+  pub newest : (j : ℕ) (other : Stamped Part) → j < slot_count layout → j ≢ k → part_given i (opened j) ≡ Some other → other.stamp < ours.stamp
 
 -- the part of inode i with what the open slots give
 abbrev pub with_opened : Layout → (ℕ → Option Transaction) → (ℕ → Part) → ℕ → Part
@@ -107,6 +117,18 @@ pub record IsAccepted (layout : Layout) (image : List ℕ) : Type 0 where
   pub journals : journal_fault_of layout image ≡ None
   pub pointers : (i : ℕ) → i < layout.inodes → PointsToData layout (parts_of layout image i)
 
+-- the inode of an empty directory
+abbrev pub empty_directory : Inode
+empty_directory = record { kind = kind_byte Directory; links = 2; size = 0; direct = replicate 108 0; indirect = replicate 16 0 }
+
+-- An image that is just made: the superblock of a layout, closed slots, the root as an empty directory and free inodes.
+pub record IsJustMade (layout : Layout) (image : List ℕ) : Type 0 where
+  pub fits : IsLayout (length image / 4096) layout
+  pub super : image_block image 0 ≡ super_bytes layout
+  pub shut : (k : ℕ) → k < slot_count layout → IsShut (journal_slot layout image k)
+  pub root : table_record layout image 0 ≡ inode_bytes empty_directory
+  pub free : (i : ℕ) → i < layout.inodes → i ≢ 0 → table_record layout image i ≡ zeros 512
+
 -- the slots of a disk with another transaction, or none, in one of them
 abbrev pub with_slot : (ℕ → Option Transaction) → ℕ → Option Transaction → ℕ → Option Transaction
 with_slot opened k one j = if j == k then one else opened j
@@ -123,3 +145,15 @@ StandIn store fresh = All (λ one. store one.block ≡ one.bytes) fresh
 -- In each store that has the old part and the fresh blocks the new part's record gathers the new part.
 abbrev pub TurnsInto : List FreshBlock → Part → Part → Type 0
 TurnsInto fresh old new = (store : ℕ → List ℕ) → StandIn store fresh → IsGathered store old → IsGathered store new
+
+-- Where the block of a pointer comes from that a new part has: there is none, it is fresh, or it stood at a place of the old part.
+pub data ComesFrom (fresh : List FreshBlock) (old : Part) : ℕ → List ℕ → Type 0 where
+  hole : ComesFrom fresh old 0 (zeros 4096)
+  written : (one : FreshBlock) → Contains fresh one → one.block ≢ 0 → ComesFrom fresh old one.block one.bytes
+  kept : (place : ℕ) → place < PLACES → pointer_at old place ≢ 0 → ComesFrom fresh old (pointer_at old place) (content_at old place)
+
+-- A new part is made of fresh blocks and of an old part: it has all its places, and what stands at each comes from them.
+pub record IsMadeOf (fresh : List FreshBlock) (old new : Part) : Type 0 where
+  pub tables : length new.tables ≡ 16
+  pub blocks : length new.blocks ≡ FILE_BLOCKS
+  pub comes : (place : ℕ) → place < PLACES → ComesFrom fresh old (pointer_at new place) (content_at new place)

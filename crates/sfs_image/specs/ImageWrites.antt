@@ -1,7 +1,7 @@
 -- Writes to an image, whole or torn: which bytes they may change, and what stands where they are made.
 use Rattle.std.specs.Prelude.{◌≡◌, ◌≢◌, ◌⊎◌, ℕ, ◌+◌, ◌*◌, ◌<◌, ◌≤◌, true, false, All, List, length, take, drop, Option, None, Some}
 use Rattle.sfs_image.specs.Bytes.{part}
-use Rattle.sfs_image.specs.ImageOf.{InodePart, Transaction, part_given, given, with_opened, with_slot, HasBody, PointsToData}
+use Rattle.sfs_image.specs.ImageOf.{IsGiver, InodePart, Transaction, part_given, given, with_opened, with_slot, HasBody, PointsToData}
 use Rattle.sfs_image.specs.Journal.{head_of}
 use Rattle.sfs_image.specs.Part.{Part, IsGathered, pointer_at}
 use Rattle.sfs_image.specs.Settled.{Stamped, image_block, journal_slot, slot_byte, slot_count, table_byte, table_record}
@@ -37,6 +37,11 @@ pub record MayShut (layout : Layout) (opened : ℕ → Option Transaction) (k : 
 -- the table has the record of each inode's part, with what the open slots give
 abbrev pub IsFullTable : Layout → (ℕ → Option Transaction) → (ℕ → Part) → List ℕ → Type 0
 IsFullTable layout opened parts image = (i : ℕ) → i < layout.inodes → table_record layout image i ≡ (with_opened layout opened parts i).raw
+
+-- the table has, of each inode that an open slot gives its part, the record of that part
+abbrev pub HasNewestRecords : Layout → (ℕ → Option Transaction) → List ℕ → Type 0
+HasNewestRecords layout opened image =
+    (i k : ℕ) (ours : Stamped Part) → i < layout.inodes → IsGiver layout opened i k ours → table_record layout image i ≡ ours.value.raw
 
 -- the table has the records of a transaction's parts
 abbrev pub HasRecordsOf : Layout → Transaction → List ℕ → Type 0

@@ -1,9 +1,9 @@
 -- A journal slot: its head in the first block, then blocks of inode numbers, then blocks of records.
 use Rattle.std.specs.Prelude.{◌≡◌, All, Some, slice_get, ℕ, ◌+◌, ◌*◌, ◌-◌, ◌<◌, ◌==◌, ◌^◌, ◌&&◌, ◌||◌, nat_lt, not, min, Bool, List, ◌++◌, length, map, slice_index, Option, None, if◌then◌else◌}
 use Rattle.std.specs.Option.{option_or}
-use Rattle.std.specs.List.{range_with_len, list_any}
+use Rattle.std.specs.List.{range_with_len, list_any, flat_map}
 use Rattle.std.specs.List.Sorted.{IsStrictlyIncreasing}
-use Rattle.sfs_image.specs.Bytes.{part, zeros, u32_at, u64_at, u32s_at, u32_bytes, u64_bytes, fault_at, first_of}
+use Rattle.sfs_image.specs.Bytes.{part, zeros, u32_at, u64_at, u32s_at, u32_bytes, u32s_bytes, u64_bytes, fault_at, first_of}
 use Rattle.sfs_image.specs.Super.{number_blocks}
 
 -- what the first block of a slot says: whether the gate is open, how many inodes the slot has, and its commit stamp
@@ -83,3 +83,10 @@ pub record HasEntries (inodes : ℕ) (entries : List Entry) (slot : List ℕ) : 
   pub count : (head_of (part 0 4096 slot)).count ≡ length entries
   pub numbers : (k : ℕ) (entry : Entry) → slice_get entries k ≡ Some entry → part (number_byte k) 4 slot ≡ u32_bytes entry.inode
   pub records : (k : ℕ) (entry : Entry) → slice_get entries k ≡ Some entry → part (record_byte inodes k) 512 slot ≡ entry.bytes
+
+-- in a slot these entries stand in two ranges, their numbers one behind another and then their records of 512 bytes
+pub record HasRangesOf (inodes : ℕ) (entries : List Entry) (slot : List ℕ) : Type 0 where
+  pub count : (head_of (part 0 4096 slot)).count ≡ length entries
+  pub long : All (λ (entry : Entry). length entry.bytes ≡ 512) entries
+  pub numbers : part (number_byte 0) (4 * length entries) slot ≡ u32s_bytes (map (λ (entry : Entry). entry.inode) entries)
+  pub records : part (record_byte inodes 0) (512 * length entries) slot ≡ flat_map (λ (entry : Entry). entry.bytes) entries

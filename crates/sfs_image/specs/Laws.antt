@@ -1,10 +1,11 @@
 -- The laws of images, each of which a function of the module laws proves.
-use Rattle.std.specs.Prelude.{◌≡◌, ◌≢◌, ◌⊎◌, ℕ, ◌+◌, ◌*◌, ◌/◌, ◌%◌, ◌<◌, ◌≤◌, ◌^◌, List, Option, None, Some, if◌then◌else◌}
+use Rattle.std.specs.Prelude.{◌≡◌, ◌≢◌, ◌⊎◌, ℕ, ◌+◌, ◌*◌, ◌/◌, ◌%◌, ◌<◌, ◌≤◌, ◌^◌, List, Option, None, Some, if◌then◌else◌, true, false}
 use Rattle.sfs_image.specs.Bytes.{part}
-use Rattle.sfs_image.specs.ImageOf.{MayBeSlotOf, opened_among, IsSlotOf, IsAccepted, transaction_in, table_parts, Transaction, with_opened, with_slot, IsImageOf, FreshBlock, StandIn, TurnsInto}
-use Rattle.sfs_image.specs.ImageWrites.{IsFullTable, HasRecordsOf, IsOldest, MayShut, LeavesGate, WritesData, WritesRecord, WritesBody, OpensGate, ShutsGate}
-use Rattle.sfs_image.specs.Journal.{Entry, head_of, entries_of, numbers_of, numbers_fault, number_byte, record_byte, records_start, AreEntries, HasEntries}
-use Rattle.sfs_image.specs.Part.{Part, IsGathered}
+use Rattle.sfs_image.specs.ImageOf.{MayBeSlotOf, opened_among, IsSlotOf, IsAccepted, transaction_in, table_parts, Transaction, with_opened, with_slot, IsImageOf, FreshBlock, StandIn, TurnsInto, empty_directory, IsJustMade, IsMadeOf}
+use Rattle.sfs_image.specs.ImageWrites.{HasNewestRecords, IsFullTable, HasRecordsOf, IsOldest, MayShut, LeavesGate, WritesData, WritesRecord, WritesBody, OpensGate, ShutsGate}
+use Rattle.sfs_image.specs.Rules.{breaks_bytes_rule}
+use Rattle.sfs_image.specs.Journal.{Entry, head_of, entries_of, numbers_of, numbers_fault, number_byte, record_byte, records_start, AreEntries, HasEntries, HasRangesOf}
+use Rattle.sfs_image.specs.Part.{Part, IsGathered, inode_in, is_free_part}
 use Rattle.sfs_image.specs.Settled.{SlotFault, slot_fault_of, image_block, Stamped, body_in, record_in, journal_slot, slot_byte, slot_count, table_byte, table_record, settled, parts_of, super_fault_of, journal_fault_of}
 use Rattle.sfs_image.specs.Super.{Layout, slot_blocks, slot_start, table_start, data_start}
 
@@ -42,6 +43,10 @@ pub record AreReadAgain (inodes : ℕ) (entries : List Entry) (slot : List ℕ) 
 abbrev pub EntriesAreReadAgain : Type 0
 EntriesAreReadAgain = (inodes : ℕ) (entries : List Entry) (slot : List ℕ) → inodes ≤ 2 ^ 32 → AreEntries inodes entries → HasEntries inodes entries slot
     → AreReadAgain inodes entries slot
+
+-- Entries whose numbers and records stand in two ranges of a slot have each its own at its place.
+abbrev pub RangesHaveEntries : Type 0
+RangesHaveEntries = (inodes : ℕ) (entries : List Entry) (slot : List ℕ) → HasRangesOf inodes entries slot → HasEntries inodes entries slot
 
 -- the record of inode i in the slot of a number, if the slot is open and has one, under the slot's commit stamp
 abbrev pub record_at : Layout → List ℕ → ℕ → ℕ → Option (Stamped (List ℕ))
@@ -91,6 +96,19 @@ GatesSayWhichAreOpen = (layout : Layout) (may : ℕ → Option Transaction) (ima
 abbrev pub AcceptedImagesStand : Type 0
 AcceptedImagesStand = (layout : Layout) (image : List ℕ) → IsAccepted layout image → IsImageOf layout (transaction_in layout image) (table_parts layout image) image
 
+-- what an image that is just made shows: it is accepted, its settled records are the table's, inode 0 is an empty directory and the
+-- others are free, and none breaks a rule on bytes and pointers
+pub record ShowsRootAlone (layout : Layout) (image : List ℕ) : Type 0 where
+  pub accepted : IsAccepted layout image
+  pub settles : (i : ℕ) → settled layout image i ≡ table_record layout image i
+  pub root : inode_in (parts_of layout image 0) ≡ empty_directory
+  pub free : (i : ℕ) → i < layout.inodes → i ≢ 0 → is_free_part (parts_of layout image i) ≡ true
+  pub rules : (rule i : ℕ) → i < layout.inodes → breaks_bytes_rule rule layout (parts_of layout image) i ≡ false
+
+-- An image that is just made shows the root alone.
+abbrev pub JustMadeShowsRoot : Type 0
+JustMadeShowsRoot = (layout : Layout) (image : List ℕ) → IsJustMade layout image → ShowsRootAlone layout image
+
 -- A write to the data area, whole or torn, apart from the blocks of all parts keeps what an image stands for.
 abbrev pub DataWritesKeep : Type 0
 DataWritesKeep = (layout : Layout) (opened : ℕ → Option Transaction) (parts : ℕ → Part) (old new : List ℕ) → IsImageOf layout opened parts old
@@ -110,6 +128,10 @@ BodyWritesKeep = (layout : Layout) (opened : ℕ → Option Transaction) (parts 
 abbrev pub LeftGatesKeep : Type 0
 LeftGatesKeep = (layout : Layout) (opened : ℕ → Option Transaction) (parts : ℕ → Part) (k : ℕ) (old new : List ℕ) → IsImageOf layout opened parts old
     → LeavesGate layout k old new → IsImageOf layout opened parts new
+
+-- Fresh blocks turn an old part into a new one that is made of them and of the old part.
+abbrev pub MadePartsTurn : Type 0
+MadePartsTurn = (fresh : List FreshBlock) (old new : Part) → IsMadeOf fresh old new → TurnsInto fresh old new
 
 -- Where fresh blocks stand in an image that turn the part of an inode into a new one, the image has all that the new part reaches.
 abbrev pub FreshBlocksMakeParts : Type 0
@@ -138,6 +160,11 @@ ShutGatesKeep = (layout : Layout) (opened : ℕ → Option Transaction) (parts :
 abbrev pub OldestMayShut : Type 0
 OldestMayShut = (layout : Layout) (opened : ℕ → Option Transaction) (parts : ℕ → Part) (k : ℕ) (one : Transaction) (image : List ℕ) → k < slot_count layout
     → opened k ≡ Some one → IsOldest layout opened k one → (IsFullTable layout opened parts image) ⊎ (HasRecordsOf layout one image) → MayShut layout opened k image
+
+-- A table that has the newest records of the open slots has the records of all parts.
+abbrev pub NewestRecordsFill : Type 0
+NewestRecordsFill = (layout : Layout) (opened : ℕ → Option Transaction) (parts : ℕ → Part) (image : List ℕ) → IsImageOf layout opened parts image
+    → HasNewestRecords layout opened image → IsFullTable layout opened parts image
 
 -- A table that has the records of all parts has them once a gate has shut.
 abbrev pub TablesStayFull : Type 0

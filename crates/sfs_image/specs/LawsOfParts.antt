@@ -1,7 +1,8 @@
 -- The laws of the parts of inodes and of the rules on them, each of which a function of the module laws proves.
 use Rattle.std.specs.Prelude.{◌≡◌, ◌≢◌, ◌↔◌, All, length, slice_index_or, [], ℕ, ◌+◌, ◌*◌, ◌/◌, ◌%◌, ◌<◌, ◌≤◌, false, true, List, Option, None, slice_index}
-use Rattle.sfs_image.specs.Part.{Part, inode_in, part_of, seen_of, pointer_at, file_byte, directory_blocks, is_free_part, is_file_part, is_directory_part}
-use Rattle.sfs_image.specs.Rules.{DIRECTORY_BLOCKS, HasBlockAt, first_covered, breaks_size, breaks_pointers, breaks_tail, breaks_slots, breaks_bytes_rule}
+use Rattle.sfs_image.specs.Inode.{table_of, entry_of, inode_of, pointers_of}
+use Rattle.sfs_image.specs.Part.{Part, inode_in, part_of, seen_of, pointer_at, file_byte, directory_blocks, is_free_part, is_file_part, is_directory_part, read_block}
+use Rattle.sfs_image.specs.Rules.{DIRECTORY_BLOCKS, HasBlockAt, first_covered, breaks_size, breaks_pointers, breaks_apart, breaks_tail, breaks_slots, breaks_bytes_rule}
 use Rattle.sfs_image.specs.Seen.{FILE_BLOCKS, PLACES}
 use Rattle.sfs_image.specs.Slot.{Row}
 use Rattle.sfs_image.specs.SlotBlock.{slot_in, slots_fault}
@@ -35,6 +36,18 @@ pub record AreTheSlots (part : Part) (slots : List (Option Row)) : Type 0 where
 abbrev pub SlotsAreShown : Type 0
 SlotsAreShown = (part : Part) → is_directory_part part ≡ true → AreTheSlots part (seen_of part).slots
 
+-- where the pointers of a part stand: of the first 108 blocks in the record, of 1,024 further ones each in an indirect block, and
+-- those of the indirect blocks in the record again
+pub record HavePlaces (store : ℕ → List ℕ) (raw : List ℕ) : Type 0 where
+  pub direct : (n : ℕ) → n < 108 → pointer_at (part_of store raw) n ≡ slice_index (inode_of raw).direct n
+  pub through : (k entry : ℕ) → k < 16 → entry < 1024
+      → pointer_at (part_of store raw) (108 + 1024 * k + entry) ≡ slice_index (pointers_of (read_block store (slice_index (inode_of raw).indirect k))) entry
+  pub indirect : (k : ℕ) → pointer_at (part_of store raw) (FILE_BLOCKS + k) ≡ slice_index (inode_of raw).indirect k
+
+-- Pointers stand at these places in each part.
+abbrev pub PointersHavePlaces : Type 0
+PointersHavePlaces = (store : ℕ → List ℕ) (raw : List ℕ) → HavePlaces store raw
+
 -- A part is the same in each store that has the same blocks where the part has pointers.
 abbrev pub PartsAreWhatTheyReach : Type 0
 PartsAreWhatTheyReach = (store other : ℕ → List ℕ) (raw : List ℕ)
@@ -67,10 +80,33 @@ pub record PointsWell (layout : Layout) (part : Part) (place : ℕ) : Type 0 whe
   pub high : pointer_at part place < layout.blocks
   pub covers : first_covered place < (inode_in part).size
 
+-- A pointer of a file's block covers the block's bytes.
+abbrev pub BlocksCoverTheirOwn : Type 0
+BlocksCoverTheirOwn = (n : ℕ) → n < FILE_BLOCKS → first_covered n ≡ 4096 * n
+
+-- A pointer of an indirect block covers bytes from those of the block on whose pointer is the first in it.
+abbrev pub TablesCoverFromTheirFirst : Type 0
+TablesCoverFromTheirFirst = (k n : ℕ) → 108 ≤ n → table_of n ≡ k → entry_of n ≡ 0 → first_covered (FILE_BLOCKS + k) ≡ 4096 * n
+
+-- How many bytes the largest file has, and how many blocks of 15 rows a directory with 8 buckets of 4,096 rows.
+pub record AreTheLimits : Type 0 where
+  pub file : 4096 * FILE_BLOCKS ≡ 67551232
+  pub directory : DIRECTORY_BLOCKS ≡ (8 * 4096 + 14) / 15
+
 -- An inode in use keeps the fourth rule exactly where each of its pointers does so.
 abbrev pub PointersSay : Type 0
 PointersSay = (layout : Layout) (part : Part) → is_free_part part ≡ false
     → (breaks_pointers layout part ≡ false) ↔ ((place : ℕ) → place < PLACES → pointer_at part place ≢ 0 → PointsWell layout part place)
+
+-- the block at a place of inode i stands at no place before it: of an inode below i, or of its own
+pub record StandsNowhereBefore (parts : ℕ → Part) (i place : ℕ) : Type 0 where
+  pub below : (j q : ℕ) → j < i → q < PLACES → pointer_at (parts j) q ≢ pointer_at (parts i) place
+  pub before : (q : ℕ) → q < place → pointer_at (parts i) q ≢ pointer_at (parts i) place
+
+-- An inode in use keeps the fifth rule exactly where each of its blocks stands at no place before.
+abbrev pub BlocksSay : Type 0
+BlocksSay = (parts : ℕ → Part) (i : ℕ) → is_free_part (parts i) ≡ false
+    → (breaks_apart parts i ≡ false) ↔ ((place : ℕ) → place < PLACES → pointer_at (parts i) place ≢ 0 → StandsNowhereBefore parts i place)
 
 -- A file keeps the sixth rule exactly where each byte past its size in its last block is 0.
 abbrev pub TailsSay : Type 0

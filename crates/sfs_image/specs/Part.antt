@@ -43,6 +43,11 @@ abbrev pub pointer_at : Part → ℕ → ℕ
 pointer_at part place =
     if nat_lt place FILE_BLOCKS then block_pointer (inode_in part) part.tables place else slice_index (inode_in part).indirect (place - FILE_BLOCKS)
 
+-- the block that stands at a place of a part, or the indirect block
+abbrev pub content_at : Part → ℕ → List ℕ
+content_at part place =
+    if nat_lt place FILE_BLOCKS then slice_index_or part.blocks place [] else slice_index_or part.tables (place - FILE_BLOCKS) []
+
 -- a part is a free inode's, a file's, a directory's
 abbrev pub is_free_part : Part → Bool
 is_free_part part = (inode_in part).kind == 0

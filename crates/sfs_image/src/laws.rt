@@ -3,13 +3,14 @@ ghost use Rattle.std.specs.Prelude.{◌≡◌, ℕ, None, false};
 ghost use Rattle.sfs_image.specs.Format.{IsFormat};
 ghost use Rattle.sfs_image.specs.Inode.{IsInode, inode_of, inode_fault, inode_bytes, ArePointers, pointers_of, pointers_bytes};
 ghost use Rattle.sfs_image.specs.Journal.{Head, IsHead, head_of, head_bytes};
-ghost use Rattle.sfs_image.specs.Laws.{AcceptedImagesStand, LeftGatesKeep, GatesSayWhichAreOpen};
+ghost use Rattle.sfs_image.specs.Laws.{NewestRecordsFill, JustMadeShowsRoot, AcceptedImagesStand, LeftGatesKeep, GatesSayWhichAreOpen};
 ghost use Rattle.sfs_image.specs.Laws.{JournalFaultsAreFirst, FreshBlocksMakeParts, LayoutsDivide};
-ghost use Rattle.sfs_image.specs.Laws.{SlotsAreNumbered, EntriesAreReadAgain, SettledIsNewest};
-ghost use Rattle.sfs_image.specs.Laws.{SettledIsTables, ImagesStandForParts, DataWritesKeep, TableWritesKeep};
+ghost use Rattle.sfs_image.specs.Laws.{RangesHaveEntries, SlotsAreNumbered, EntriesAreReadAgain, SettledIsNewest};
+ghost use Rattle.sfs_image.specs.Laws.{MadePartsTurn, SettledIsTables, ImagesStandForParts, DataWritesKeep, TableWritesKeep};
 ghost use Rattle.sfs_image.specs.Laws.{OldestMayShut, TablesStayFull, BodyWritesKeep, OpenedGatesAdd, ShutGatesKeep};
 ghost use Rattle.sfs_image.specs.LawsOfParts.{BytesAreShown, SlotsAreShown, SizesSay, PointersSay, TailsSay};
-ghost use Rattle.sfs_image.specs.LawsOfParts.{SlotsSay, HolesAreZeros, BytesAreTheBlocks};
+ghost use Rattle.sfs_image.specs.LawsOfParts.{PointersHavePlaces, BlocksCoverTheirOwn, TablesCoverFromTheirFirst, AreTheLimits};
+ghost use Rattle.sfs_image.specs.LawsOfParts.{BlocksSay, SlotsSay, HolesAreZeros, BytesAreTheBlocks};
 ghost use Rattle.sfs_image.specs.LawsOfParts.{PartsAreWhatTheyReach, FreeInodesBreakNone, BlocksHaveOnePlace};
 ghost use Rattle.sfs_image.specs.Slot.{IsSlot, slot_of, slot_fault, slot_bytes};
 ghost use Rattle.sfs_image.specs.SlotBlock.{AreSlots, slots_of, slots_fault, slots_bytes};
@@ -145,10 +146,11 @@ pub fn directories_show_their_slots()
     ensures { SlotsAreShown }
 {}
 
-/// What the rules on sizes, pointers, last blocks and slots say: an inode keeps one exactly where a fact of it holds.
+/// What the rules on sizes, pointers, blocks, last blocks and slots say: an inode keeps one exactly where a fact of it holds.
 pub fn rules_say()
     ensures sizes { SizesSay }
     ensures pointers { PointersSay }
+    ensures blocks { BlocksSay }
     ensures tails { TailsSay }
     ensures slots { SlotsSay }
 {}
@@ -176,4 +178,36 @@ pub fn oldest_may_shut()
 /// A table that has the records of all parts has them once a gate has shut.
 pub fn tables_stay_full()
     ensures { TablesStayFull }
+{}
+
+/// An image that is just made shows the root alone.
+pub fn just_made_shows_root()
+    ensures { JustMadeShowsRoot }
+{}
+
+/// Entries whose numbers and records stand in two ranges of a slot have each its own at its place.
+pub fn ranges_have_entries()
+    ensures { RangesHaveEntries }
+{}
+
+/// Fresh blocks turn an old part into a new one that is made of them and of the old part.
+pub fn made_parts_turn()
+    ensures { MadePartsTurn }
+{}
+
+/// A table that has the newest records of the open slots has the records of all parts.
+pub fn newest_records_fill()
+    ensures { NewestRecordsFill }
+{}
+
+/// What pointers cover, and the limits of files and directories.
+pub fn pointers_cover()
+    ensures blocks { BlocksCoverTheirOwn }
+    ensures tables { TablesCoverFromTheirFirst }
+    ensures limits { AreTheLimits }
+{}
+
+/// Pointers stand in the record and in the indirect blocks, each at its place.
+pub fn pointers_have_places()
+    ensures { PointersHavePlaces }
 {}

@@ -1,6 +1,6 @@
 use Rattle.sfs_image.proofs.RuleFacts.{sizes_say, tails_say, slots_say}
-use Rattle.sfs_image.proofs.RuleLaws.{pointers_say}
+use Rattle.sfs_image.proofs.RuleLaws.{pointers_say, blocks_say}
 use Rattle.sfs_image.proofs.laws.rules_say.Goals as goal
 
 pub returns : goal.returns
-returns c = record { sizes = sizes_say; pointers = pointers_say; tails = tails_say; slots = slots_say }
+returns c = record { sizes = sizes_say; pointers = pointers_say; blocks = blocks_say; tails = tails_say; slots = slots_say }
