@@ -1,5 +1,5 @@
 -- Laws of tables of a function, of tests of the first numbers, of options, and of what is found in lists.
-use Rattle.std.proofs.Common.{◌||◌, Option, None, Some, option_map, is_some, All, ◌&&◌, subst, ◌≡◌, ℕ, zero, suc, ◌+◌, ◌<◌, ◌≤◌, Bool, true, false, List, [], ◌∷◌, ◌++◌, map, length, get_or, refl, sym, ap, ◌∙◌, arith, inl, inr, ◌⊎◌}
+use Rattle.std.proofs.Common.{◌||◌, Option, None, Some, option_map, All, subst, ◌≡◌, ℕ, zero, suc, ◌+◌, ◌<◌, ◌≤◌, Bool, true, false, List, [], ◌∷◌, ◌++◌, map, length, get_or, refl, sym, ap, ◌∙◌, arith, inl, inr, ◌⊎◌}
 use Rattle.std.proofs.lemmas.Bool.{cases_Bool, cond-true, cond-false, both_ways, or_parts, or_from, or_cases, or_left, or_right, cases_lt, false≢true}
 use Rattle.std.proofs.lemmas.List.{same_lists}
 use Rattle.std.proofs.lemmas.List.Elements.{All-head, All-tail}
@@ -74,19 +74,9 @@ any_below-some (suc n) test some = go (or_cases (any_below n test) (test n) some
     go (inl below) found = let one = found below in (one.0, (let h = one.1 in omega arith), one.2)
     go (inr here) found = (n, omega arith, here)
 
--- where both of two tests are not passed and the first is passed the second is not
-pub then_false : (x y : Bool) → (x && y) ≡ false → x ≡ true → y ≡ false
-then_false true y fails passes = fails
-then_false false y fails passes = absurd cc
-
 -- where one of two tests passes and the first fails the second passes
 pub else_true : (x y : Bool) → (x || y) ≡ true → x ≡ false → y ≡ true
 else_true x y passes fails = elim (or_cases x y passes) [ inl first ↦ absurd (both_ways x fails first) | inr second ↦ second ]
-
--- an option that is none
-pub none_of : {A : Type 0} (o : Option A) → is_some o ≡ false → o ≡ None
-none_of None h = refl
-none_of (Some x) h = absurd cc
 
 -- two functions one behind the other
 pub option_map-option_map : {A B C : Type 0} (f : B → C) (g : A → B) (o : Option A) → option_map f (option_map g o) ≡ option_map (λ x. f (g x)) o

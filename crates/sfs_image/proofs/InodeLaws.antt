@@ -8,6 +8,7 @@ use Rattle.sfs_image.specs.Bytes.{AreBytes, part, zeros, number_from, u32_at, u6
 use Rattle.sfs_image.specs.Inode.{Inode, IsFree, IsInode, AreU32s, inode_of, inode_fault, inode_bytes, ArePointers, pointers_of, pointers_bytes}
 use Rattle.sfs_image.proofs.BytesLaws.{option_or-None, false_from_fault, number_from-u32_bytes, number_from-u64_bytes, nonzero_in-zeros, part_from_none, part_in_zeros, u32_at-lt, u64_at-lt, number_from-lt, number_from-zeros, number_from-8_zeros, zeros-append, zeros-is, front_u32, front_u64, AreBytes-drop, AreBytes-part, drop_zeros, length-zeros}
 use Rattle.sfs_image.proofs.PiecesLaws.{u32s_at-u32s_bytes, u32s_bytes-u32s_at, length-u32s_at, get_or-u32s_at, length-pieces}
+use Rattle.sfs_base.proofs.BasicLists.{zeros_read}
 
 -- the bytes of n numbers
 pub length-u32s_bytes : (xs : List ℕ) → length (u32s_bytes xs) ≡ 4 * length xs
@@ -122,10 +123,6 @@ AreU32s-u32s_at at n bytes small k =
       | inr past ↦ rw (get_or_past (u32s_at at n bytes) k 0 (omega (arith, length-u32s_at at n bytes))) (omega arith)
     ]
 
--- each of n holes is one, and what lies past them too
-pub get_or-holes : (n k : ℕ) → slice_index (replicate n 0) k ≡ 0
-get_or-holes n k = elim (cases_lt k n) [ inl h ↦ get_or-replicate n k 0 0 h | inr past ↦ get_or_past (replicate n 0) k 0 (omega (arith, length-replicate {A = ℕ} n 0)) ]
-
 -- numbers read from zeros are holes
 holes_at : (at n : ℕ) (bytes : List ℕ) → part at (4 * n) bytes ≡ zeros (4 * n) → u32s_at at n bytes ≡ replicate n 0
 holes_at at n bytes are =
@@ -166,7 +163,7 @@ IsInode-inode_of raw len small none = record {
 -- an indirect block of zeros has holes
 pub pointers_of-zeros : (k : ℕ) → slice_index (pointers_of (zeros 4096)) k ≡ 0
 pointers_of-zeros k =
-    ap (λ (xs : List ℕ). slice_index xs k) (holes_at 0 1024 (zeros 4096) (take_all 4096 (zeros 4096) (omega (arith, length-zeros 4096)))) ∙ get_or-holes 1024 k
+    ap (λ (xs : List ℕ). slice_index xs k) (holes_at 0 1024 (zeros 4096) (take_all 4096 (zeros 4096) (omega (arith, length-zeros 4096)))) ∙ zeros_read 1024 k
 
 -- the pointers of an indirect block, likewise
 pub length-pointers_bytes : (pointers : List ℕ) → ArePointers pointers → length (pointers_bytes pointers) ≡ 4096

@@ -17,7 +17,8 @@ use Rattle.sfs_image.specs.SlotBlock.{slots_fault}
 use Rattle.sfs_image.specs.Super.{Layout, super_of, super_fault}
 use Rattle.sfs_image.proofs.AcceptedLaws.{raw_of}
 use Rattle.sfs_image.proofs.BytesLaws.{zeros-byte, length-zeros}
-use Rattle.sfs_image.proofs.InodeLaws.{get_or-holes, inode_fault-inode_bytes, inode_of-inode_bytes}
+use Rattle.sfs_image.proofs.InodeLaws.{inode_fault-inode_bytes, inode_of-inode_bytes}
+use Rattle.sfs_base.proofs.BasicLists.{zeros_read}
 use Rattle.sfs_image.proofs.PartLaws.{holes_have_none, free_has_none}
 use Rattle.sfs_image.proofs.PiecesLaws.{first_of-from}
 use Rattle.sfs_image.proofs.RuleFacts.{sizes_say}
@@ -32,9 +33,9 @@ empty_is_inode = record {
   links = omega arith;
   size = omega arith;
   direct_count = length-replicate {A = ℕ} 108 0;
-  direct = λ k. let e = get_or-holes 108 k in omega arith;
+  direct = λ k. let e = zeros_read 108 k in omega arith;
   indirect_count = length-replicate {A = ℕ} 16 0;
-  indirect = λ k. let e = get_or-holes 16 k in omega arith;
+  indirect = λ k. let e = zeros_read 16 k in omega arith;
   free = λ none. absurd (let two : 2 ≡ 0 = none in omega arith);
 }
 

@@ -10,7 +10,8 @@ use Rattle.sfs_image.specs.Part.{Part, inode_in, read_block, block_pointer, part
 use Rattle.sfs_image.specs.Seen.{FILE_BLOCKS, PLACES}
 use Rattle.sfs_image.proofs.Basics.{map_same, tabulate_same, get_or-tabulate}
 use Rattle.sfs_image.proofs.BytesLaws.{zeros-byte}
-use Rattle.sfs_image.proofs.InodeLaws.{IsFree-inode_of, get_or-holes, pointers_of-zeros}
+use Rattle.sfs_image.proofs.InodeLaws.{IsFree-inode_of, pointers_of-zeros}
+use Rattle.sfs_base.proofs.BasicLists.{zeros_read}
 use Rattle.sfs_image.proofs.PiecesLaws.{length-u32s_at}
 
 -- the pointer of a file's block stands at the block's place
@@ -106,17 +107,17 @@ unfolding part_of
 holes_have_none store raw direct indirect place =
     let part = part_of store raw in
     let tables : (k : ℕ) → pointer_at part (FILE_BLOCKS + k) ≡ 0 =
-    λ k. pointer_of_table part k ∙ ap (λ (xs : List ℕ). slice_index xs k) indirect ∙ get_or-holes 16 k in
+    λ k. pointer_of_table part k ∙ ap (λ (xs : List ℕ). slice_index xs k) indirect ∙ zeros_read 16 k in
     elim (cases_lt place FILE_BLOCKS) [
       | inl below ↦ pointer_of_block part place below ∙ elim (cases_lt place 108) [
-        | inl near ↦ cond-true (ltb place 108) _ _ (lt-ltb place 108 near) ∙ ap (λ (xs : List ℕ). slice_index xs place) direct ∙ get_or-holes 108 place
+        | inl near ↦ cond-true (ltb place 108) _ _ (lt-ltb place 108 near) ∙ ap (λ (xs : List ℕ). slice_index xs place) direct ∙ zeros_read 108 place
         | inr far ↦ cond-false (ltb place 108) _ _ (le-ltb place 108 far)
             ∙ ap (λ (block : List ℕ). slice_index (pointers_of block) (entry_of place))
             (table_is_read store raw (table_of place) (omega arith) ∙ hole_is_read store (pointer_at part (FILE_BLOCKS + table_of place)) (tables (table_of place)))
             ∙ pointers_of-zeros (entry_of place)
       ]
       | inr behind ↦ cond-false (ltb place FILE_BLOCKS) _ _ (le-ltb place FILE_BLOCKS behind)
-          ∙ ap (λ (xs : List ℕ). slice_index xs (place - FILE_BLOCKS)) indirect ∙ get_or-holes 16 (place - FILE_BLOCKS)
+          ∙ ap (λ (xs : List ℕ). slice_index xs (place - FILE_BLOCKS)) indirect ∙ zeros_read 16 (place - FILE_BLOCKS)
     ]
 
 -- a free inode without a fault has no pointers

@@ -13,7 +13,8 @@ use Rattle.sfs_image.specs.Rules.{first_covered, DIRECTORY_BLOCKS, breaks_size, 
 use Rattle.sfs_image.specs.Seen.{FILE_BLOCKS}
 use Rattle.sfs_image.specs.SlotBlock.{slots_fault}
 use Rattle.sfs_image.proofs.BytesLaws.{zeros_from_none, zeros-byte, zeros-is, no_nonzero-zeros, none_from_map}
-use Rattle.sfs_image.proofs.Basics.{then_false, none_of}
+use Rattle.sfs_base.proofs.BasicOptions.{none_of}
+use Rattle.sfs_base.proofs.BasicTruth.{then_false}
 
 -- a test of a kind fails where what it asks fails
 asked : (kind wrong : Bool) → (kind ≡ true → wrong ≡ false) → (kind && wrong) ≡ false

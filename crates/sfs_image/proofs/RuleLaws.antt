@@ -9,7 +9,9 @@ use Rattle.sfs_image.specs.Part.{Part, part_of, inode_in, pointer_at, is_free_pa
 use Rattle.sfs_image.specs.Rules.{any_below, breaks_record, is_data_block, is_good_pointer, first_covered, breaks_pointers, stands_below, is_held_before, HasBlockAt, breaks_apart, breaks_bytes_rule}
 use Rattle.sfs_image.specs.Seen.{PLACES}
 use Rattle.sfs_image.specs.Super.{Layout, data_start}
-use Rattle.sfs_image.proofs.Basics.{then_false, else_true, none_of, any_below-none, any_below-from}
+use Rattle.sfs_image.proofs.Basics.{else_true, any_below-none, any_below-from}
+use Rattle.sfs_base.proofs.BasicOptions.{none_of}
+use Rattle.sfs_base.proofs.BasicTruth.{then_false}
 use Rattle.sfs_image.proofs.PartLaws.{free_has_none, none_past_places}
 
 -- a free inode is no file and no directory
