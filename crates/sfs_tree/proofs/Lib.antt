@@ -18,6 +18,7 @@ pub mod KeepsRest
 pub mod KeepsSound
 pub mod Kept
 pub mod Limits
+pub mod LoggedWays
 pub mod Logs
 pub mod Merged
 pub mod Moved

@@ -1,7 +1,7 @@
 -- The laws of the tree of one thread, each of which a function of the module laws proves.
 use Rattle.sfs_tree.specs.Shape.{shape_of}
 use Rattle.sfs_tree.specs.ShapeWorked.{THREE_NAMES, THREE_NAMES_SHAPE}
-use Rattle.std.specs.Prelude.{◌≡◌, ℕ, Bool, ◌+◌, ◌*◌, ◌<◌, ◌≤◌, ◌==◌, ◌||◌, ◌&&◌, true, false, is_some, ◌^◌, List, length, take, filter, slice_get, Option, Some, None, Vec}
+use Rattle.std.specs.Prelude.{map, ◌≡◌, ℕ, Bool, ◌+◌, ◌*◌, ◌<◌, ◌≤◌, ◌==◌, ◌||◌, ◌&&◌, true, false, is_some, ◌^◌, List, length, take, filter, slice_get, Option, Some, None, Vec}
 use Rattle.std.specs.FinMap.{get, len}
 use Rattle.sfs_tree.specs.declared.call.Call.{Call}
 use Rattle.sfs_tree.specs.Lock.{needs_lock, stands_of, AreHolders, EndsAtRoot}
@@ -14,7 +14,7 @@ use Rattle.sfs_tree.specs.declared.history.Entry.{Entry}
 use Rattle.sfs_tree.specs.Effect.{Effect, tree_with}
 use Rattle.sfs_tree.specs.History.{tree_after, IsLegal}
 use Rattle.sfs_tree.specs.Changes.{rows_at, bytes_at, changes_by}
-use Rattle.sfs_tree.specs.Logged.{logged_by, erased_entry}
+use Rattle.sfs_tree.specs.Logged.{logged_by, erased_entry, above_due}
 use Rattle.std.specs.declared.alloc.Global.{Global}
 use Rattle.sfs_tree.specs.Merged.{is_core, AreCoresOf, MakeTheHistory}
 use Rattle.sfs_tree.specs.Readings.{Agree}
@@ -154,6 +154,10 @@ CoresMakeTheHistory = (parts : List (Vec Entry Global)) (history : List Entry) �
 abbrev pub LogsErase : Type 0
 LogsErase = (tree : TreeState) (core stamp : ℕ) (c : Call) → IsSoundTree tree → core < length tree.made
     → erased_entry (logged_by tree core stamp (verdict tree core c).effect (verdict tree core c).makes) ≡ changes_by tree stamp (verdict tree core c).effect
+
+-- Each change that an entry logs tells the directories above its own where it has to, and no others.
+abbrev pub LogsTellWays : Type 0
+LogsTellWays = (tree : TreeState) (core stamp : ℕ) (effect : Effect) (makes : Option Kind) → map (λ change. change.above) (logged_by tree core stamp effect makes) ≡ map (above_due tree) (logged_by tree core stamp effect makes)
 
 -- Each tree of a legal history from a sound one within its limits is within them.
 abbrev pub HistoriesStayWithin : Type 0

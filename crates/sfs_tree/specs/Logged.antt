@@ -1,6 +1,6 @@
 -- What a log keeps of an entry: the changes of rows that its effect makes, each with its child's kind and, where a rename between two
 -- directories puts a directory, with the directories above the one into which it is put.
-use Rattle.std.specs.Prelude.{ℕ, ◌==◌, Bool, true, false, not, ◌&&◌, ◌||◌, is_none, bytes_eq, List, [], ◌∷◌, ◌++◌, Option, Some, None, option_map, filter, map, if◌then◌else◌}
+use Rattle.std.specs.Prelude.{ℕ, ◌==◌, Bool, true, false, not, ◌&&◌, ◌||◌, is_none, is_some, bytes_eq, List, [], ◌∷◌, ◌++◌, Option, Some, None, option_map, filter, map, if◌then◌else◌}
 use Rattle.std.specs.List.{list_any}
 use Rattle.std.specs.FinMap.{len}
 use Rattle.sfs_base.specs.declared.numbers.NodeId.{NodeId}
@@ -60,6 +60,11 @@ logged_by tree core stamp (Moves directory name to_directory to_name child) make
       (recorded_above tree (Moves directory name to_directory to_name child) to_directory)
     ∷ []
 logged_by tree core stamp (Edits file edit) makes = []
+
+-- the directories that a change has to tell: those above its own, where it adds a directory that comes from another one
+abbrev pub above_due : TreeState → Change → List ℕ
+above_due tree change =
+    if is_addition change.act && is_some change.other && is_directory_kind change.kind then walk_up (len tree.rows) tree change.dir.0 else []
 
 -- whether a logged change is one of this directory
 abbrev pub is_logged_in : ℕ → Change → Bool

@@ -5,7 +5,7 @@ ghost use Rattle.sfs_tree.specs.Laws.{EffectsAct, PartsAfter, NodesAfter, Counts
 ghost use Rattle.sfs_tree.specs.Laws.{CallsDoTheirOwn, CallsKeepTheRest, ReadingsDecide, BucketsMakeRows};
 ghost use Rattle.sfs_tree.specs.Laws.{LocksAreSeen, HoldersStay, WaysStay, DeadStayDead, WalksMeetThoseAbove};
 ghost use Rattle.sfs_tree.specs.Laws.{ReadHoldersStay, ReadHoldersAreAbove, StandingIsAlive};
-ghost use Rattle.sfs_tree.specs.Laws.{LogsErase, HistoriesStayWithin};
+ghost use Rattle.sfs_tree.specs.Laws.{LogsErase, LogsTellWays, HistoriesStayWithin};
 ghost use Rattle.sfs_tree.specs.Laws.{TreesAgreeWithThemselves, OwnEntriesAreCores, TouchesAreNamed, CallsTouchOne};
 ghost use Rattle.sfs_tree.specs.Laws.{RowsAreTheTrees, BytesAreTheTrees, CoresMakeTheHistory};
 ghost use Rattle.sfs_tree.specs.Laws.{ShapeIsAsWorked};
@@ -173,4 +173,9 @@ pub fn calls_touch_one()
 /// The shape of a tree whose file has three names is the one that was worked out by hand.
 pub fn shape_is_as_worked()
     ensures { ShapeIsAsWorked }
+{}
+
+/// Each change that an entry logs tells the directories above its own where it has to, and no others.
+pub fn logs_tell_ways()
+    ensures { LogsTellWays }
 {}
