@@ -156,13 +156,13 @@ module _ (num : Numbering) (tree other : TreeState) (r : IsRenamed num tree othe
   same_node : (x y : ℕ) → IsMet tree x → IsMet tree y → nat_eq (inode_under num y) (inode_under num x) ≡ nat_eq y x
   same_node x y m l = number_same num tree other r x y (inode_under num x) (inode_under num y) (number_of_met x m) (number_of_met y l)
 
-  any_same : (x : ℕ) → IsMet tree x → (files : List ℕ) → AllByRecursion (IsMet tree) files →
-      list_any (λ b. nat_eq b (inode_under num x)) (map (inode_under num) files) ≡ list_any (λ b. nat_eq b x) files
+  any_same : (x : ℕ) → IsMet tree x → (files : List ℕ) → AllByRecursion (IsMet tree) files
+      → list_any (λ b. nat_eq b (inode_under num x)) (map (inode_under num) files) ≡ list_any (λ b. nat_eq b x) files
   any_same x m [] a = refl
   any_same x m (f ∷ files) a = ap (λ b. b || list_any (λ b. nat_eq b (inode_under num x)) (map (inode_under num) files)) (same_node x f m a.0) ∙ ap (λ b. nat_eq f x || b) (any_same x m files a.1)
 
-  with_file_same : (x : ℕ) → IsMet tree x → (files : List ℕ) → AllByRecursion (IsMet tree) files →
-      with_file (map (inode_under num) files) (inode_under num x) ≡ map (inode_under num) (with_file files x)
+  with_file_same : (x : ℕ) → IsMet tree x → (files : List ℕ) → AllByRecursion (IsMet tree) files
+      → with_file (map (inode_under num) files) (inode_under num x) ≡ map (inode_under num) (with_file files x)
   with_file_same x m files a =
       ap (λ b. cond b (map (inode_under num) files) (map (inode_under num) files ++ inode_under num x ∷ [])) (any_same x m files a)
       ∙ by_test (list_any (λ b. nat_eq b x) files)
@@ -175,8 +175,8 @@ module _ (num : Numbering) (tree other : TreeState) (r : IsRenamed num tree othe
   with_file_met : (x : ℕ) → IsMet tree x → (files : List ℕ) → AllByRecursion (IsMet tree) files → AllByRecursion (IsMet tree) (with_file files x)
   with_file_met x m files a = elim (list_any (λ b. nat_eq b x) files) as (λ b. AllByRecursion (IsMet tree) (cond b files (files ++ x ∷ []))) [ true ↦ a | false ↦ all_append (IsMet tree) files (x ∷ []) a (m, tt) ]
 
-  fold_same : (xs files : List ℕ) → AllByRecursion (IsMet tree) xs → AllByRecursion (IsMet tree) files →
-      fold with_file (map (inode_under num) files) (map (inode_under num) xs) ≡ map (inode_under num) (fold with_file files xs)
+  fold_same : (xs files : List ℕ) → AllByRecursion (IsMet tree) xs → AllByRecursion (IsMet tree) files
+      → fold with_file (map (inode_under num) files) (map (inode_under num) xs) ≡ map (inode_under num) (fold with_file files xs)
   fold_same [] files a b = refl
   fold_same (x ∷ xs) files a b =
       ap (λ l. fold with_file l (map (inode_under num) xs)) (with_file_same x a.0 files b) ∙ fold_same xs (with_file files x) a.1 (with_file_met x a.0 files b)
@@ -208,15 +208,15 @@ module _ (num : Numbering) (tree other : TreeState) (r : IsRenamed num tree othe
   files_are_met : AllByRecursion (IsMet tree) (files_met tree)
   files_are_met = fold_met _ [] (all_filtered (IsMet tree) _ _ nodes_met) tt
 
-  place_same : (x : ℕ) → IsMet tree x → (files : List ℕ) → AllByRecursion (IsMet tree) files →
-      position_or_len (λ f. nat_eq f (inode_under num x)) (map (inode_under num) files) ≡ position_or_len (λ f. nat_eq f x) files
+  place_same : (x : ℕ) → IsMet tree x → (files : List ℕ) → AllByRecursion (IsMet tree) files
+      → position_or_len (λ f. nat_eq f (inode_under num x)) (map (inode_under num) files) ≡ position_or_len (λ f. nat_eq f x) files
   place_same x m [] a = refl
   place_same x m (f ∷ files) a =
       ap (λ b. cond (not b) (1 + position_or_len (λ f. nat_eq f (inode_under num x)) (map (inode_under num) files)) 0) (same_node x f m a.0)
       ∙ ap (λ n. cond (not (nat_eq f x)) (1 + n) 0) (place_same x m files a.1)
 
-  position_same : (x : ℕ) → IsMet tree x → (files : List ℕ) → AllByRecursion (IsMet tree) files →
-      position (λ f. nat_eq f (inode_under num x)) (map (inode_under num) files) ≡ position (λ f. nat_eq f x) files
+  position_same : (x : ℕ) → IsMet tree x → (files : List ℕ) → AllByRecursion (IsMet tree) files
+      → position (λ f. nat_eq f (inode_under num x)) (map (inode_under num) files) ≡ position (λ f. nat_eq f x) files
   position_same x m files a =
       ap (λ n. cond (nat_lt n (length (map (inode_under num) files))) (Some n) None) (place_same x m files a)
       ∙ ap (λ n. cond (nat_lt (position_or_len (λ f. nat_eq f x) files) n) (Some (position_or_len (λ f. nat_eq f x) files)) None) (length-map files (inode_under num))
