@@ -1,11 +1,8 @@
 -- Basic facts on truth values, numbers, options and lists.
-use Rattle.std.proofs.Common.{◌≡◌, ℕ, suc, ◌+◌, ◌<◌, ◌≤◌, Bool, true, false, cond, not, ◌&&◌, List, [], ◌∷◌, ◌++◌, Option, Some, None, IsSome, is_some, ◌⊎◌, inl, inr, refl, ap, ◌∙◌, nat_lt, arith}
+use Rattle.std.proofs.Common.{◌≡◌, ℕ, suc, ◌<◌, ◌≤◌, Bool, true, false, cond, List, [], ◌∷◌, ◌++◌, Option, Some, None, IsSome, is_some, ◌⊎◌, inl, inr, refl, ap, ◌∙◌, nat_lt, arith}
 use borrow.Author.Tests.{ltb-true, ltb-false}
 use Rattle.std.specs.Prelude.{filter}
 use Rattle.flush_core.specs.Rules.{IsOneOf}
-use Rattle.sfs_base.proofs.BasicTruth.{not_both, not_false, and_false, and_second}
-use Rattle.sfs_base.proofs.BasicNumbers.{not_below, not_less, plus_zero, zero_plus, suc_plus, from_both_le}
-use Rattle.sfs_base.proofs.BasicOptions.{some_same, some_is_no_none, some_true}
 
 pub no_true : {P : Type 0} → false ≡ true → P
 no_true e = cc

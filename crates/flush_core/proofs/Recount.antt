@@ -32,10 +32,9 @@ use Rattle.flush_core.proofs.Alike.{Carries, are_alike}
 -- rows at a cut stay from a stamp on that no cut is above
 rows_stay : (r : Run) (cut : ℕ → ℕ) (s : Seen r cut) (k more d : ℕ) (n : List ℕ) → cut d ≤ k → get (s.rows (k + more)) (d, n) ≡ get (s.rows k) (d, n)
 rows_stay r cut s k zero d n le = ap (λ t. get (s.rows t) (d, n)) (plus_zero k)
-rows_stay r cut s k (suc more) d n le = ap (λ t. get (s.rows t) (d, n)) (one_more k more) ∙ behind r cut s (k + more) d n (omega arith) ∙ rows_stay r cut s k more d n le
-  where
-    one_more : (k m : ℕ) → k + suc m ≡ suc (k + m)
-    one_more k m = omega arith
+rows_stay r cut s k (suc more) d n le =
+    let one_more : k + suc more ≡ suc (k + more) = omega arith in
+    ap (λ t. get (s.rows t) (d, n)) one_more ∙ behind r cut s (k + more) d n (omega arith) ∙ rows_stay r cut s k more d n le
 
 -- each entry below a stamp counts
 abbrev CountBelow : ℕ → Counts → Type 0
