@@ -59,15 +59,14 @@ first_named first history is node named = let row = first_row first history node
 -- at the cut 0, with the nodes of the first tree, all is kept
 pub first_kept_well : (first : TreeState) (history : List Entry) → IsSoundTree first → IsLegal first history → IsKeptWell first history empty (λ node. is_some (get first.nodes node))
 first_kept_well first history is legal = record {
-  kept = first_kept first history (λ node. is_some (get first.nodes node)) is legal (λ _. refl);
   nodes = λ node has. (first_nodes first history 0 is legal node (some_if (get first.nodes node) has)).0;
-  named = first_named first history is;
+  held = record { kept = first_kept first history (λ node. is_some (get first.nodes node)) is legal (λ _. refl); named = first_named first history is };
 }
 
 pub lists_keep : ListsKeep
 lists_keep first history flushes cut inodes is legal flushed =
     let all = flushes_keep first history is legal flushed (first_kept_well first history is legal) in
-    record { kept = all.kept; sound = closed_cuts_are_sound first history cut is legal all.kept.closed; named = all.named; nodes = all.nodes }
+    record { kept = all.held.kept; sound = closed_cuts_are_sound first history cut is legal all.held.kept.closed; named = all.held.named; nodes = all.nodes }
 
 first_placed : (first : TreeState) (history : List Entry) (inodes : ℕ → Bool) → IsSoundTree first → IsLegal first history → ((node : ℕ) → inodes node ≡ is_some (get first.nodes node)) → ArePlaced first history empty inodes
 first_placed first history inodes is legal same birth one has =
