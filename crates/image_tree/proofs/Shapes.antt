@@ -127,21 +127,18 @@ module _ (num : Numbering) (tree other : TreeState) (r : IsRenamed num tree othe
   met_renamed zero path x m = refl
   met_renamed (suc steps) path x m =
       ap (λ l. record { path = path; node = inode_under num x } ∷ l) (
-      ap (λ b. flat_map walk_other (cond b (entries (names_of (inode_under num x) other.rows)) [])) (directory_renamed num tree other r x (inode_under num x) (number_of_met x m) m)
+      ap (λ b. flat_map (walk other) (cond b (entries (names_of (inode_under num x) other.rows)) [])) (directory_renamed num tree other r x (inode_under num x) (number_of_met x m) m)
       ∙ by_kind (λ row is. met_renamed steps (path ++ row.0 ∷ []) row.1 is) (is_directory tree x))
     where
-      walk : List ℕ × ℕ → List Met
-      walk row = met_from steps tree (path ++ row.0 ∷ []) row.1
+      walk : TreeState → List ℕ × ℕ → List Met
+      walk from row = met_from steps from (path ++ row.0 ∷ []) row.1
 
-      walk_other : List ℕ × ℕ → List Met
-      walk_other row = met_from steps other (path ++ row.0 ∷ []) row.1
-
-      by_kind : ((row : List ℕ × ℕ) → IsMet tree row.1 → walk_other (with_value (inode_under num) row) ≡ map rename_met (walk row)) → (b : Bool) →
-          flat_map walk_other (cond b (entries (names_of (inode_under num x) other.rows)) []) ≡ map rename_met (flat_map walk (cond b (entries (names_of x tree.rows)) []))
+      by_kind : ((row : List ℕ × ℕ) → IsMet tree row.1 → walk other (with_value (inode_under num) row) ≡ map rename_met (walk tree row)) → (b : Bool) →
+          flat_map (walk other) (cond b (entries (names_of (inode_under num x) other.rows)) []) ≡ map rename_met (flat_map (walk tree) (cond b (entries (names_of x tree.rows)) []))
       by_kind deeper false = refl
       by_kind deeper true =
-          ap (flat_map walk_other) (part_renamed (λ _. true) x (inode_under num x) (number_of_met x m))
-          ∙ flat_alike (λ (row : List ℕ × ℕ). IsMet tree row.1) (with_value (inode_under num)) rename_met walk walk_other deeper (entries (names_of x tree.rows)) (children_met x)
+          ap (flat_map (walk other)) (part_renamed (λ _. true) x (inode_under num x) (number_of_met x m))
+          ∙ flat_alike (λ (row : List ℕ × ℕ). IsMet tree row.1) (with_value (inode_under num)) rename_met (walk tree) (walk other) deeper (entries (names_of x tree.rows)) (children_met x)
 
   met_same : met other ≡ map rename_met (met tree)
   met_same =
