@@ -1,7 +1,7 @@
 pub mod Alike
 mod BodyWritten
 mod Commits
-mod Doubts
+pub mod Doubts
 mod Frames
 pub mod Names
 mod Numbering

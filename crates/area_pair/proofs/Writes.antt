@@ -48,12 +48,20 @@ body_torn (Some c) rows was image stand same =
       rows_are = ap rows_of_body body ∙ old.rows_are;
     })
 
+-- The next body has the new rows and their count.
+pub record HasNewBody (current : Option Current) (new : List Row) (image : List ℕ) : Type 0 where
+  pub count_is : area_count (body_of (next_of current).area image) ≡ (next_of current).count
+  pub rows_are : rows_of_body (body_of (next_of current).area image) ≡ new
+
+-- it stays while the body does
+body_stays : (current : Option Current) (new : List Row) (was image : List ℕ) → body_of (next_of current).area image ≡ body_of (next_of current).area was → HasNewBody current new was → HasNewBody current new image
+body_stays current new was image same before = record { count_is = ap area_count same ∙ before.count_is; rows_are = ap rows_of_body same ∙ before.rows_are }
+
 -- The next body stands behind a closed gate.
 pub record Sealed (current : Option Current) (old new : List Row) (image : List ℕ) : Type 0 where
   pub size : 16384 ≤ length image
   pub stand : StandsFor current old image
-  pub count_is : area_count (body_of (next_of current).area image) ≡ (next_of current).count
-  pub rows_are : rows_of_body (body_of (next_of current).area image) ≡ new
+  pub body : HasNewBody current new image
 
 pub sealed : (current : Option Current) (old new : List Row) (body was : List ℕ) → 16384 ≤ length was → length body ≡ 4096 → StandsFor current old was → area_count body ≡ (next_of current).count → rows_of_body body ≡ new
     → Sealed current old new (put (body_at (next_of current).area) body was)
@@ -67,16 +75,14 @@ sealed current old new body was four size stand count_is rows_are =
     record {
       size = omega (arith, outside.size);
       stand = body_torn current old was image stand same;
-      count_is = ap area_count holds ∙ count_is;
-      rows_are = ap rows_of_body holds ∙ rows_are;
+      body = record { count_is = ap area_count holds ∙ count_is; rows_are = ap rows_of_body holds ∙ rows_are };
     }
 
 -- The next area's gate is open, and so is the one before it, where there is one.
 pub record Opened (current : Option Current) (new : List Row) (image : List ℕ) : Type 0 where
   pub size : 16384 ≤ length image
   pub is_in : is_open (next_of current).area image ≡ true
-  pub count_is : area_count (body_of (next_of current).area image) ≡ (next_of current).count
-  pub rows_are : rows_of_body (body_of (next_of current).area image) ≡ new
+  pub body : HasNewBody current new image
   pub before : IfSome current (λ c. (is_open c.area image ≡ true) × (area_count (body_of c.area image) ≡ c.count) × (c.count < 2 ^ 64))
   pub alone : current ≡ None → is_open Second image ≡ false
 
@@ -91,8 +97,7 @@ opened_or_not None old new was image fits seal four same =
     (λ is_in. inr (record {
       size = four;
       is_in = is_in;
-      count_is = ap area_count body ∙ seal.count_is;
-      rows_are = ap rows_of_body body ∙ seal.rows_are;
+      body = body_stays None new was image body seal.body;
       before = tt;
       alone = λ _. shut;
     }))
@@ -109,8 +114,7 @@ opened_or_not (Some c) old new was image fits seal four same =
     (λ is_open_now. inr (record {
       size = four;
       is_in = is_open_now;
-      count_is = ap area_count body ∙ seal.count_is;
-      rows_are = ap rows_of_body body ∙ seal.rows_are;
+      body = body_stays (Some c) new was image body seal.body;
       before = (is_in, count_kept, fits);
       alone = λ none. cc none;
     }))
@@ -139,12 +143,12 @@ opened current old new was fits seal =
 pub opened_rows : (current : Option Current) (new : List Row) (image : List ℕ) → Opened current new image → (current_of image ≡ Some (next_of current).area) × (rows_of image ≡ new)
 opened_rows None new image now =
     let is = current_one First image now.is_in (now.alone refl) in
-    (is, rows_by image (Some First) is ∙ now.rows_are)
+    (is, rows_by image (Some First) is ∙ now.body.rows_are)
 opened_rows (Some c) new image now =
     let count_fits : area_count (body_of c.area image) < 2 ^ 64 = omega (arith, now.before.1, now.before.2) in
-    let next : area_count (body_of (other c.area) image) ≡ (area_count (body_of c.area image) + 1) % 2 ^ 64 = now.count_is ∙ ap (λ (n : ℕ). (n + 1) % 2 ^ 64) (sym now.before.1) in
+    let next : area_count (body_of (other c.area) image) ≡ (area_count (body_of c.area image) + 1) % 2 ^ 64 = now.body.count_is ∙ ap (λ (n : ℕ). (n + 1) % 2 ^ 64) (sym now.before.1) in
     let is = current_both c.area image now.before.0 now.is_in count_fits next in
-    (is, rows_by image (Some (other c.area)) is ∙ now.rows_are)
+    (is, rows_by image (Some (other c.area)) is ∙ now.body.rows_are)
 
 -- the old gate is closed, by a write that may be torn: the new rows stay
 pub closing_torn : (c : Current) (new : List Row) (was image : List ℕ) → Opened (Some c) new was → SameOutside (gate_at c.area) 1 was image → rows_of image ≡ new
@@ -158,14 +162,13 @@ closing_torn c new was image now same =
     (λ both. (opened_rows (Some c) new image (record {
       size = size;
       is_in = is_in;
-      count_is = ap area_count body ∙ now.count_is;
-      rows_are = ap rows_of_body body ∙ now.rows_are;
+      body = body_stays (Some c) new was image body now.body;
       before = (both, ap area_count old_body ∙ now.before.1, now.before.2);
       alone = λ none. cc none;
     })).1)
     (λ shut.
     let alone : is_open (other target) image ≡ false = ap (λ (a : Area). is_open a image) (other-other c.area) ∙ shut in
-    rows_by image (Some target) (current_one target image is_in alone) ∙ ap rows_of_body body ∙ now.rows_are)
+    rows_by image (Some target) (current_one target image is_in alone) ∙ ap rows_of_body body ∙ now.body.rows_are)
     (true_or_false (is_open c.area image))
 
 -- and after the whole write the next area is the current one
@@ -178,13 +181,13 @@ closed c new was now =
     stands target (next_of (Some c)).count new image (record {
       is_in = gate_write_keeps_gate c.area was image same ∙ now.is_in;
       not_in = ap (λ (a : Area). is_open a image) (other-other c.area) ∙ open_put c.area 0 was now.size;
-      count_is = ap area_count body ∙ now.count_is;
-      rows_are = ap rows_of_body body ∙ now.rows_are;
+      count_is = ap area_count body ∙ now.body.count_is;
+      rows_are = ap rows_of_body body ∙ now.body.rows_are;
     })
 
 -- where there was no current area, nothing is left to close
 pub opened_first : (new : List Row) (image : List ℕ) → Opened None new image → StandsFor (Some (next_of None)) new image
-opened_first new image now = stands First 1 new image (record { is_in = now.is_in; not_in = now.alone refl; count_is = now.count_is; rows_are = now.rows_are })
+opened_first new image now = stands First 1 new image (record { is_in = now.is_in; not_in = now.alone refl; count_is = now.body.count_is; rows_are = now.body.rows_are })
 
 -- both gates are open where the other one of the current area is
 pub both_open : (area : Area) (image : List ℕ) → current_of image ≡ Some area → is_open (other area) image ≡ true → is_open area image ≡ true

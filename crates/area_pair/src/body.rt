@@ -101,7 +101,8 @@ fn clashes(before: &Row, row: &Row) -> bool
     ensures { result ≡ clashes before.now row.now }
 {
     before.name.bytes() == row.name.bytes()
-        || (before.node.0 == row.node.0 && (is_directory_row(before.kind) || is_directory_row(row.kind)))
+        || (before.node.0 == row.node.0
+            && (is_directory_row(before.kind) || is_directory_row(row.kind)))
 }
 
 fn is_directory_row(kind: Kind) -> bool

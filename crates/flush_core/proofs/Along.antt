@@ -19,7 +19,9 @@ use Rattle.sfs_tree.proofs.Fitting.{not_so}
 use Rattle.sfs_tree.proofs.Holders.{directory_stays}
 use Rattle.sfs_tree.proofs.OwnEffects as own
 use Rattle.flush_core.specs.Rules.{IsOneOf, Birth, births_by, births_of}
-use Rattle.flush_core.proofs.Basics.{in_either, in_left, in_right, not_false, plus_zero, suc_plus, zero_plus}
+use Rattle.flush_core.proofs.Basics.{in_either, in_left, in_right}
+use Rattle.sfs_base.proofs.BasicNumbers.{suc_plus, zero_plus, plus_zero}
+use Rattle.sfs_base.proofs.BasicTruth.{not_false}
 use Rattle.flush_core.proofs.Nodes.{node_stays}
 use Rattle.flush_core.proofs.Own.{stamp_of}
 use Rattle.flush_core.proofs.Runs.{Run, Made}

@@ -10,7 +10,9 @@ use Rattle.flush_core.specs.Rules.{IsOneOf}
 use Rattle.flush_core.specs.Closure.{Flush}
 use Rattle.flush_core.specs.Machine.{Flight, MachineState}
 use Rattle.flush_core.specs.Runs.{IsRun, flush_by, IsBegun, AreAlive, view_of, Concerns, ComesBefore, ShareANode, AreTied}
-use Rattle.flush_core.proofs.Basics.{below_or, both, none_some, some_is}
+use Rattle.flush_core.proofs.Basics.{below_or, none_some}
+use Rattle.sfs_base.proofs.BasicOptions.{some_same}
+use Rattle.sfs_base.proofs.BasicTruth.{not_both}
 use Rattle.flush_core.proofs.RunFacts.{flight_found}
 use Rattle.flush_core.proofs.Begun.{begun_within, begun_once, one_flush}
 use Rattle.flush_core.proofs.Flying.{flight_before}
@@ -32,7 +34,7 @@ module _ (first : TreeState) (events : List Event) (states : ℕ → MachineStat
 
   -- where a commit becomes durable none begins
   none_begins : (place commit other : ℕ) (flush : Flush) → slice_get events place ≡ Some (event.Durable commit) → IsBegun events place other flush → ⊥
-  none_begins place commit other flush stands begun = none_some (ap flush_by (some_is (sym stands ∙ begun.stands)) ∙ begun.begins)
+  none_begins place commit other flush stands begun = none_some (ap flush_by (some_same (sym stands ∙ begun.stands)) ∙ begun.begins)
 
   module _ (place commit : ℕ) (flush : Flush) (tied : ℕ → Bool) (begun : IsBegun events place commit flush) (tied_are : AreTied first events states commit tied) where
     -- A tied commit that becomes durable from a place on, before the commit begins.
@@ -112,7 +114,7 @@ module _ (first : TreeState) (events : List Event) (states : ℕ → MachineStat
           elim (flight_before first events states run from come.durable (let le = come.not_before in omega arith) (let less = come.earlier in let more = begun_within first events states run place commit flush begun in omega arith) fly.0 fly.1) [
             | inl among ↦
                 let number = among.commit ∙ fly.2 in
-                kept.apart raiser among.was there among.there (λ e. both come.ties (rw (e ∙ number) at untied)) node theirs
+                kept.apart raiser among.was there among.there (λ e. not_both come.ties (rw (e ∙ number) at untied)) node theirs
                 (began_concerned among.was (states from).cut (states from).inodes (kept.each among.was among.there) w.begin w.fsync (rw number w.begins) node w.concerned)
             | inr late ↦
                 let again = begun_once first events states run late.0 w.begin w.other fly.0.flush w.fsync (rw fly.2 at late.3) w.begins in
@@ -126,9 +128,9 @@ module _ (first : TreeState) (events : List Event) (states : ℕ → MachineStat
       -- a commit that isn't tied concerns nothing that is still awaited
       pub untied_apart : tied raiser.commit ≡ false → (node : ℕ) → IsAwaited (suc from) node → raiser.concerned node ≡ true → ⊥
       untied_apart untied node w theirs = elim w.when [
-        | inl own ↦ both (tied_are.own raiser.commit (comes commit place flush begun lt) (rw own at (share node theirs w.other w.begin w.fsync w.begins w.concerned))) untied
+        | inl own ↦ not_both (tied_are.own raiser.commit (comes commit place flush begun lt) (rw own at (share node theirs w.other w.begin w.fsync w.begins w.concerned))) untied
         | inr come ↦ elim (below_or from w.begin) [
-          | inl less ↦ both (tied_are.theirs w.other raiser.commit come.ties (comes w.other w.begin w.fsync w.begins less) (share node theirs w.other w.begin w.fsync w.begins w.concerned)) untied
+          | inl less ↦ not_both (tied_are.theirs w.other raiser.commit come.ties (comes w.other w.begin w.fsync w.begins less) (share node theirs w.other w.begin w.fsync w.begins w.concerned)) untied
           | inr le ↦ begun_shares_none untied node w come le theirs
         ]
       ]

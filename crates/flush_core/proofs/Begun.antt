@@ -12,7 +12,8 @@ use Rattle.flush_core.specs.Rules.{IsOneOf}
 use Rattle.flush_core.specs.Closure.{Flush}
 use Rattle.flush_core.specs.Machine.{Flight, MachineState, IsShared, Accepts}
 use Rattle.flush_core.specs.Runs.{IsRun, flush_by, IsBegun, view_of, Concerns}
-use Rattle.flush_core.proofs.Basics.{below_or, in_left, in_right, is_next, none_below, some_is}
+use Rattle.flush_core.proofs.Basics.{below_or, in_left, in_right, is_next, none_below}
+use Rattle.sfs_base.proofs.BasicOptions.{some_same}
 use Rattle.flush_core.proofs.RunFacts.{steady_at, event_there}
 
 -- The event that begins a commit.
@@ -23,7 +24,7 @@ pub record IsCutAt (e : Event) (commit : ℕ) (flush : Flush) : Type 0 where
   pub own : record { node = node.0; stamp = stamp.0 } ≡ flush
 
 pub cut_at : (e : Event) (commit : ℕ) (flush : Flush) → flush_by e ≡ Some (commit, flush) → IsCutAt e commit flush
-cut_at (event.CutAt other node stamp) commit flush e = record { node = node; stamp = stamp; same = ap (λ (c : ℕ). event.CutAt c node stamp) (ap (λ (begun : ℕ × Flush). begun.0) (some_is e)); own = ap (λ (begun : ℕ × Flush). begun.1) (some_is e) }
+cut_at (event.CutAt other node stamp) commit flush e = record { node = node; stamp = stamp; same = ap (λ (c : ℕ). event.CutAt c node stamp) (ap (λ (begun : ℕ × Flush). begun.0) (some_same e)); own = ap (λ (begun : ℕ × Flush). begun.1) (some_same e) }
 cut_at (event.Call entry) commit flush e = cc
 cut_at (event.Opened other) commit flush e = cc
 cut_at (event.Durable other) commit flush e = cc
@@ -107,12 +108,12 @@ module _ (first : TreeState) (events : List Event) (states : ℕ → MachineStat
   pub one_flush : (place later commit : ℕ) (flush other : Flush) → IsBegun events place commit flush → IsBegun events later commit other → flush ≡ other
   one_flush place later commit flush other begun again =
       let e = begun_once place later commit flush other begun again in
-      ap (λ (pair : ℕ × Flush). pair.1) (some_is (sym begun.begins ∙ ap flush_by (some_is (sym begun.stands ∙ ap (slice_get events) e ∙ again.stands)) ∙ again.begins))
+      ap (λ (pair : ℕ × Flush). pair.1) (some_same (sym begun.begins ∙ ap flush_by (some_same (sym begun.stands ∙ ap (slice_get events) e ∙ again.stands)) ∙ again.begins))
 
   -- at one place one commit begins
   pub one_begun : (place commit other : ℕ) (flush other_flush : Flush) → IsBegun events place commit flush → IsBegun events place other other_flush → commit ≡ other
   one_begun place commit other flush other_flush begun also =
-      ap (λ (pair : ℕ × Flush). pair.0) (some_is (sym begun.begins ∙ ap flush_by (some_is (sym begun.stands ∙ also.stands)) ∙ also.begins))
+      ap (λ (pair : ℕ × Flush). pair.0) (some_same (sym begun.begins ∙ ap flush_by (some_same (sym begun.stands ∙ also.stands)) ∙ also.begins))
 
   -- it concerns no node that a flight concerns
   pub begun_apart : (place commit : ℕ) (flush : Flush) → IsBegun events place commit flush → (flight : Flight) → IsOneOf (states place).flights flight → (node : ℕ) → flight.concerned node ≡ true → Concerns first flush (view_of (states place)) node → ⊥

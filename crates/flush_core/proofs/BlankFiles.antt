@@ -13,7 +13,9 @@ use Rattle.sfs_tree.specs.Laws.{IsSoundTree}
 use Rattle.flush_core.specs.Cut.{Cut, cut_of, tree_at_cut}
 use Rattle.flush_core.specs.Closure.{every_entry, Flush, IsDead, none, one_more, AreFlushed}
 use Rattle.flush_core.specs.LawsInodes.{FilesEnterBlank}
-use Rattle.flush_core.proofs.Basics.{both, filter_none, not_below}
+use Rattle.flush_core.proofs.Basics.{filter_none}
+use Rattle.sfs_base.proofs.BasicNumbers.{not_below}
+use Rattle.sfs_base.proofs.BasicTruth.{not_both}
 use Rattle.flush_core.proofs.CutNodes.{node_at_cut_is}
 use Rattle.flush_core.proofs.MemberKinds.{member_directory}
 use Rattle.flush_core.proofs.KeptInodes.{settles, dead_after, entered_lives}
@@ -37,9 +39,9 @@ fresh_or_dead first history is legal (one_more flushes flush before raised inode
         | inl fresh ↦ elim (raise.other node) [
           | inr same ↦ inl (record { stamp = same ∙ fresh.stamp; new = fresh.new })
           | inl own ↦ elim (member_directory first history is legal every_entry before inodes flush own) [
-            | inr directory ↦ absurd (both directory file)
+            | inr directory ↦ absurd (not_both directory file)
             | inl itself ↦ elim (settles first history before raised inodes after flush is legal raise sets (rw itself at file)) [
-              | inl has ↦ absurd (both (rw itself has) lacks)
+              | inl has ↦ absurd (not_both (rw itself has) lacks)
               | inr dead ↦ inr (rw itself dead)
             ]
           ]

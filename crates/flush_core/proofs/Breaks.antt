@@ -18,7 +18,8 @@ use Rattle.flush_core.specs.Rules.{IsOneOf, IsChange, IsMove, IsLastPlacing, Bir
 use Rattle.flush_core.specs.Past.{IsPast, row_change_of, birth_of}
 use Rattle.flush_core.specs.Engine.{above_of}
 use Rattle.flush_core.specs.Broken.{CutKeeps, rule_place, IsFirstBroken, SomeIs, IsSplit, LeavesChange, IsBornLate, PlacesBelow, IsLatest, LacksAncestor}
-use Rattle.flush_core.proofs.Basics.{below_or, both}
+use Rattle.flush_core.proofs.Basics.{below_or}
+use Rattle.sfs_base.proofs.BasicTruth.{not_both}
 use Rattle.flush_core.proofs.Listed.{from_map, to_map}
 use Rattle.flush_core.proofs.Along.{tree_at, core_at, effect_at, makes_at, tree_at-after, sound_at, fits_at, change_of}
 use Rattle.flush_core.proofs.Lives.{live_own}
@@ -197,7 +198,7 @@ module _ (first : TreeState) (history : List Entry) (past : Past) (is : IsPast f
   by_search tells breaks found = breaks (tells.0 found)
 
   by_no_search : {Broken Kept : Type 0} → Tells Broken → ((Broken → ⊥) → Kept) → result ≡ false → Kept
-  by_no_search tells holds not = holds (λ some. both (tells.1 some) not)
+  by_no_search tells holds not = holds (λ some. not_both (tells.1 some) not)
 
   pub renames_found : Tells (SomeIs changes (IsSplit cut)) → result ≡ true → RenamesWhole first history cut → ⊥
   renames_found tells = by_search (kept_search (λ cs bs. SomeIs cs (IsSplit cut)) tells) (renames_broken first history past is cut)

@@ -21,8 +21,7 @@ use Rattle.sfs_tree.specs.Changes.{RowChange, is_own_below, with_change, changes
 use Rattle.sfs_tree.proofs.Joined.{is_equal, name_cmp-IsAntisymmetric}
 use Rattle.sfs_tree.proofs.Names.{get-names_where}
 use Rattle.sfs_tree.proofs.Search.{is_less}
-use Rattle.sfs_base.proofs.BasicTruth.{both_second}
-use Rattle.sfs_base.proofs.BasicTruth.{both_first}
+use Rattle.sfs_base.proofs.BasicTruth.{both_second, both_first, and_second, not_both}
 use Rattle.flush_core.specs.declared.past.OwnChange.{OwnChange}
 use Rattle.flush_core.specs.declared.past.Past.{Past}
 use Rattle.flush_core.specs.declared.sets.NodeSet.{NodeSet}
@@ -33,7 +32,6 @@ use Rattle.flush_core.specs.Past.{IsPast, row_change_of}
 use Rattle.flush_core.specs.NodeSets.{has_node}
 use Rattle.flush_core.specs.Engine.{OfSome, Joins}
 use Rattle.flush_core.specs.Named.{kept_rows, IsChild, IsChildOf, IsChildIn, AreChildren, AreNamed}
-use Rattle.flush_core.proofs.Basics.{and_second, both}
 use Rattle.flush_core.proofs.CutRows.{names_of-cut}
 use Rattle.flush_core.proofs.Listed.{from_map, to_map}
 
@@ -127,7 +125,7 @@ came d stamp n node rows (x ∷ cs) is =
 
 -- what is a directory of a tree is one of its nodes
 directory_there : (found : Option Node) → option_map_or (λ (n : Node). is_directory_kind n.kind) found false ≡ true → IsSome found
-directory_there None is = absurd (both is refl)
+directory_there None is = absurd (not_both is refl)
 directory_there (Some node) is = refl
 
 -- the children of some directories' rows are those of all, where all that may have rows are among them

@@ -12,7 +12,8 @@ use Rattle.sfs_tree.specs.History.{IsLegal}
 use Rattle.sfs_tree.specs.Laws.{IsSoundTree}
 use Rattle.sfs_tree.proofs.RowFacts.{IsNamed, alive_named, added_cases, removed_cases}
 use Rattle.flush_core.specs.Rules.{IsOneOf}
-use Rattle.flush_core.proofs.Basics.{below_or, both, is_next, none_below}
+use Rattle.flush_core.proofs.Basics.{below_or, is_next, none_below}
+use Rattle.sfs_base.proofs.BasicTruth.{not_both}
 use Rattle.flush_core.proofs.Own.{comes_in}
 use Rattle.flush_core.proofs.Placed.{IsBorn}
 use Rattle.flush_core.proofs.Runs.{Run, Made, Seen}
@@ -172,6 +173,6 @@ pub links_named : (first : TreeState) (history : List Entry) (is : IsSoundTree f
 links_named first history is legal t d n c adds makes =
     let file = files_at first history t d n c adds makes in
     elim (alive_named (tree_at first history t) c file.1) [
-      | inl root ↦ absurd (both (rw root (sound_at first history 0 t is legal).root) file.0)
+      | inl root ↦ absurd (not_both (rw root (sound_at first history 0 t is legal).root) file.0)
       | inr named ↦ named
     ]

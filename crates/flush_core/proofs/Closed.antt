@@ -18,7 +18,8 @@ use Rattle.sfs_tree.proofs.KeepsNodes.{IsSound-nodes}
 use Rattle.flush_core.specs.Cut.{Cut, cut_of, is_within, with_own, rows_at_cut, nodes_at_cut, tree_at_cut}
 use Rattle.flush_core.specs.Rules.{IsOneOf, IsChange, births_by, IsLastPlacing, IsClosed}
 use Rattle.flush_core.specs.Laws.{ClosedCutsAreSound}
-use Rattle.flush_core.proofs.Basics.{both, some_is}
+use Rattle.sfs_base.proofs.BasicOptions.{some_same}
+use Rattle.sfs_base.proofs.BasicTruth.{not_both}
 use Rattle.flush_core.proofs.Own.{stamp_of, comes_in}
 use Rattle.flush_core.proofs.Placed.{placed}
 use Rattle.flush_core.proofs.Runs.{Run, Made, IsLast, Keeps, Seen}
@@ -31,11 +32,11 @@ pub placing : (tree : TreeState) (t : ℕ) (effect : Effect) (node : ℕ) → pl
 placing tree t Stays node e = cc
 placing tree t (Edits file edit) node e = cc
 placing tree t (Removes d n c) node e = cc
-placing tree t (Adds d n c) node e = (added t d n c None, inl refl, refl, some_is e)
-placing tree t (Moves p n q m c) node e = (added t q m c (other_side q p), comes_in tree t p n q m c, refl, some_is e)
+placing tree t (Adds d n c) node e = (added t d n c None, inl refl, refl, some_same e)
+placing tree t (Moves p n q m c) node e = (added t q m c (other_side q p), comes_in tree t p n q m c, refl, some_same e)
 
 no_place : {P : Type 0} (x y : RowChange) → x ≡ y → y.places ≡ true → x.places ≡ false → P
-no_place x y e places not = absurd (both (ap (λ (z : RowChange). z.places) e ∙ places) not)
+no_place x y e places not = absurd (not_both (ap (λ (z : RowChange). z.places) e ∙ places) not)
 
 -- where a change places a child, its effect does
 pub placed_by : (tree : TreeState) (t : ℕ) (effect : Effect) (x : RowChange) → IsOneOf (changes_by tree t effect) x → x.places ≡ true → placed effect ≡ Some x.child

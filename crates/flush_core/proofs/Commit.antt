@@ -17,7 +17,9 @@ use Rattle.flush_core.specs.Cut.{Cut, cut_of, IsWithin, rows_at_cut}
 use Rattle.flush_core.specs.Rules.{IsOneOf, IsChange, Birth, births_by, births_of, IsLastPlacing, IsMove, IsClosed}
 use Rattle.flush_core.specs.Closure.{every_entry, Flush, InSpan, Closure, other_side, ended, ancestor, birth_place, IsRaised, AreInodesAfter, AreBorn, KeepsCut}
 use Rattle.flush_core.specs.Laws.{FsyncsKeep}
-use Rattle.flush_core.proofs.Basics.{below_or, both, in_either, plus_zero, suc_plus, zero_plus}
+use Rattle.flush_core.proofs.Basics.{below_or, in_either}
+use Rattle.sfs_base.proofs.BasicNumbers.{suc_plus, zero_plus, plus_zero}
+use Rattle.sfs_base.proofs.BasicTruth.{not_both}
 use Rattle.flush_core.proofs.Raises.{cuts_rise, members_rise, was_or_spanned}
 use Rattle.flush_core.proofs.Runs.{Run}
 use Rattle.flush_core.proofs.Along.{made_at, tree_at, effect_at, makes_at, tree_at-after, run_of, change_in, nodes_at}
@@ -159,7 +161,7 @@ module _ (first : TreeState) (history : List Entry) (is : IsSoundTree first) (le
         | true ↦ λ e. up birth.stamp birth.directory (kept.born birth one e kind)
         | false ↦ λ e. elim ((sets.enters birth.node e).0 has).1 [
           | inl named ↦ named_raised birth one kind named.directory named.name named.row
-          | inr file ↦ absurd (both kind file.1)
+          | inr file ↦ absurd (not_both kind file.1)
         ]
       ] refl
 

@@ -18,7 +18,8 @@ use Rattle.flush_core.specs.Covers.{IsCovered}
 use Rattle.flush_core.specs.Machine.{MachineState, Accepts}
 use Rattle.flush_core.specs.Runs.{IsRun, IsBegun, AreAlive}
 use Rattle.flush_core.specs.LawsRuns.{every_commit, DurablesAreCovered, HasSameCut, FailuresStopCuts}
-use Rattle.flush_core.proofs.Basics.{below_or, both, in_right, is_next, none_below}
+use Rattle.flush_core.proofs.Basics.{below_or, in_right, is_next, none_below}
+use Rattle.sfs_base.proofs.BasicTruth.{not_both}
 use Rattle.flush_core.proofs.RunFacts.{steady_at, event_there}
 use Rattle.flush_core.proofs.Lists.{lists_cover}
 use Rattle.flush_core.proofs.Prefixes.{alive_node}
@@ -87,7 +88,7 @@ module _ (first : TreeState) (events : List Event) (states : ℕ → MachineStat
     pub covered_at : (place : ℕ) → durable < place → place ≤ length events → IsCovered first (states place).history (states place).cut flush
     covered_at zero lt le = absurd (omega arith)
     covered_at (suc place) lt le = elim (states (suc place)).crashed as (λ b. (states (suc place)).crashed ≡ b → IsCovered first (states (suc place)).history (states (suc place)).cut flush) [
-      | false ↦ λ goes. covered_before (suc place) lt le (λ ended. both ended goes)
+      | false ↦ λ goes. covered_before (suc place) lt le (λ ended. not_both ended goes)
       | true ↦ λ ended. elim (below_or durable place) [
         | inr ge ↦ absurd (durable_goes (rw (at_once ge lt) at ended))
         | inl less ↦
@@ -132,4 +133,4 @@ module _ (first : TreeState) (events : List Event) (states : ℕ → MachineStat
   ]
 
 pub failures_stop_cuts : FailuresStopCuts
-failures_stop_cuts first events states place later commit run le within failed goes = (failed_at first events states run place commit failed later le within (λ ended. both ended goes)).same
+failures_stop_cuts first events states place later commit run le within failed goes = (failed_at first events states run place commit failed later le within (λ ended. not_both ended goes)).same

@@ -1,4 +1,4 @@
--- Where a directory stands in a tree and at a closed cut: its row is flushed, or is left at the cut, or is gone from both.
+-- Where a directory stands in a tree and at a closed cut: its row is flushed, or is left at the cut, or is gone from not_both.
 use Rattle.std.proofs.Common.{◌≡◌, ℕ, zero, suc, ◌<◌, ◌≤◌, true, false, List, Option, Some, None, IsSome, ◌⊎◌, inl, inr, refl, sym, ap, subst, ◌∙◌, arith}
 use Rattle.std.specs.FinMap.{get}
 use Rattle.sfs_base.specs.declared.numbers.Kind.{Kind}
@@ -9,7 +9,9 @@ use Rattle.sfs_tree.specs.Sound.{IsSound}
 use Rattle.sfs_tree.specs.Fits.{Fits}
 use Rattle.sfs_tree.proofs.RowFacts.{IsNamed, alive_named, named_alive}
 use Rattle.flush_core.specs.Rules.{IsOneOf}
-use Rattle.flush_core.proofs.Basics.{below_or, both, not_none}
+use Rattle.flush_core.proofs.Basics.{below_or}
+use Rattle.sfs_base.proofs.BasicOptions.{some_is_no_none}
+use Rattle.sfs_base.proofs.BasicTruth.{not_both}
 use Rattle.flush_core.proofs.Own.{sides}
 use Rattle.flush_core.proofs.Placed.{IsBorn, IsMoved, named_before, row_stays}
 use Rattle.flush_core.proofs.Runs.{Run, Made, Keeps, Seen}
@@ -28,11 +30,11 @@ module _ (tree : TreeState) (core t : ℕ) (s : IsSound tree) where
   names_placed Stays makes f files d name x kind row y one child = absurd one
   names_placed (Edits file edit) makes f files d name x kind row y one child = absurd one
   names_placed (Adds e k c) None f files d name x kind row y one child = elim one [
-    | inl same ↦ absurd (both (rw (ap (λ (z : RowChange). z.child) same ∙ child) kind) (files e k c refl refl))
+    | inl same ↦ absurd (not_both (rw (ap (λ (z : RowChange). z.child) same ∙ child) kind) (files e k c refl refl))
     | inr none ↦ absurd none
   ]
   names_placed (Adds e k c) (Some mk) f files d name x kind row y one child = elim one [
-    | inl same ↦ absurd (not_none (s.node d name x row) (ap (get tree.nodes) (sym (ap (λ (z : RowChange). z.child) same ∙ child)) ∙ f.fresh))
+    | inl same ↦ absurd (some_is_no_none (s.node d name x row) (ap (get tree.nodes) (sym (ap (λ (z : RowChange). z.child) same ∙ child)) ∙ f.fresh))
     | inr none ↦ absurd none
   ]
   names_placed (Removes e k c) None f files d name x kind row y one child = elim one [
@@ -93,7 +95,7 @@ module _ (r : Run) (cut : ℕ → ℕ) (s : Seen r cut) (keeps : Keeps r cut) (l
 
   named_or_not : (t : ℕ) → IsNamed (r.tree t).rows x ⊎ (IsNamed (r.tree t).rows x → ⊥)
   named_or_not t = elim (is_alive (r.tree t) x) as (λ b. is_alive (r.tree t) x ≡ b → IsNamed (r.tree t).rows x ⊎ (IsNamed (r.tree t).rows x → ⊥)) [
-    | false ↦ λ e. inr (λ named. both (named_alive (r.tree t) x named) e)
+    | false ↦ λ e. inr (λ named. not_both (named_alive (r.tree t) x named) e)
     | true ↦ λ e. elim (alive_named (r.tree t) x e) [
       | inl root ↦ inr (λ named. (r.sound t).unnamed named.directory named.name (named.row ∙ ap Some root))
       | inr named ↦ inl named

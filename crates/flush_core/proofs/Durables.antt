@@ -13,13 +13,15 @@ use Rattle.flush_core.specs.Rules.{IsOneOf}
 use Rattle.flush_core.specs.Closure.{Flush}
 use Rattle.flush_core.specs.Machine.{MachineState}
 use Rattle.flush_core.specs.Runs.{IsRun, flush_by, IsBegun, flush_or, flush_of, durable_by}
-use Rattle.flush_core.proofs.Basics.{below_or, no_less, none_some, some_is}
+use Rattle.flush_core.proofs.Basics.{below_or, none_some}
+use Rattle.sfs_base.proofs.BasicOptions.{some_same}
+use Rattle.sfs_base.proofs.BasicNumbers.{not_less}
 use Rattle.flush_core.proofs.Begun.{one_flush}
 
 -- the one at a place comes behind those before it
 pub take_next : {X : Type 0} (xs : List X) (place : ℕ) (x : X) → slice_get xs place ≡ Some x → take (suc place) xs ≡ take place xs ++ x ∷ []
 take_next [] place x e = none_some e
-take_next (y ∷ xs) zero x e = ap (λ z. z ∷ []) (some_is e)
+take_next (y ∷ xs) zero x e = ap (λ z. z ∷ []) (some_same e)
 take_next (y ∷ xs) (suc place) x e = ap (λ l. y ∷ l) (take_next xs place x e)
 
 -- one of the first ones stands at its place, and so the other way round
@@ -74,7 +76,7 @@ of_begun (e ∷ events) commit flush found =
     elim (flush_by e) as (λ o. flush_by e ≡ o → flush_or o commit (flush_of events commit) ≡ Some flush → (place : ℕ) × IsBegun (e ∷ events) place commit flush) [
       | None ↦ λ _ h. onward (of_begun events commit flush h)
       | Some begun ↦ λ by h. elim (nat_eq begun.0 commit) as (λ b. nat_eq begun.0 commit ≡ b → cond b (Some begun.1) (flush_of events commit) ≡ Some flush → (place : ℕ) × IsBegun (e ∷ events) place commit flush) [
-        | true ↦ λ t it. (0, record { event = e; stands = refl; begins = by ∙ ap (λ (c : ℕ). Some (c, begun.1)) (eqb-true begun.0 commit t) ∙ ap (λ (f : Flush). Some (commit, f)) (some_is it) })
+        | true ↦ λ t it. (0, record { event = e; stands = refl; begins = by ∙ ap (λ (c : ℕ). Some (c, begun.1)) (eqb-true begun.0 commit t) ∙ ap (λ (f : Flush). Some (commit, f)) (some_same it) })
         | false ↦ λ _ it. onward (of_begun events commit flush it)
       ] refl h
     ] refl found
@@ -86,7 +88,7 @@ of_begun (e ∷ events) commit flush found =
 has_flush : (events : List Event) (place commit : ℕ) (flush : Flush) → IsBegun events place commit flush → (other : Flush) × (flush_of events commit ≡ Some other)
 has_flush [] place commit flush begun = none_some begun.stands
 has_flush (e ∷ events) zero commit flush begun =
-    let by : flush_by e ≡ Some (commit, flush) = ap flush_by (some_is begun.stands) ∙ begun.begins in
+    let by : flush_by e ≡ Some (commit, flush) = ap flush_by (some_same begun.stands) ∙ begun.begins in
     (flush, ap (λ (o : Option (ℕ × Flush)). flush_or o commit (flush_of events commit)) by ∙ ap (λ b. cond b (Some flush) (flush_of events commit)) (eq-eqb commit commit refl))
 has_flush (e ∷ events) (suc place) commit flush begun =
     let rest = has_flush events place commit flush (record { event = begun.event; stands = begun.stands; begins = begun.begins }) in
@@ -203,7 +205,7 @@ greatest_least (flush ∷ flushes) n low = max-le (low flush (inl refl)) (greate
 pub below_greater : (t a b : ℕ) → t < max a b → (t < a) ⊎ (t < b)
 below_greater t a b lt = elim (below_or t a) [
   | inl less ↦ inl less
-  | inr le ↦ elim (below_or t b) [ inl less ↦ inr less | inr more ↦ absurd (let most = max-le le more in no_less lt most) ]
+  | inr le ↦ elim (below_or t b) [ inl less ↦ inr less | inr more ↦ absurd (let most = max-le le more in not_less lt most) ]
 ]
 
 pub below_greatest : (flushes : List Flush) (t : ℕ) → t < greatest flushes → (flush : Flush) × IsOneOf flushes flush × (t < flush.stamp)

@@ -11,13 +11,15 @@ use Rattle.flush_core.specs.declared.event.Refused.TheVariants as refused
 use Rattle.flush_core.specs.Machine.{start_of, Refuses, Accepts}
 use Rattle.flush_core.specs.LawsGrowth.{EntriesMayCome, StampsAreOnce}
 use Rattle.flush_core.specs.LawsRuns.{told, CallsAreARun}
-use Rattle.flush_core.proofs.Basics.{no_true, none_some, plus_zero, some_is, suc_plus, zero_plus}
+use Rattle.flush_core.proofs.Basics.{no_true, none_some}
+use Rattle.sfs_base.proofs.BasicOptions.{some_same}
+use Rattle.sfs_base.proofs.BasicNumbers.{suc_plus, zero_plus, plus_zero}
 use Rattle.flush_core.proofs.Durables.{place_of_one, take_next}
 
 -- what stands at a place of a legal history may come there
 may_from : (first : TreeState) (stamp : ℕ) (history : List Entry) (place : ℕ) (entry : Entry) → IsLegalFrom first stamp history → slice_get history place ≡ Some entry → MayCome (tree_after first (take place history)) (stamp + place) entry
 may_from first stamp [] place entry legal stands = none_some stands
-may_from first stamp (next ∷ history) zero entry legal stands = rw (plus_zero stamp) (rw (some_is stands) at legal.0)
+may_from first stamp (next ∷ history) zero entry legal stands = rw (plus_zero stamp) (rw (some_same stands) at legal.0)
 may_from first stamp (next ∷ history) (suc place) entry legal stands =
     rw (suc_plus stamp place) at (may_from (tree_after_entry first next) (suc stamp) history place entry legal.1 stands)
 
@@ -35,12 +37,12 @@ entries_may_come first history entry legal one =
 
 pub stamps_are_once : StampsAreOnce
 stamps_are_once first history entry other legal one also same =
-    some_is (sym (entries_may_come first history entry legal one).stands ∙ ap (slice_get history) same ∙ (entries_may_come first history other legal also).stands)
+    some_same (sym (entries_may_come first history entry legal one).stands ∙ ap (slice_get history) same ∙ (entries_may_come first history other legal also).stands)
 
 -- an entry behind a map to calls
 called_at : (history : List Entry) (place : ℕ) (e : Event) → slice_get (map event.Call history) place ≡ Some e → (entry : Entry) × (slice_get history place ≡ Some entry) × (event.Call entry ≡ e)
 called_at [] place e stands = none_some stands
-called_at (entry ∷ history) zero e stands = (entry, refl, some_is stands)
+called_at (entry ∷ history) zero e stands = (entry, refl, some_same stands)
 called_at (entry ∷ history) (suc place) e stands = called_at history place e stands
 
 taken_length : (history : List Entry) (place : ℕ) (entry : Entry) → slice_get history place ≡ Some entry → length (take place history) ≡ place

@@ -16,7 +16,10 @@ use Rattle.sfs_tree.proofs.KeepsMoves.{IsSound-moves}
 use Rattle.sfs_tree.proofs.KeepsNodes.{directory_node, node_cases}
 use Rattle.flush_core.specs.Cut.{with_own}
 use Rattle.flush_core.specs.Rules.{IsOneOf}
-use Rattle.flush_core.proofs.Basics.{below_or, both, filter_all, filter_none, no_less, not_below, not_none}
+use Rattle.flush_core.proofs.Basics.{below_or, filter_all, filter_none}
+use Rattle.sfs_base.proofs.BasicOptions.{some_is_no_none}
+use Rattle.sfs_base.proofs.BasicNumbers.{not_less, not_below}
+use Rattle.sfs_base.proofs.BasicTruth.{not_both}
 use Rattle.flush_core.proofs.Own.{folds, stamp_of, sides, comes_in, replaced_in}
 use Rattle.flush_core.proofs.Nodes.{node_stays}
 use Rattle.flush_core.proofs.Runs.{Run, Made, IsLast, Keeps, Seen, below_cut}
@@ -75,14 +78,14 @@ module _ (r : Run) (cut : ℕ → ℕ) (s : Seen r cut) (keeps : Keeps r cut) (w
     holder = may_hold t d f.holder (added t d n c None) (made t (Adds d n c) (added t d n c None) e (inl refl)) refl lt;
     free = ahead r cut s t d n (omega arith) ∙ f.free;
     no_root = f.no_root;
-    placeless = λ kind. absurd (both (kind_was t c f.node kind) (r.files t d n c e mk));
+    placeless = λ kind. absurd (not_both (kind_was t c f.node kind) (r.files t d n c e mk));
     node = nodes.node t c f.node;
   }
   adds_seen t d n c (Some kind) e mk f lt = record {
     holder = may_hold t d f.holder (added t d n c None) (made t (Adds d n c) (added t d n c None) e (inl refl)) refl lt;
     free = ahead r cut s t d n (omega arith) ∙ f.free;
-    no_root = λ root. not_none (directory_node (r.tree t) 0 (r.sound t).root) (ap (get (r.tree t).nodes) (sym root) ∙ f.fresh);
-    placeless = λ dir k m row. not_none (node_seen t k m c row) f.fresh;
+    no_root = λ root. some_is_no_none (directory_node (r.tree t) 0 (r.sound t).root) (ap (get (r.tree t).nodes) (sym root) ∙ f.fresh);
+    placeless = λ dir k m row. some_is_no_none (node_seen t k m c row) f.fresh;
     node = nodes.node (suc t) c (subst (λ (tree : TreeState). IsSome (get tree.nodes c)) (sym (r.next t ∙ ap (λ (g : Effect). tree_with (r.tree t) (r.core t) g (r.makes t)) e ∙ ap (tree_with (r.tree t) (r.core t) (Adds d n c)) mk)) (elim (node_cases (r.tree t).nodes (next_number (r.tree t) (r.core t)) (record { kind = kind; bytes = [] }) c) [
       | inl here ↦ rw here.1 refl
       | inr other ↦ absurd (other.0 f.number)
@@ -168,7 +171,7 @@ module _ (r : Run) (cut : ℕ → ℕ) (s : Seen r cut) (keeps : Keeps r cut) (w
     | inr le ↦ spared t (Moves p n q m c) sound (λ y one. elim (sides (r.tree t) t p n q m c y one) [
       | inl same ↦ rw same le
       | inr same ↦ subst (λ (k : ℕ). cut k ≤ t) (sym same) (elim (below_or t (cut q)) [
-        | inl lq ↦ absurd (no_less (first_end r cut s keeps t p n q m c e lq) le)
+        | inl lq ↦ absurd (not_less (first_end r cut s keeps t p n q m c e lq) le)
         | inr above ↦ above
       ])
     ])

@@ -4,7 +4,7 @@ use Rattle.std.proofs.lemmas.List.{take_all}
 use Rattle.flush_core.specs.declared.sets.NodeSet.{NodeSet}
 use Rattle.flush_core.specs.NodeSets.{has_node, with_member}
 use Rattle.flush_core.specs.Engine.{OfSome, Joins}
-use Rattle.flush_core.proofs.Basics.{both}
+use Rattle.sfs_base.proofs.BasicTruth.{not_both}
 use Rattle.flush_core.proofs.Listed.{one_more, still_one, next_one}
 use Rattle.flush_core.proofs.Marks.{with_in, with_kept, with_cases}
 
@@ -51,4 +51,4 @@ join_none More set joined same none x = (λ has. inl (sym (same x) ∙ has), λ 
 pub gather_alone : {X : Type 0} (BringsIn : X → ℕ → Type 0) (xs : List X) (i : ℕ) (start set : NodeSet) → length xs ≤ i → ((node : ℕ) → has_node start node ≡ false) → Joins (OfSome (take i xs) BringsIn) start set → (node : ℕ) → (has_node set node ≡ true) ↔ OfSome xs BringsIn node
 gather_alone BringsIn xs i start set le none joins node =
     let all = gather_all BringsIn xs i start set le joins in
-    (λ has. elim ((all node).0 has) [ inl own ↦ absurd (both own (none node)) | inr some ↦ some ], λ some. (all node).1 (inr some))
+    (λ has. elim ((all node).0 has) [ inl own ↦ absurd (not_both own (none node)) | inr some ↦ some ], λ some. (all node).1 (inr some))

@@ -9,7 +9,7 @@ use Rattle.sfs_tree.specs.History.{tree_after, IsLegal}
 use Rattle.sfs_tree.specs.Laws.{IsSoundTree}
 use Rattle.flush_core.specs.Cut.{Cut, cut_of, is_within, rows_at_cut}
 use Rattle.flush_core.specs.Rules.{IsChange, IsLastPlacing, IsClosed}
-use Rattle.flush_core.specs.Closure.{every_entry, Flush, AreInodesAfter, AreRaised, none, one_more, IsNamedIn, IsReached, KeepsCut, AreBorn}
+use Rattle.flush_core.specs.Closure.{every_entry, Flush, AreInodesAfter, AreRaised, none, one_more, IsReached, KeepsCut, AreBorn}
 use Rattle.flush_core.proofs.Basics.{below_or}
 use Rattle.flush_core.proofs.Runs.{Run}
 use Rattle.flush_core.proofs.Along.{made_at, node_first, nodes_at, run_of, tree_at, tree_at-after}
@@ -19,7 +19,7 @@ use Rattle.flush_core.proofs.Covered.{from_rows}
 use Rattle.flush_core.proofs.Children.{child_node}
 use Rattle.flush_core.proofs.Prefix.{change_whole, change_prefix, birth_prefix, kind_whole, counted_rows-take}
 use Rattle.flush_core.proofs.Prefixes.{move_prefix, same_tree}
-use Rattle.flush_core.proofs.Views.{below}
+use Rattle.flush_core.proofs.Views.{below, IsHeld}
 use Rattle.flush_core.proofs.Recount.{counted_rows-low}
 use Rattle.flush_core.proofs.NamedKept.{named_after}
 
@@ -119,16 +119,17 @@ rows_at_cut-take first history n cut legal low = counted_rows-take first history
 
 -- what any fsyncs keep
 pub record IsKeptWell (first : TreeState) (history : List Entry) (cut : Cut) (inodes : ℕ → Bool) : Type 0 where
-  pub kept : KeepsCut first history cut inodes
+  pub held : IsHeld first history cut inodes
   pub nodes : AreNodes first history inodes
-  pub named : (node : ℕ) → IsNamedIn (rows_at_cut first history cut) node → inodes node ≡ true
 
 pub flushes_keep : (first : TreeState) (history : List Entry) → IsSoundTree first → IsLegal first history → {cut : Cut} {inodes : ℕ → Bool} {flushes : List Flush} {raised : Cut} {after : ℕ → Bool} → AreRaised first history every_entry cut inodes flushes raised after → IsKeptWell first history cut inodes → IsKeptWell first history raised after
 flushes_keep first history is legal none was = was
 flushes_keep first history is legal (one_more flushes flush before raised inodes_before after earlier raise sets) was =
     let now = flushes_keep first history is legal earlier was in
     record {
-      kept = fsyncs_keep first history before raised inodes_before after flush is legal now.kept raise sets;
       nodes = nodes_raised first history is legal before inodes_before flush raised after sets now.nodes;
-      named = named_after first history every_entry flush before raised inodes_before is legal (λ t lt. refl) raise after sets (λ node row. row) now.named;
+      held = record {
+        kept = fsyncs_keep first history before raised inodes_before after flush is legal now.held.kept raise sets;
+        named = named_after first history every_entry flush before raised inodes_before is legal (λ t lt. refl) raise after sets (λ node row. row) now.held.named;
+      };
     }

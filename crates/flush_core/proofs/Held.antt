@@ -25,7 +25,7 @@ use Rattle.flush_core.proofs.RaisesHold.{raises_hold}
 
 -- at the cut 0, with the nodes of the first tree, it is held
 pub first_held : (first : TreeState) (history : List Entry) → IsSoundTree first → IsLegal first history → IsHeld first history empty (λ node. is_some (get first.nodes node))
-first_held first history is legal = let all = first_kept_well first history is legal in record { kept = all.kept; named = all.named }
+first_held first history is legal = (first_kept_well first history is legal).held
 
 -- fsyncs of the first entries keep it over the whole history
 pub flushes_hold : (first : TreeState) (history : List Entry) (n : ℕ) → IsSoundTree first → IsLegal first history → n ≤ length history → {cut : Cut} {inodes : ℕ → Bool} {flushes : List Flush} {raised : Cut} {after : ℕ → Bool} → AreRaised first (take n history) every_entry cut inodes flushes raised after
@@ -48,9 +48,6 @@ module _ (first : TreeState) (events : List Event) (states : ℕ → MachineStat
   abbrev pub whole : List Entry
   whole = (states last).history
 
-  abbrev count : ℕ → ℕ
-  count place = length (states place).history
-
   prefix_at : (place : ℕ) → place ≤ last → IsPrefix (states place).history whole
   prefix_at place le = prefix_later first events states run place last le within
 
@@ -58,9 +55,9 @@ module _ (first : TreeState) (events : List Event) (states : ℕ → MachineStat
   legal_whole = (steady_at first events states run last within).legal
 
   -- what is alive after some entries of a state's history is so after those of the whole
-  pub live_whole : (place : ℕ) → place ≤ last → (flush : Flush) → flush.stamp ≤ count place → is_alive (tree_after first (take flush.stamp (states place).history)) flush.node ≡ true → HasLiveNode first whole flush
+  pub live_whole : (place : ℕ) → place ≤ last → (flush : Flush) → flush.stamp ≤ length (states place).history → is_alive (tree_after first (take flush.stamp (states place).history)) flush.node ≡ true → HasLiveNode first whole flush
   live_whole place le flush low live =
-      rw (ap (take flush.stamp) (sym (prefix_at place le).first_part) ∙ take_take whole flush.stamp (count place) low) at live
+      rw (ap (take flush.stamp) (sym (prefix_at place le).first_part) ∙ take_take whole flush.stamp (length (states place).history) low) at live
 
   abbrev AreLive : MachineState → Type 0
   AreLive state = (flight : Flight) → IsOneOf state.flights flight → HasLiveNode first whole flight.flush
@@ -84,7 +81,7 @@ module _ (first : TreeState) (events : List Event) (states : ℕ → MachineStat
           new_one : IsOneOf (states (suc place)).flights takes.moves.0
           new_one = rw takes.moves.2 (in_right (states place).flights (takes.moves.0 ∷ []) takes.moves.0 (inl refl))
 
-          low : stamp.0 ≤ count place
+          low : stamp.0 ≤ length (states place).history
           low = rw takes.moves.2 at (rw takes.moves.1.own at (steady.stamps takes.moves.0 new_one))
   live_step place (event.Opened commit) le stands takes steady was =
       subst AreLive (sym takes.moves) (λ flight one. let from = from_map (opened_for commit) (states place).flights flight one in subst (λ (f : Flight). HasLiveNode first whole f.flush) from.2 (was from.0 from.1))
@@ -106,7 +103,7 @@ module _ (first : TreeState) (events : List Event) (states : ℕ → MachineStat
       → IsHeld first whole cut inodes
   flights_hold place le {flushes} {cut} {inodes} raised from held =
       let steady = steady_at first events states run place (omega arith) in
-      flushes_hold first whole (count place) is legal_whole (prefix_at place le).shorter (rw (prefix_at place le).first_part raised) steady.cuts (λ flush one. let f = from flush one in rw f.2 at (steady.stamps f.0 f.1))
+      flushes_hold first whole (length (states place).history) is legal_whole (prefix_at place le).shorter (rw (prefix_at place le).first_part raised) steady.cuts (λ flush one. let f = from flush one in rw f.2 at (steady.stamps f.0 f.1))
       (λ flush one. let f = from flush one in rw f.2 at (flights_live place le f.0 f.1)) held
 
   abbrev IsHeldIn : MachineState → Type 0

@@ -10,7 +10,7 @@ use Rattle.flush_core.specs.Rules.{IsOneOf}
 use Rattle.flush_core.specs.Machine.{Flight}
 use Rattle.flush_core.specs.Flights.{flight_as}
 use Rattle.flush_core.specs.State.{kept_flushes}
-use Rattle.flush_core.proofs.Basics.{both}
+use Rattle.sfs_base.proofs.BasicTruth.{not_both}
 
 -- whether a flight's commit is listed
 abbrev pub is_kept : List ℕ → Flight → Bool
@@ -41,6 +41,6 @@ listed_one (n ∷ numbers) number e = elim (nat_eq n number) as (λ b. nat_eq n 
 pub not_listed : (numbers : List ℕ) (number : ℕ) → list_any (λ n. nat_eq n number) numbers ≡ false → IsOneOf numbers number → ⊥
 not_listed [] number e one = one
 not_listed (n ∷ numbers) number e one = elim (nat_eq n number) as (λ b. nat_eq n number ≡ b → (b || list_any (λ m. nat_eq m number) numbers) ≡ false → ⊥) [
-  | true ↦ λ _ f. both refl f
+  | true ↦ λ _ f. not_both refl f
   | false ↦ λ t rest. elim one [ inl same ↦ eqb-false _ _ t same | inr later ↦ not_listed numbers number rest later ]
 ] refl e

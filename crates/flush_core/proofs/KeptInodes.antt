@@ -14,7 +14,9 @@ use Rattle.flush_core.specs.Cut.{Cut, cut_of, IsWithin, is_within, rows_at_cut}
 use Rattle.flush_core.specs.Rules.{IsChange}
 use Rattle.flush_core.specs.Closure.{every_entry, Flush, IsConcerned, member, itself, IsNamedIn, IsRaised, IsReached, IsDead, AreInodesAfter, KeepsCut, none, one_more, AreFlushed}
 use Rattle.flush_core.specs.LawsInodes.{OthersStay, StaysAsItWas, IsNeverNamed, NoneIsDead, DirectoriesAreNamed, DirectoriesStayNamed, FilesSettle}
-use Rattle.flush_core.proofs.Basics.{below_or, both, no_less, not_below}
+use Rattle.flush_core.proofs.Basics.{below_or}
+use Rattle.sfs_base.proofs.BasicNumbers.{not_less, not_below}
+use Rattle.sfs_base.proofs.BasicTruth.{not_both}
 use Rattle.flush_core.proofs.Own.{skip}
 use Rattle.flush_core.proofs.Runs.{Run}
 use Rattle.flush_core.proofs.Raises.{cuts_rise}
@@ -79,7 +81,7 @@ module _ (first : TreeState) (history : List Entry) (cut raised : Cut) (inodes a
 
   -- a node that keeps its inode and is dead is not concerned
   unconcerned : (node : ℕ) → inodes node ≡ true → after node ≡ true → IsDead first history every_entry raised node → IsConcernedHere node → ⊥
-  unconcerned node had has dead concerned = both has ((sets.leaves node had).1 (concerned, dead))
+  unconcerned node had has dead concerned = not_both has ((sets.leaves node had).1 (concerned, dead))
 
   -- one that enters is not dead
   pub entered_lives : (node : ℕ) → inodes node ≡ false → after node ≡ true → IsDead first history every_entry raised node → ⊥
@@ -88,7 +90,7 @@ module _ (first : TreeState) (history : List Entry) (cut raised : Cut) (inodes a
     | inr file ↦
         let naming = file.2 in
         let within = dead.flushed naming.change naming.is_change naming.counted naming.child in
-        no_less within naming.unflushed
+        not_less within naming.unflushed
   ]
 
   -- what is dead stays dead
@@ -100,7 +102,7 @@ module _ (first : TreeState) (history : List Entry) (cut raised : Cut) (inodes a
       | inr b ↦
           let change = between_change first history every_entry flush cut raised inodes is legal (λ t lt. refl) raise node b in
           let within = dead.flushed b.change change.0 refl b.child in
-          no_less within change.1
+          not_less within change.1
     ];
     flushed = λ change one counted child. still_within change (dead.flushed change one counted child);
   }
@@ -114,13 +116,13 @@ module _ (first : TreeState) (history : List Entry) (cut raised : Cut) (inodes a
     ] refl
     | false ↦ λ lacked. elim (after flush.node) as (λ b. after flush.node ≡ b → (b ≡ true) ⊎ IsDead first history every_entry raised flush.node) [
       | true ↦ λ _. inl refl
-      | false ↦ λ lacks. inr (unreached (λ reached. both ((sets.enters flush.node lacked).1 (member flush.node itself, reached)) lacks))
+      | false ↦ λ lacks. inr (unreached (λ reached. not_both ((sets.enters flush.node lacked).1 (member flush.node itself, reached)) lacks))
     ] refl
   ] refl
     where
       unreached : (IsReached first history every_entry flush raised flush.node → ⊥) → IsDead first history every_entry raised flush.node
       unreached none_reached = record {
-        no_root = λ root. both (root_directory first history is legal) (rw root at file);
+        no_root = λ root. not_both (root_directory first history is legal) (rw root at file);
         unnamed = λ named. none_reached (inl named);
         flushed = λ change one counted child. elim (below_or change.stamp (cut_of raised change.directory)) [
           | inl lt ↦ lt

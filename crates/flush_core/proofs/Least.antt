@@ -6,7 +6,8 @@ use Rattle.flush_core.specs.NodeSets.{has_node}
 use Rattle.flush_core.specs.Machine.{Flight}
 use Rattle.flush_core.specs.Rules.{IsOneOf}
 use Rattle.flush_core.specs.Flights.{IsTaken, lesser_of, IsLeastTaken}
-use Rattle.flush_core.proofs.Basics.{in_either, in_left, in_right, le_of, none_some, some_is}
+use Rattle.flush_core.proofs.Basics.{in_either, in_left, in_right, le_of, none_some}
+use Rattle.sfs_base.proofs.BasicOptions.{some_same}
 
 pub record IsLeastOf (flights : List Flight) (nodes : List ℕ) (least : Option ℕ) : Type 0 where
   pub is_in : (node : ℕ) → least ≡ Some node → IsOneOf nodes node
@@ -43,11 +44,11 @@ least_passed flights nodes node least is free = record {
 module _ (flights : List Flight) (nodes : List ℕ) (node : ℕ) (taken : IsTaken flights node) where
   first_one : IsLeastOf flights nodes None → IsLeastOf flights (nodes ++ node ∷ []) (Some node)
   first_one is = record {
-    is_in = λ n e. in_right nodes (node ∷ []) n (inl (some_is e));
-    taken = λ n e. rw (some_is e) at taken;
+    is_in = λ n e. in_right nodes (node ∷ []) n (inl (some_same e));
+    taken = λ n e. rw (some_same e) at taken;
     least_of = λ n other e one theirs. elim (in_either nodes (node ∷ []) other one) [
       | inl old ↦ absurd (is.none other refl old theirs)
-      | inr new ↦ elim new [ inl same ↦ le_of (sym (some_is e) ∙ same) | inr nothing ↦ absurd nothing ]
+      | inr new ↦ elim new [ inl same ↦ le_of (sym (some_same e) ∙ same) | inr nothing ↦ absurd nothing ]
     ];
     none = λ other e one theirs. some_no e;
   }
@@ -58,7 +59,7 @@ module _ (flights : List Flight) (nodes : List ℕ) (node : ℕ) (taken : IsTake
     taken = is.taken;
     least_of = λ n third e one theirs. elim (in_either nodes (node ∷ []) third one) [
       | inl old ↦ is.least_of n third e old theirs
-      | inr new ↦ elim new [ inl same ↦ below (some_is e) same | inr nothing ↦ absurd nothing ]
+      | inr new ↦ elim new [ inl same ↦ below (some_same e) same | inr nothing ↦ absurd nothing ]
     ];
     none = λ third e one theirs. some_no e;
   }
@@ -68,11 +69,11 @@ module _ (flights : List Flight) (nodes : List ℕ) (node : ℕ) (taken : IsTake
 
   less_now : (other : ℕ) → node ≤ other → IsLeastOf flights nodes (Some other) → IsLeastOf flights (nodes ++ node ∷ []) (Some node)
   less_now other le is = record {
-    is_in = λ n e. in_right nodes (node ∷ []) n (inl (some_is e));
-    taken = λ n e. rw (some_is e) at taken;
+    is_in = λ n e. in_right nodes (node ∷ []) n (inl (some_same e));
+    taken = λ n e. rw (some_same e) at taken;
     least_of = λ n third e one theirs. elim (in_either nodes (node ∷ []) third one) [
-      | inl old ↦ low (some_is e) (is.least_of other third refl old theirs)
-      | inr new ↦ elim new [ inl same ↦ le_of (sym (some_is e) ∙ same) | inr nothing ↦ absurd nothing ]
+      | inl old ↦ low (some_same e) (is.least_of other third refl old theirs)
+      | inr new ↦ elim new [ inl same ↦ le_of (sym (some_same e) ∙ same) | inr nothing ↦ absurd nothing ]
     ];
     none = λ third e one theirs. some_no e;
   }

@@ -13,7 +13,8 @@ use Rattle.flush_core.specs.Rules.{IsClosed, IsOneOf}
 use Rattle.flush_core.specs.Covers.{ArePlaced, IsCovered}
 use Rattle.flush_core.specs.Closure.{every_entry, Flush, HasNode, IsNamedIn, AreFlushed, none, one_more, KeepsCut}
 use Rattle.flush_core.specs.Laws.{HistoriesAreCovered, ListsCover, ListsKeep}
-use Rattle.flush_core.proofs.Basics.{if_some, in_either, in_left, in_right, some_if}
+use Rattle.flush_core.proofs.Basics.{in_either, in_left, in_right, some_if}
+use Rattle.sfs_base.proofs.BasicOptions.{some_true}
 use Rattle.flush_core.proofs.Along.{node_first, run_of, first_nodes}
 use Rattle.flush_core.proofs.Covered.{from_rows, fsyncs_cover}
 use Rattle.flush_core.proofs.Closed.{closed_cuts_are_sound}
@@ -53,20 +54,19 @@ first_row first history node row = elim (from_rows (is_within empty) _ row.direc
 
 -- so what it names is a node of that
 first_named : (first : TreeState) (history : List Entry) → IsSoundTree first → (node : ℕ) → IsNamedIn (rows_at_cut first history empty) node → is_some (get first.nodes node) ≡ true
-first_named first history is node named = let row = first_row first history node named in if_some (get first.nodes node) (is.sound.node row.directory row.name node row.row)
+first_named first history is node named = let row = first_row first history node named in some_true (get first.nodes node) (is.sound.node row.directory row.name node row.row)
 
 -- at the cut 0, with the nodes of the first tree, all is kept
 pub first_kept_well : (first : TreeState) (history : List Entry) → IsSoundTree first → IsLegal first history → IsKeptWell first history empty (λ node. is_some (get first.nodes node))
 first_kept_well first history is legal = record {
-  kept = first_kept first history (λ node. is_some (get first.nodes node)) is legal (λ _. refl);
   nodes = λ node has. (first_nodes first history 0 is legal node (some_if (get first.nodes node) has)).0;
-  named = first_named first history is;
+  held = record { kept = first_kept first history (λ node. is_some (get first.nodes node)) is legal (λ _. refl); named = first_named first history is };
 }
 
 pub lists_keep : ListsKeep
 lists_keep first history flushes cut inodes is legal flushed =
     let all = flushes_keep first history is legal flushed (first_kept_well first history is legal) in
-    record { kept = all.kept; sound = closed_cuts_are_sound first history cut is legal all.kept.closed; named = all.named; nodes = all.nodes }
+    record { kept = all.held.kept; sound = closed_cuts_are_sound first history cut is legal all.held.kept.closed; named = all.held.named; nodes = all.nodes }
 
 first_placed : (first : TreeState) (history : List Entry) (inodes : ℕ → Bool) → IsSoundTree first → IsLegal first history → ((node : ℕ) → inodes node ≡ is_some (get first.nodes node)) → ArePlaced first history empty inodes
 first_placed first history inodes is legal same birth one has =

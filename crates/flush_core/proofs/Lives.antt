@@ -10,7 +10,10 @@ use Rattle.sfs_tree.specs.Fits.{Fits}
 use Rattle.sfs_tree.proofs.RowFacts.{IsNamed, alive_named, added_cases, removed_cases, some_not_none}
 use Rattle.sfs_tree.proofs.KeepsNodes.{directory_node, node_cases}
 use Rattle.flush_core.specs.Rules.{IsOneOf}
-use Rattle.flush_core.proofs.Basics.{below_or, both, is_equal, is_next, none_below, not_none}
+use Rattle.flush_core.proofs.Basics.{below_or, is_next, none_below}
+use Rattle.sfs_base.proofs.BasicOptions.{some_is_no_none}
+use Rattle.sfs_base.proofs.BasicNumbers.{from_both_le}
+use Rattle.sfs_base.proofs.BasicTruth.{not_both}
 use Rattle.flush_core.proofs.Own.{sides}
 use Rattle.flush_core.proofs.Nodes.{node_stays}
 use Rattle.flush_core.proofs.Placed.{named_before}
@@ -18,7 +21,7 @@ use Rattle.flush_core.proofs.Runs.{Run, Made, Keeps, Seen}
 use Rattle.flush_core.proofs.Seen.{ahead, behind, first_end}
 
 no_end : {P : Type 0} (x y : RowChange) → x ≡ y → y.ends ≡ true → x.ends ≡ false → P
-no_end x y e ends not = absurd (both (ap (λ (z : RowChange). z.ends) e ∙ ends) not)
+no_end x y e ends not = absurd (not_both (ap (λ (z : RowChange). z.ends) e ∙ ends) not)
 
 -- a live directory
 pub record IsLive (tree : TreeState) (directory : ℕ) : Type 0 where
@@ -117,7 +120,7 @@ module _ (tree : TreeState) (core t : ℕ) (s : IsSound tree) where
   came_from (Edits file edit) None f files h k x kind row = before row
   came_from (Removes d n c) None f files h k x kind row = before (removed_cases tree.rows h d k n x row).1
   came_from (Adds d n c) None f files h k x kind row = elim (added_cases tree.rows h d k n c x row) [
-    | inl new ↦ absurd (both (rw new.2 at kind) (files d n c refl refl))
+    | inl new ↦ absurd (not_both (rw new.2 at kind) (files d n c refl refl))
     | inr old ↦ before old.1
   ]
   came_from (Adds d n c) (Some mk) f files h k x kind row = elim (added_cases tree.rows h d k n c x row) [
@@ -174,7 +177,7 @@ module _ (r : Run) where
   fits_made b d n x kind adds makes = rw makes at (rw adds at (r.fits b))
 
   pub no_node_yet : (b d : ℕ) (n : List ℕ) (x : ℕ) (kind : Kind) → r.effect b ≡ Adds d n x → r.makes b ≡ Some kind → (u : ℕ) → u ≤ b → IsSome (get (r.tree u).nodes x) → ⊥
-  no_node_yet b d n x kind adds makes u le some = not_none (later u b x le some) (made_fresh (r.tree b) (r.core b) d n x kind (fits_made b d n x kind adds makes))
+  no_node_yet b d n x kind adds makes u le some = some_is_no_none (later u b x le some) (made_fresh (r.tree b) (r.core b) d n x kind (fits_made b d n x kind adds makes))
 
   pub is_node_now : (b d : ℕ) (n : List ℕ) (x : ℕ) (kind : Kind) → r.effect b ≡ Adds d n x → r.makes b ≡ Some kind → IsSome (get (r.tree (suc b)).nodes x)
   is_node_now b d n x kind adds makes =
@@ -217,7 +220,7 @@ module _ (r : Run) where
         | inl root ↦ (r.sound t).unnamed x.directory x.name (ended.row ∙ ap Some root)
         | inr named ↦ stays_gone (suc t) x.child after gone u (next_below t u lt) (rw same at live.kind) named
       ]
-      | inr ge ↦ ended.others own (rw (is_equal u t le ge) at change) same
+      | inr ge ↦ ended.others own (rw (from_both_le u t le ge) at change) same
     ])
   ]
     where

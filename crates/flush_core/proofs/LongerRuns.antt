@@ -14,7 +14,10 @@ use Rattle.flush_core.specs.Rules.{IsOneOf}
 use Rattle.flush_core.specs.Closure.{every_entry, Flush, IsRaised, AreInodesAfter, none, one_more}
 use Rattle.flush_core.specs.Machine.{Flight, MachineState, is_flying, is_opened, flight_of, Refuses, BeginsFlight, IsRaisedBy, Accepts}
 use Rattle.flush_core.specs.LawsRuns.{AllAreTied, EmptyRuns, then_state, RunsLengthen, MayCommit, with_flight, committed, CommitsAreAccepted}
-use Rattle.flush_core.proofs.Basics.{both, no_less, no_true, none_some, not_below, some_is}
+use Rattle.flush_core.proofs.Basics.{no_true, none_some}
+use Rattle.sfs_base.proofs.BasicOptions.{some_same}
+use Rattle.sfs_base.proofs.BasicNumbers.{not_less, not_below}
+use Rattle.sfs_base.proofs.BasicTruth.{not_both}
 
 pub all_are_tied : AllAreTied
 all_are_tied first events states commit flush = record {
@@ -27,7 +30,7 @@ empty_runs first = record { begins = refl; steps = λ place e stands. none_some 
 
 -- what stands in a list with one more is one of it, or that one
 stands_or_last : {X : Type 0} (xs : List X) (x : X) (place : ℕ) (y : X) → slice_get (xs ++ x ∷ []) place ≡ Some y → ((place < length xs) × (slice_get xs place ≡ Some y)) ⊎ ((place ≡ length xs) × (x ≡ y))
-stands_or_last [] x zero y stands = inr (refl, some_is stands)
+stands_or_last [] x zero y stands = inr (refl, some_same stands)
 stands_or_last [] x (suc place) y stands = none_some stands
 stands_or_last (z ∷ xs) x zero y stands = inl (omega arith, stands)
 stands_or_last (z ∷ xs) x (suc place) y stands = elim (stands_or_last xs x place y stands) [
@@ -96,13 +99,13 @@ module _ (state : MachineState) (commit : ℕ) (node : NodeId) (stamp : Stamp) (
   no_flight other one = rw may.flights at one
 
   begin_free : (why : Refused) → Refuses state (event.CutAt commit node stamp) why → ⊥
-  begin_free refused.Crashed r = both r may.goes
+  begin_free refused.Crashed r = not_both r may.goes
   begin_free (refused.NotNext want) r = absurd r
   begin_free (refused.NotLegal reply) r = absurd r
   begin_free (refused.Stopped other) r = not_failed r.1
   begin_free (refused.Used other) r = may.number r.0
   begin_free (refused.Meets met) r = no_flight r.0.flight r.0.flies
-  begin_free (refused.Late late) r = let lt = r.0 in let le = may.low in no_less lt le
+  begin_free (refused.Late late) r = let lt = r.0 in let le = may.low in not_less lt le
   begin_free (refused.NotFlying other) r = none_some r
   begin_free (refused.NotOpened other) r = none_some r.1
   begin_free (refused.AlreadyOpened other) r = absurd r
@@ -119,7 +122,7 @@ module _ (state : MachineState) (commit : ℕ) (node : NodeId) (stamp : Stamp) (
   }
 
   open_free : (why : Refused) → Refuses (now false) (event.Opened commit) why → ⊥
-  open_free refused.Crashed r = both r may.goes
+  open_free refused.Crashed r = not_both r may.goes
   open_free (refused.NotNext want) r = absurd r
   open_free (refused.NotLegal reply) r = absurd r
   open_free (refused.Stopped other) r = not_failed r.1
@@ -128,14 +131,14 @@ module _ (state : MachineState) (commit : ℕ) (node : NodeId) (stamp : Stamp) (
   open_free (refused.Late late) r = absurd r
   open_free (refused.NotFlying other) r = none_found (is_flying (now false) commit) (flies false) r
   open_free (refused.NotOpened other) r = no_true r.0
-  open_free (refused.AlreadyOpened other) r = both r.0 (opened_is false)
+  open_free (refused.AlreadyOpened other) r = not_both r.0 (opened_is false)
   open_free refused.NoMemory r = absurd r
 
   opens_there : Accepts (now false) (event.Opened commit) (now true)
   opens_there = record { free = open_free; moves = ap now (sym same) }
 
   end_free : (why : Refused) → Refuses (now true) (event.Durable commit) why → ⊥
-  end_free refused.Crashed r = both r may.goes
+  end_free refused.Crashed r = not_both r may.goes
   end_free (refused.NotNext want) r = absurd r
   end_free (refused.NotLegal reply) r = absurd r
   end_free (refused.Stopped other) r = not_failed r.1

@@ -3,7 +3,8 @@ use Rattle.std.proofs.Common.{◌≡◌, ◌≢◌, ℕ, zero, suc, ◌+◌, ◌
 use borrow.Author.Tests.{eqb-true, eqb-false, eq-eqb}
 use Rattle.flush_core.specs.NodeSets.{with_member}
 use Rattle.flush_core.specs.Rules.{IsOneOf}
-use Rattle.flush_core.proofs.Basics.{both, in_either, in_left, in_right}
+use Rattle.flush_core.proofs.Basics.{in_either, in_left, in_right}
+use Rattle.sfs_base.proofs.BasicTruth.{not_both}
 
 -- a list has the marked places below this one
 abbrev pub AreMarkedBelow : List Bool → ℕ → List ℕ → Type 0
@@ -32,7 +33,7 @@ marked_skip marks place list below mark node = (
   λ one. let h = (below node).0 one in (let lt = h.0 in omega arith, h.1),
   λ (lt, is). elim (same_or_below node place lt) [
     | inl less ↦ (below node).1 (less, is)
-    | inr e ↦ absurd (both is (ap (λ k. get_or marks k false) (sym e) ∙ mark))
+    | inr e ↦ absurd (not_both is (ap (λ k. get_or marks k false) (sym e) ∙ mark))
   ],
 )
 
@@ -57,7 +58,7 @@ with_cases node x nodes = elim (nat_eq x node) as (λ b. nat_eq x node ≡ b →
 
 -- a place with a mark is one of the places
 pub marked_within : (marks : List Bool) (node : ℕ) → get_or marks node false ≡ true → node < length marks
-marked_within [] node mark = absurd (both mark refl)
+marked_within [] node mark = absurd (not_both mark refl)
 marked_within (m ∷ marks) zero mark = omega arith
 marked_within (m ∷ marks) (suc node) mark = let h = marked_within marks node mark in omega arith
 

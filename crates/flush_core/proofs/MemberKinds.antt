@@ -12,7 +12,7 @@ use Rattle.flush_core.specs.Rules.{IsOneOf, IsChange, Birth, births_of}
 use Rattle.flush_core.specs.Closure as closure
 use Rattle.flush_core.specs.Closure.{Counts, Flush, Closure, IsConcerned}
 use Rattle.flush_core.specs.LawsInodes.{MembersAreDirectories, FilesFlushThemselves}
-use Rattle.flush_core.proofs.Basics.{both}
+use Rattle.sfs_base.proofs.BasicTruth.{not_both}
 use Rattle.flush_core.proofs.Runs.{Run, Made}
 use Rattle.flush_core.proofs.Along.{effect_at, made_at, nodes_at, run_of, sound_at, tree_at, tree_at-after, tree_at-first}
 use Rattle.flush_core.proofs.Lives.{live_at, ended_at}
@@ -68,14 +68,14 @@ module _ (first : TreeState) (history : List Entry) (is : IsSoundTree first) (le
     -- a file with an inode is the one member of its own fsync, and concerns no other node
     module _ (file : is_directory (tree_after first history) flush.node ≡ false) (has : inodes flush.node ≡ true) where
       no_change : (change : RowChange) → IsChange first history change → change.directory ≡ flush.node → ⊥
-      no_change change one same = both (rw same at (own_directory change.stamp change (made_at first history is legal change one))) file
+      no_change change one same = not_both (rw same at (own_directory change.stamp change (made_at first history is legal change one))) file
 
       pub member_alone : {node : ℕ} → Closure first history counts cut inodes flush node → node ≡ flush.node
       member_alone closure.itself = refl
       member_alone (closure.other_side change other own span two) = absurd (no_change change span.is_change (member_alone own))
       member_alone (closure.ended change own span ends) = absurd (no_change change span.is_change (member_alone own))
       member_alone (closure.ancestor change above node own span move way among) = absurd (no_change change span.is_change (member_alone own))
-      member_alone (closure.birth_place birth own one none naming) = absurd (both (rw (member_alone own) has) none)
+      member_alone (closure.birth_place birth own one none naming) = absurd (not_both (rw (member_alone own) has) none)
 
       pub concerned_alone : (node : ℕ) → IsConcerned first history counts cut inodes flush node → node ≡ flush.node
       concerned_alone node (closure.member _ own) = member_alone own

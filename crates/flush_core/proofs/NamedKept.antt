@@ -10,7 +10,9 @@ use Rattle.sfs_tree.specs.Laws.{IsSoundTree}
 use Rattle.flush_core.specs.Cut.{Cut, cut_of, rows_at_cut, counted_rows_at_cut}
 use Rattle.flush_core.specs.Rules.{IsChange}
 use Rattle.flush_core.specs.Closure.{Counts, Flush, Closure, IsConcerned, named, IsNamedIn, IsRaised, AreInodesAfter}
-use Rattle.flush_core.proofs.Basics.{below_or, both, no_less}
+use Rattle.flush_core.proofs.Basics.{below_or}
+use Rattle.sfs_base.proofs.BasicNumbers.{not_less}
+use Rattle.sfs_base.proofs.BasicTruth.{not_both}
 use Rattle.flush_core.proofs.Own.{stamp_of}
 use Rattle.flush_core.proofs.Raises.{cuts_rise, was_or_spanned}
 use Rattle.flush_core.proofs.Runs.{Run, Made, Seen}
@@ -86,7 +88,7 @@ module _ (first : TreeState) (history : List Entry) (counts : Counts) (flush : F
 
   -- a stamp from a cut to below the raised one is in a member's span
   in_span : (d t : ℕ) → cut_of cut d ≤ t → t < cut_of raised d → IsMember d × (t < flush.stamp)
-  in_span d t from lt = elim (was_or_spanned first history counts cut inodes flush raised raise t d lt) [ inl less ↦ absurd (no_less less from) | inr spanned ↦ (spanned.0, spanned.2) ]
+  in_span d t from lt = elim (was_or_spanned first history counts cut inodes flush raised raise t d lt) [ inl less ↦ absurd (not_less less from) | inr spanned ↦ (spanned.0, spanned.2) ]
 
   -- the child of a change between the two cuts is concerned
   pub between_concerned : (node : ℕ) → IsBetween run (cut_of cut) (cut_of raised) node → IsConcerned first history counts cut inodes flush node
@@ -137,7 +139,7 @@ module _ (first : TreeState) (history : List Entry) (counts : Counts) (flush : F
     named_after node row = elim (inodes node) as (λ b. inodes node ≡ b → after node ≡ true) [
       | true ↦ λ has. elim (after node) as (λ b. after node ≡ b → b ≡ true) [ true ↦ λ _. refl | false ↦ λ gone. absurd (((sets.leaves node has).0 gone).1.unnamed (counted_row node row)) ] refl
       | false ↦ λ none. elim (row_raised row.directory row.name node row.row) [
-        | inl before ↦ absurd (both (had node (record { directory = row.directory; name = row.name; row = before })) none)
+        | inl before ↦ absurd (not_both (had node (record { directory = row.directory; name = row.name; row = before })) none)
         | inr between ↦ (sets.enters node none).1 (between_concerned node between, inl (counted_row node row))
       ]
     ] refl

@@ -16,7 +16,8 @@ use Rattle.sfs_tree.specs.Laws.{IsSoundTree}
 use Rattle.sfs_tree.proofs.RowFacts.{added_other, removed_other, is_here, same_some, some_not_none}
 use Rattle.flush_core.specs.Cut.{Cut, cut_of, is_within, with_own, counted_rows_at_cut, IsWithin}
 use Rattle.flush_core.specs.Rules.{IsChange}
-use Rattle.flush_core.proofs.Basics.{below_or, no_less}
+use Rattle.flush_core.proofs.Basics.{below_or}
+use Rattle.sfs_base.proofs.BasicNumbers.{not_less}
 use Rattle.flush_core.proofs.Own.{stamp_of, goes_in, replaced_in}
 use Rattle.flush_core.proofs.Placed.{row_at}
 use Rattle.flush_core.proofs.Runs.{Run, Made, Seen}
@@ -62,7 +63,7 @@ row_both r cut other s seen node d n same (suc t) le m row = elim (below_or t (c
     | inl less ↦ ahead r other seen (suc t) d m (omega arith) ∙ sym (ahead r cut s (suc t) d m (omega arith)) ∙ row
     | inr past ↦ elim (row_came (r.tree t) (r.core t) t (r.sound t) (r.effect t) (r.makes t) d m node (sym (ap (λ (tree : TreeState). row_of tree d m) (r.next t)) ∙ sym (ahead r cut s (suc t) d m (omega arith)) ∙ row)) [
       | inl was ↦ behind r other seen t d m past ∙ row_both r cut other s seen node d n same t (omega arith) m (ahead r cut s t d m (omega arith) ∙ was)
-      | inr came ↦ absurd (no_less ((same t came.0 (omega arith) came.1 came.3 came.2).0 lt) past)
+      | inr came ↦ absurd (not_less ((same t came.0 (omega arith) came.1 came.3 came.2).0 lt) past)
     ]
   ]
   | inr from ↦
@@ -71,7 +72,7 @@ row_both r cut other s seen node d n same (suc t) le m row = elim (below_or t (c
         | inr past ↦ behind r other seen t d m past ∙ before
         | inl less ↦ elim (row_went (r.tree t) (r.core t) t (r.sound t) (r.effect t) (r.makes t) (r.fits t) d m node (sym (ahead r other seen t d m (omega arith)) ∙ before)) [
           | inl stays ↦ ahead r other seen (suc t) d m (omega arith) ∙ ap (λ (tree : TreeState). row_of tree d m) (r.next t) ∙ stays
-          | inr went ↦ absurd (no_less ((same t went.0 (omega arith) went.1 went.3 went.2).1 less) from)
+          | inr went ↦ absurd (not_less ((same t went.0 (omega arith) went.1 went.3 went.2).1 less) from)
         ]
       ]
 ]

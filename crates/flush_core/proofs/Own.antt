@@ -12,7 +12,7 @@ use Rattle.sfs_tree.proofs.Moved as moved
 use Rattle.sfs_tree.proofs.RowFacts.{added_other, removed_other}
 use Rattle.flush_core.specs.Cut.{with_own}
 use Rattle.flush_core.specs.Rules.{IsOneOf}
-use Rattle.flush_core.proofs.Basics.{both}
+use Rattle.sfs_base.proofs.BasicTruth.{not_both}
 
 -- a change leaves the rows of other directories
 pub with_own-other : (d : ℕ) (n : List ℕ) (rows : FinMap key_cmp ℕ) (x : RowChange) → x.directory ≢ d → get (with_own rows x) (d, n) ≡ get rows (d, n)
@@ -41,7 +41,7 @@ pub skip : (w : RowChange → Bool) (d : ℕ) (n : List ℕ) (rows : FinMap key_
 skip w d n rows [] h = refl
 skip w d n rows (x ∷ cs) h =
     elim (w x) as (λ b. w x ≡ b → get (fold with_own rows (cond b (x ∷ filter w cs) (filter w cs))) (d, n) ≡ get rows (d, n)) [
-      | true ↦ λ t. skip w d n (with_own rows x) cs (λ y one. h y (inr one)) ∙ with_own-other d n rows x (λ same. both t (h x (inl refl) same))
+      | true ↦ λ t. skip w d n (with_own rows x) cs (λ y one. h y (inr one)) ∙ with_own-other d n rows x (λ same. not_both t (h x (inl refl) same))
       | false ↦ λ t. skip w d n rows cs (λ y one. h y (inr one))
     ] refl
 
@@ -51,7 +51,7 @@ keep w d n rows other [] h e = e
 keep w d n rows other (x ∷ cs) h e =
     elim (w x) as (λ b. w x ≡ b → get (fold with_own rows (cond b (x ∷ filter w cs) (filter w cs))) (d, n) ≡ get (fold with_own (with_own other x) cs) (d, n)) [
       | true ↦ λ t. keep w d n (with_own rows x) (with_own other x) cs (λ y one. h y (inr one)) (with_own-same d n rows other x e)
-      | false ↦ λ t. keep w d n rows (with_own other x) cs (λ y one. h y (inr one)) (e ∙ sym (with_own-other d n other x (λ same. both (h x (inl refl) same) t)))
+      | false ↦ λ t. keep w d n rows (with_own other x) cs (λ y one. h y (inr one)) (e ∙ sym (with_own-other d n other x (λ same. not_both (h x (inl refl) same) t)))
     ] refl
 
 -- the changes of an effect make what it makes

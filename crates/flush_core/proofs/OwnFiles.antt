@@ -9,7 +9,7 @@ use Rattle.sfs_tree.proofs.RowFacts.{alive_named}
 use Rattle.flush_core.specs.Cut.{Cut, cut_of}
 use Rattle.flush_core.specs.Closure.{every_entry, Flush, IsConcerned, IsRaised, IsDead, AreInodesAfter}
 use Rattle.flush_core.specs.LawsInodes.{IsNeverNamed, FilesKeepInodes}
-use Rattle.flush_core.proofs.Basics.{both}
+use Rattle.sfs_base.proofs.BasicTruth.{not_both}
 use Rattle.flush_core.proofs.Along.{change_in, made_at, tree_at, tree_at-after}
 use Rattle.flush_core.proofs.Recount.{named_or_open}
 use Rattle.flush_core.proofs.Lists.{first_row}
@@ -22,7 +22,7 @@ module _ (first : TreeState) (history : List Entry) (is : IsSoundTree first) (le
   -- what is alive at a stamp is the root, or something names it
   live_named : (t node : ℕ) → is_directory (tree_after first history) node ≡ false → is_alive (tree_at first history t) node ≡ true → is_directory (tree_after first history) 0 ≡ true → IsNeverNamed first history node → ⊥
   live_named t node file alive root never = elim (alive_named (tree_at first history t) node alive) [
-    | inl same ↦ both root (rw same at file)
+    | inl same ↦ not_both root (rw same at file)
     | inr named ↦ elim (named_or_open first history is legal t empty (none_above t) node named) [
       | inl there ↦ never.rows (first_row first history node there)
       | inr o ↦ never.changes o.change (change_in first history o.stamp o.change legal o.made) o.child
@@ -33,7 +33,7 @@ module _ (first : TreeState) (history : List Entry) (is : IsSoundTree first) (le
     -- no directory's stamp moves
     same_stamp : (d : ℕ) → is_directory (tree_after first history) d ≡ true → cut_of raised d ≡ cut_of cut d
     same_stamp d kind = elim (raise.other d) [
-      | inl own ↦ absurd (both kind (rw (member_alone first history is legal every_entry cut inodes flush file has own) file))
+      | inl own ↦ absurd (not_both kind (rw (member_alone first history is legal every_entry cut inodes flush file has own) file))
       | inr same ↦ same
     ]
 
@@ -56,7 +56,7 @@ module _ (first : TreeState) (history : List Entry) (is : IsSoundTree first) (le
     keeps_inodes : (IsDead first history every_entry cut flush.node → ⊥) → (node : ℕ) → after node ≡ inodes node
     keeps_inodes lives node = elim (inodes node) as (λ b. inodes node ≡ b → after node ≡ b) [
       | false ↦ λ lacks. elim (after node) as (λ b. after node ≡ b → b ≡ false) [
-        | true ↦ λ came. absurd (both (rw (alone node ((sets.enters node lacks).0 came).0) has) lacks)
+        | true ↦ λ came. absurd (not_both (rw (alone node ((sets.enters node lacks).0 came).0) has) lacks)
         | false ↦ λ _. refl
       ] refl
       | true ↦ λ had. elim (after node) as (λ b. after node ≡ b → b ≡ true) [

@@ -1,5 +1,7 @@
 -- What an effect that fits does with the row of a directory.
-use Rattle.flush_core.proofs.Basics.{both, none_some, not_none, some_is}
+use Rattle.flush_core.proofs.Basics.{none_some}
+use Rattle.sfs_base.proofs.BasicOptions.{some_is_no_none, some_same}
+use Rattle.sfs_base.proofs.BasicTruth.{not_both}
 use Rattle.std.proofs.Common.{◌≡◌, ◌≢◌, ℕ, true, false, List, Option, Some, None, ◌⊎◌, inl, inr, refl, sym, ap, ◌∙◌}
 use Rattle.std.specs.FinMap.{get, insert, remove}
 use Rattle.sfs_base.specs.declared.numbers.Kind.{Kind}
@@ -27,7 +29,7 @@ module _ (tree : TreeState) (core : ℕ) (s : IsSound tree) where
   came (Removes d n c) None f h k a kind row = inl ((removed_cases tree.rows h d k n a row).1, none_some)
   came (Adds d n c) None f h k a kind row = elim (added_cases tree.rows h d k n c a row) [
     | inl new ↦ inr (ap Some (sym new.2))
-    | inr old ↦ inl (old.1, λ e. f.placeless (rw (some_is e) kind) h k (old.1 ∙ sym e))
+    | inr old ↦ inl (old.1, λ e. f.placeless (rw (some_same e) kind) h k (old.1 ∙ sym e))
   ]
   came (Moves p n q m c) None f h k a kind row = elim (added_cases (remove tree.rows (p, n)) h q k m c a row) [
     | inl new ↦ inr (ap Some (sym new.2))
@@ -37,7 +39,7 @@ module _ (tree : TreeState) (core : ℕ) (s : IsSound tree) where
   ]
   came (Adds d n c) (Some mk) f h k a kind row = elim (added_cases tree.rows h d k n c a row) [
     | inl new ↦ inr (ap Some (sym new.2))
-    | inr old ↦ inl (old.1, λ e. not_none (s.node h k a old.1) (ap (get tree.nodes) (sym (some_is e)) ∙ f.fresh))
+    | inr old ↦ inl (old.1, λ e. some_is_no_none (s.node h k a old.1) (ap (get tree.nodes) (sym (some_same e)) ∙ f.fresh))
   ]
   came Stays (Some mk) f h k a kind row = absurd f
   came (Edits file edit) (Some mk) f h k a kind row = absurd f
@@ -63,7 +65,7 @@ module _ (tree : TreeState) (core : ℕ) (s : IsSound tree) where
   named_before (Edits file edit) None f files d n x kind row = inl (was_named (Edits file edit) None f d n x kind row)
   named_before (Removes e k c) None f files d n x kind row = inl (was_named (Removes e k c) None f d n x kind (removed_cases tree.rows d e n k x row).1)
   named_before (Adds e k c) None f files d n x kind row = elim (added_cases tree.rows d e n k c x row) [
-    | inl new ↦ absurd (both (rw new.2 at kind) (files e k c refl refl))
+    | inl new ↦ absurd (not_both (rw new.2 at kind) (files e k c refl refl))
     | inr old ↦ inl (was_named (Adds e k c) None f d n x kind old.1)
   ]
   named_before (Moves p k q m c) None f files d n x kind row = elim (added_cases (remove tree.rows (p, k)) d q n m c x row) [

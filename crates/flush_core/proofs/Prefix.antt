@@ -15,7 +15,8 @@ use Rattle.sfs_tree.specs.Laws.{IsSoundTree}
 use Rattle.flush_core.specs.Cut.{Cut, is_within, is_counted_within, with_own, counted_rows_at_cut}
 use Rattle.flush_core.specs.Rules.{IsOneOf, IsChange, Birth, births_of}
 use Rattle.flush_core.specs.Closure.{every_entry}
-use Rattle.flush_core.proofs.Basics.{below_or, filter_none, filter_same, in_either, not_below}
+use Rattle.flush_core.proofs.Basics.{below_or, filter_none, filter_same, in_either}
+use Rattle.sfs_base.proofs.BasicNumbers.{not_below}
 use Rattle.flush_core.proofs.Own.{stamp_of}
 use Rattle.flush_core.proofs.Along.{tree_at, effect_at, makes_at, tree_at-after, change_in, change_of, birth_in, nodes_at}
 use Rattle.flush_core.proofs.Commit.{IsBornAt, birth_at}

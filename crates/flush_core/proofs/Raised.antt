@@ -18,7 +18,7 @@ use Rattle.flush_core.specs.Engine.{RaisesThose}
 use Rattle.flush_core.specs.Members.{AreConcerned}
 use Rattle.flush_core.specs.Named.{AreNamed}
 use Rattle.flush_core.specs.Inodes.{GetsInode, LosesInode, Settles}
-use Rattle.flush_core.proofs.Basics.{both}
+use Rattle.sfs_base.proofs.BasicTruth.{not_both}
 use Rattle.flush_core.proofs.Listed.{one_more, still_one, next_one}
 use Rattle.flush_core.proofs.Marks.{with_in, with_other}
 use Rattle.flush_core.proofs.Brought.{naming_is, is_naming}
@@ -126,7 +126,7 @@ module _ (first : TreeState) (history : List Entry) (past : Past) (is : IsPast f
   dead : (node : ℕ) → LosesInode past raised named node → IsDead first history every_entry raised node
   dead node loses = record {
     no_root = loses.no_root;
-    unnamed = λ names. both ((are_named node).1 names) loses.unnamed;
+    unnamed = λ names. not_both ((are_named node).1 names) loses.unnamed;
     flushed = λ change one counted child. within change (λ above. loses.flushed (is_naming first history past is raised node (record { change = change; is_change = one; counted = counted; child = child; unflushed = above })));
   }
 
@@ -150,11 +150,11 @@ module _ (first : TreeState) (history : List Entry) (past : Past) (is : IsPast f
       → ((node : ℕ) → IsOneOf listed node → Settles past raised inodes named flush.node node (has_node after node)) → ((node : ℕ) → (has_node after node ≢ has_node inodes node) → IsOneOf listed node) → AreInodesAfter first history every_entry cut (has_node inodes) flush raised (has_node after)
   are_inodes cut inodes concerned after flush nodes listed are list same settled others = record {
     enters = λ node out. (
-      λ has. let one = others node (λ e. both has (e ∙ out)) in (is_concerned node one, reached flush node (((settled node one).enters out).0 has)),
+      λ has. let one = others node (λ e. not_both has (e ∙ out)) in (is_concerned node one, reached flush node (((settled node one).enters out).0 has)),
       λ (concerns, is_reached). ((settled node (in_list node concerns)).enters out).1 (gets flush node is_reached),
     );
     leaves = λ node had. (
-      λ gone. let one = others node (λ e. both (e ∙ had) gone) in (is_concerned node one, dead node (((settled node one).leaves had).0 gone)),
+      λ gone. let one = others node (λ e. not_both (e ∙ had) gone) in (is_concerned node one, dead node (((settled node one).leaves had).0 gone)),
       λ (concerns, is_dead). ((settled node (in_list node concerns)).leaves had).1 (loses node is_dead),
     );
   }

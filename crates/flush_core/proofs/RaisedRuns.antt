@@ -14,7 +14,7 @@ use Rattle.flush_core.specs.Closure.{every_entry, Flush, AreRaised, none, one_mo
 use Rattle.flush_core.specs.Machine.{Flight, MachineState}
 use Rattle.flush_core.specs.Runs.{IsRun, IsBegun, AreAlive, durable_of}
 use Rattle.flush_core.specs.LawsRuns.{every_commit, RunsAreFlushed}
-use Rattle.flush_core.proofs.Basics.{both}
+use Rattle.sfs_base.proofs.BasicTruth.{not_both}
 use Rattle.flush_core.proofs.RunFacts.{IsPrefix, IsSteady, steady_at, event_there, prefix_later}
 use Rattle.flush_core.proofs.Held.{first_held, held_at, flights_live}
 use Rattle.flush_core.proofs.RaiseLists.{raised_once}
@@ -86,7 +86,7 @@ runs_are_flushed first events states place later is run alive le within goes =
     let last = steady_at first events states run later within in
     let prefix = prefix_later first events states run place later le within in
     raised_whole first (states later).history (length (states place).history) is last.legal prefix.shorter
-    (rw prefix.first_part (flushed_at first events states is run alive place (omega arith) place (omega arith) (λ ended. both ended goes))) (record {
+    (rw prefix.first_part (flushed_at first events states is run alive place (omega arith) place (omega arith) (λ ended. not_both ended goes))) (record {
       low = λ flush one. low_at flush one;
       live = λ flush one.
           let chosen = each_chosen first events states run place every_commit place flush one in

@@ -5,7 +5,8 @@ use Rattle.sfs_tree.specs.declared.history.Entry.{Entry}
 use Rattle.sfs_tree.specs.Tree.{TreeState}
 use Rattle.flush_core.specs.Cut.{Cut, cut_of}
 use Rattle.flush_core.specs.Closure.{Counts, Flush, Closure, IsRaised}
-use Rattle.flush_core.proofs.Basics.{below_or, no_less}
+use Rattle.flush_core.proofs.Basics.{below_or}
+use Rattle.sfs_base.proofs.BasicNumbers.{not_less}
 
 module _ (first : TreeState) (history : List Entry) (counts : Counts) (cut : Cut) (inodes : ℕ → Bool) (flush : Flush) (raised : Cut) (raise : IsRaised first history counts cut inodes flush raised) where
   -- no stamp falls
@@ -24,8 +25,8 @@ module _ (first : TreeState) (history : List Entry) (counts : Counts) (cut : Cut
   was_or_spanned t d lt = elim (below_or t (cut_of cut d)) [
     | inl less ↦ inl less
     | inr le ↦ elim (raise.other d) [
-      | inl own ↦ inr (own, le, elim (below_or t flush.stamp) [ inl less ↦ less | inr more ↦ absurd (let most = max-le le more in let e = raise.member d own in no_less (same_below e) most) ])
-      | inr e ↦ absurd (no_less (same_below e) le)
+      | inl own ↦ inr (own, le, elim (below_or t flush.stamp) [ inl less ↦ less | inr more ↦ absurd (let most = max-le le more in let e = raise.member d own in not_less (same_below e) most) ])
+      | inr e ↦ absurd (not_less (same_below e) le)
     ]
   ]
     where

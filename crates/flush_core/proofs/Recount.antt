@@ -14,7 +14,9 @@ use Rattle.flush_core.specs.Cut.{Cut, cut_of, is_within, is_counted_within, with
 use Rattle.flush_core.specs.Rules.{IsChange}
 use Rattle.flush_core.specs.Closure.{Counts, Flush, HasLiveNode, HasNaming, IsNamedIn, IsReached, IsDead}
 use Rattle.flush_core.specs.Runs.{view_by}
-use Rattle.flush_core.proofs.Basics.{and_false, below_or, both, filter_same, no_less, plus_zero}
+use Rattle.flush_core.proofs.Basics.{below_or, filter_same}
+use Rattle.sfs_base.proofs.BasicNumbers.{plus_zero, not_less}
+use Rattle.sfs_base.proofs.BasicTruth.{and_false, not_both}
 use Rattle.flush_core.proofs.Own.{stamp_of}
 use Rattle.flush_core.proofs.Runs.{Run, Seen}
 use Rattle.flush_core.proofs.Seen.{behind}
@@ -30,10 +32,9 @@ use Rattle.flush_core.proofs.Alike.{Carries, are_alike}
 -- rows at a cut stay from a stamp on that no cut is above
 rows_stay : (r : Run) (cut : ℕ → ℕ) (s : Seen r cut) (k more d : ℕ) (n : List ℕ) → cut d ≤ k → get (s.rows (k + more)) (d, n) ≡ get (s.rows k) (d, n)
 rows_stay r cut s k zero d n le = ap (λ t. get (s.rows t) (d, n)) (plus_zero k)
-rows_stay r cut s k (suc more) d n le = ap (λ t. get (s.rows t) (d, n)) (one_more k more) ∙ behind r cut s (k + more) d n (omega arith) ∙ rows_stay r cut s k more d n le
-  where
-    one_more : (k m : ℕ) → k + suc m ≡ suc (k + m)
-    one_more k m = omega arith
+rows_stay r cut s k (suc more) d n le =
+    let one_more : k + suc more ≡ suc (k + more) = omega arith in
+    ap (λ t. get (s.rows t) (d, n)) one_more ∙ behind r cut s (k + more) d n (omega arith) ∙ rows_stay r cut s k more d n le
 
 -- each entry below a stamp counts
 abbrev CountBelow : ℕ → Counts → Type 0
@@ -116,7 +117,7 @@ module _ (first : TreeState) (history : List Entry) (is : IsSoundTree first) (le
           one = l.one;
           lacks = l.lacks;
           naming = elim (renamed counts other cut birth.node other_all low (at_k birth.node (member_then first history is legal counts cut inodes flush live own)) l.naming) [
-            | inl named ↦ absurd (both (held.named birth.node named) l.lacks)
+            | inl named ↦ absurd (not_both (held.named birth.node named) l.lacks)
             | inr found ↦ found
           ];
         };
@@ -150,7 +151,7 @@ module _ (first : TreeState) (history : List Entry) (is : IsSoundTree first) (le
                   let naming = open_naming other raised x.child other_all o in
                   let within = dead.flushed naming.change naming.is_change naming.counted (naming.child ∙ child) in
                   let unflushed = naming.unflushed in
-                  no_less within unflushed
+                  not_less within unflushed
             ])
           ];
         }

@@ -30,9 +30,11 @@ module _ (first : TreeState) (is : IsSoundTree first) where
   call_keeps old entry legal low was =
       let before : IsKeptWell first (take (length old.history) (old.history ++ entry ∷ [])) old.cut old.inodes = rw (take-append_seam old.history (entry ∷ [])) was in
       record {
-        kept = kept_whole first (old.history ++ entry ∷ []) is legal (length old.history) old.cut old.inodes low before.nodes before.kept;
         nodes = nodes_whole first (old.history ++ entry ∷ []) is legal (length old.history) old.inodes before.nodes;
-        named = λ node row. before.named node (rw (rows_at_cut-take first (old.history ++ entry ∷ []) (length old.history) old.cut legal low) row);
+        held = record {
+          kept = kept_whole first (old.history ++ entry ∷ []) is legal (length old.history) old.cut old.inodes low before.nodes before.held.kept;
+          named = λ node row. before.held.named node (rw (rows_at_cut-take first (old.history ++ entry ∷ []) (length old.history) old.cut legal low) row);
+        };
       }
 
   -- so do raises
@@ -62,4 +64,4 @@ pub runs_keep : RunsKeep
 runs_keep first events states place flushes cut inodes is run le raised =
     let legal = (steady_at first events states run place le).legal in
     let all = flushes_keep first (states place).history is legal raised (kept_at first is events states run place le) in
-    record { kept = all.kept; sound = closed_cuts_are_sound first (states place).history cut is legal all.kept.closed; named = all.named; nodes = all.nodes }
+    record { kept = all.held.kept; sound = closed_cuts_are_sound first (states place).history cut is legal all.held.kept.closed; named = all.held.named; nodes = all.nodes }

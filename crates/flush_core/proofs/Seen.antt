@@ -9,7 +9,8 @@ use Rattle.sfs_tree.specs.Effect.{Effect, Adds, Moves, tree_with}
 use Rattle.sfs_tree.specs.Changes.{RowChange, added, removed, other_side}
 use Rattle.sfs_tree.proofs.RowFacts.{IsNamed, added_there}
 use Rattle.sfs_tree.proofs.Holders.{directory_stays}
-use Rattle.flush_core.proofs.Basics.{below_or, no_less, not_below}
+use Rattle.flush_core.proofs.Basics.{below_or}
+use Rattle.sfs_base.proofs.BasicNumbers.{not_less, not_below}
 use Rattle.flush_core.proofs.Own.{skip, keep, folds, stamp_of, goes_in, comes_in}
 use Rattle.flush_core.proofs.Placed.{placed, came, named_before, row_stays}
 use Rattle.flush_core.proofs.Runs.{Run, changes_at, Made, IsLast, Keeps, Seen, below_cut}
@@ -105,7 +106,7 @@ module _ (r : Run) (cut : ℕ → ℕ) (s : Seen r cut) where
   all_seen y all zero n = ahead zero y n (omega arith)
   all_seen y all (suc t) n = elim (below_or t (cut y)) [
     | inl lt ↦ ahead (suc t) y n (omega arith)
-    | inr le ↦ behind t y n le ∙ all_seen y all t n ∙ sym (quiet r t y n (λ x one same. let lt = all t x one same in no_less lt le))
+    | inr le ↦ behind t y n le ∙ all_seen y all t n ∙ sym (quiet r t y n (λ x one same. let lt = all t x one same in not_less lt le))
   ]
 
   module _ (keeps : Keeps r cut) where

@@ -1,5 +1,5 @@
 -- Stamps that are kept at the nodes' numbers.
-use Rattle.std.proofs.Common.{◌≡◌, ◌≢◌, ℕ, zero, suc, ◌+◌, ◌<◌, true, false, cond, List, [], ◌∷◌, length, set, get_or, Some, refl, sym, ap, ◌∙◌, arith, nat_eq}
+use Rattle.std.proofs.Common.{◌≡◌, ℕ, zero, suc, ◌+◌, ◌<◌, true, false, cond, List, [], ◌∷◌, length, set, get_or, Some, refl, sym, ap, ◌∙◌, arith, nat_eq}
 use Rattle.std.specs.Prelude.{max}
 use borrow.Author.Tests.{eqb-true, eq-eqb, eqb-false}
 use Rattle.std.specs.Option.{unwrap_or}
@@ -9,9 +9,7 @@ use Rattle.std.specs.FinMap.{find, get-from_entries}
 use Rattle.std.proofs.lemmas.List.{get_or-set_same, get_or-set_other}
 use Rattle.flush_core.specs.Cut.{cut_of}
 use Rattle.flush_core.specs.Stamps.{stamps_from, by_nodes, at_least}
-
-not_same : (a b : ℕ) → a ≢ b → nat_eq a b ≡ false
-not_same a b differ = elim (nat_eq a b) as (λ t. nat_eq a b ≡ t → t ≡ false) [ true ↦ λ e. absurd (differ (eqb-true _ _ e)) | false ↦ λ _. refl ] refl
+use Rattle.sfs_base.proofs.BasicNumbers.{not_same}
 
 find_stamp : (node : ℕ) (stamps : List ℕ) (k x : ℕ) → node + k ≡ x → unwrap_or (find nat_cmp x (stamps_from node stamps)) 0 ≡ get_or stamps k 0
 find_stamp node [] k x e = refl

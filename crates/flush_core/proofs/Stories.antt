@@ -26,7 +26,8 @@ use Rattle.flush_core.specs.Named.{kept_rows}
 use Rattle.flush_core.specs.Past.{IsPast}
 use Rattle.flush_core.specs.Story.{StoryState, end_of, answered_entry, IsStanding, IsReadyPast}
 use Rattle.flush_core.specs.declared.past.OwnChange.{OwnChange}
-use Rattle.flush_core.proofs.Basics.{both, in_either}
+use Rattle.flush_core.proofs.Basics.{in_either}
+use Rattle.sfs_base.proofs.BasicTruth.{not_both}
 use Rattle.flush_core.proofs.CutRows.{directories_are_cut}
 use Rattle.flush_core.proofs.Grown.{grown_past}
 use Rattle.flush_core.proofs.Legal.{comes_at}
@@ -73,17 +74,17 @@ module _ (first : TreeState) (entries : List Entry) (i : ℕ) (entry d : Entry) 
 flush_ok : (tree : TreeState) (core : ℕ) (c : Call) → flushes tree c ≡ true → (verdict tree core c).reply ≡ reply.Ok
 flush_ok tree core (call.Fsync node) alive =
     ap (λ b. (or_else (cond (not b) (Some NoEntry) None) (answered reply.Ok)).reply) alive
-flush_ok tree core (call.Look directory name) e = absurd (both e refl)
-flush_ok tree core (call.Make directory name kind) e = absurd (both e refl)
-flush_ok tree core (call.Link file directory name) e = absurd (both e refl)
-flush_ok tree core (call.Unlink directory name) e = absurd (both e refl)
-flush_ok tree core (call.Rmdir directory name) e = absurd (both e refl)
-flush_ok tree core (call.Rename directory name to_directory to_name) e = absurd (both e refl)
-flush_ok tree core (call.Write file at bytes) e = absurd (both e refl)
-flush_ok tree core (call.Read file at count) e = absurd (both e refl)
-flush_ok tree core (call.Trunc file size) e = absurd (both e refl)
-flush_ok tree core (call.Stat node) e = absurd (both e refl)
-flush_ok tree core (call.List directory) e = absurd (both e refl)
+flush_ok tree core (call.Look directory name) e = absurd (not_both e refl)
+flush_ok tree core (call.Make directory name kind) e = absurd (not_both e refl)
+flush_ok tree core (call.Link file directory name) e = absurd (not_both e refl)
+flush_ok tree core (call.Unlink directory name) e = absurd (not_both e refl)
+flush_ok tree core (call.Rmdir directory name) e = absurd (not_both e refl)
+flush_ok tree core (call.Rename directory name to_directory to_name) e = absurd (not_both e refl)
+flush_ok tree core (call.Write file at bytes) e = absurd (not_both e refl)
+flush_ok tree core (call.Read file at count) e = absurd (not_both e refl)
+flush_ok tree core (call.Trunc file size) e = absurd (not_both e refl)
+flush_ok tree core (call.Stat node) e = absurd (not_both e refl)
+flush_ok tree core (call.List directory) e = absurd (not_both e refl)
 
 -- a call that the table answers may come
 may_come : (tree : TreeState) (stamp : ℕ) (core : CoreId) (c : Call) → core.0 < length tree.made → MayCome tree stamp (answered_entry tree stamp core c)

@@ -8,8 +8,7 @@ use Rattle.std.specs.Cmp.{IsTotalOrder}
 use Rattle.std.specs.FinMap.{FinMap, IsAntisymmetric, find, is_sorted}
 use Rattle.sfs_tree.proofs.Joined.{is_equal}
 use Rattle.sfs_tree.proofs.Search.{not_found, below_if_tied}
-use Rattle.sfs_base.proofs.BasicTruth.{both_second}
-use Rattle.sfs_base.proofs.BasicTruth.{both_first}
+use Rattle.sfs_base.proofs.BasicTruth.{both_second, both_first}
 
 -- two tests of numbers that hold together are one
 pub same_test : (a b c d : ℕ) → (a ≡ b → c ≡ d) → (c ≡ d → a ≡ b) → nat_eq c d ≡ nat_eq a b

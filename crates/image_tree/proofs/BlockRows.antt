@@ -5,8 +5,7 @@ use Rattle.std.specs.List.{flat_map, range_with_len, list_all}
 use Rattle.std.proofs.lemmas.List.{take_more, same_lists, get_or_default, append-nil}
 use Rattle.std.proofs.lemmas.Grind.{flat_map-append}
 use Rattle.sfs_base.specs.declared.numbers.Kind.TheVariants.{File, Directory}
-use Rattle.sfs_image.specs.Slot.{Row, kind_byte, slot_of}
-use Rattle.sfs_image.specs.Slot.{kind_of as slot_kind}
+use Rattle.sfs_image.specs.Slot.{Row, kind_byte, slot_of, kind_of as slot_kind}
 use Rattle.sfs_image.specs.Bytes.{part, zeros, u32_at}
 use Rattle.sfs_image.proofs.ShownLaws.{bytes_shown}
 use Rattle.sfs_image.proofs.BytesLaws.{zeros-byte}
@@ -51,6 +50,9 @@ drop_from_none : (n : ℕ) → ◌≡◌ {A = List (Option Row)} (drop n []) []
 drop_from_none zero = refl
 drop_from_none (suc n) = refl
 
+moved : (a b : ℕ) → suc (a + b) ≡ suc a + b
+moved a b = omega arith
+
 padded_further : (a b : ℕ) (slots : List (Option Row)) → padded a slots ++ padded b (drop a slots) ≡ padded (a + b) slots
 unfolding padded
 padded_further zero b slots = ap (padded b) (drop_nothing slots) ∙ ap (λ n. padded n slots) (from_zero_plus b)
@@ -58,13 +60,7 @@ padded_further (suc a) b [] =
     ap (λ l. None ∷ padded a [] ++ padded b l) (drop_from_none (suc a) ∙ sym (drop_from_none a))
     ∙ ap (λ l. None ∷ l) (padded_further a b [])
     ∙ ap (λ n. padded n []) (moved a b)
-  where
-    moved : (a b : ℕ) → suc (a + b) ≡ suc a + b
-    moved a b = omega arith
 padded_further (suc a) b (slot ∷ slots) = ap (λ l. slot ∷ l) (padded_further a b slots) ∙ ap (λ n. padded n (slot ∷ slots)) (moved a b)
-  where
-    moved : (a b : ℕ) → suc (a + b) ≡ suc a + b
-    moved a b = omega arith
 
 -- the slots of the first blocks
 first_blocks : (part : Part) (slots : List (Option Row)) → HasSlotBlocks part slots → (k : ℕ) → k ≤ blocks_up_to_last slots → flat_map slots_of (take k part.blocks) ≡ padded (BLOCK_SLOTS * k) slots
@@ -73,7 +69,8 @@ first_blocks part slots h zero le = ap (flat_map slots_of) (take_none part.block
 first_blocks part slots h (suc k) le =
     let few = h.enough in
     let lt : k < length part.blocks = omega arith in
-    ap (λ n. flat_map slots_of (take n part.blocks)) (next k)
+    let next : suc k ≡ k + 1 = omega arith in
+    ap (λ n. flat_map slots_of (take n part.blocks)) next
     ∙ ap (flat_map slots_of) (take_more part.blocks k [] lt)
     ∙ flat_map-append slots_of (take k part.blocks) (slice_index_or part.blocks k [] ∷ [])
     ∙ ap (λ l. l ++ (slots_of (slice_index_or part.blocks k []) ++ [])) (first_blocks part slots h k (omega arith))
@@ -81,9 +78,6 @@ first_blocks part slots h (suc k) le =
     ∙ padded_further (BLOCK_SLOTS * k) BLOCK_SLOTS slots
     ∙ ap (λ n. padded n slots) (sum k)
   where
-    next : (k : ℕ) → suc k ≡ k + 1
-    next k = omega arith
-
     sum : (k : ℕ) → BLOCK_SLOTS * k + BLOCK_SLOTS ≡ BLOCK_SLOTS * suc k
     sum k = omega arith
 

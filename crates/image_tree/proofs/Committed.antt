@@ -22,7 +22,8 @@ use Rattle.sfs_base.proofs.BasicTruth.{and_first}
 use Rattle.sfs_base.proofs.BasicOptions.{none_some, some_same}
 use Rattle.image_tree.proofs.Paired.{count_paired}
 use Rattle.image_tree.proofs.Renaming.{under_is}
-use Rattle.image_tree.proofs.Standing.{holder_number, kind_directory, not_used, standing_images_show}
+use Rattle.sfs_tree.proofs.Readings.{directory_by_kind}
+use Rattle.image_tree.proofs.Standing.{holder_number, not_used, standing_images_show}
 use Rattle.image_tree.proofs.NetRows.{net_row_is, no_net_row, HasNamesOnce, once_ascending, one_if_some, is_made}
 use Rattle.image_tree.proofs.SlotsAfter.{none_counted, count_changed, looked_changed, count_filled, looked_filled_old, looked_filled_new, looked_in_blocks, count_in_blocks}
 
@@ -179,7 +180,7 @@ module _ (num after : Numbering) (old new : TreeState) (x : ℕ) (net : List Net
 -- a node has one link count in two trees that agree on its rows, on the rows that name it, and on kinds
 module _ (old new : TreeState) (kinds : (x : ℕ) → kind_of new x ≡ kind_of old x) (x : ℕ) (rows : (n : List ℕ) → row_of new x n ≡ row_of old x n) (naming : (d : ℕ) (n : List ℕ) → (row_of new d n ≡ Some x) ↔ (row_of old d n ≡ Some x)) where
   same_directory : (y : ℕ) → is_directory new y ≡ is_directory old y
-  same_directory y = kind_directory new y ∙ ap is_directory_kind (kinds y) ∙ sym (kind_directory old y)
+  same_directory y = directory_by_kind new y ∙ ap is_directory_kind (kinds y) ∙ sym (directory_by_kind old y)
 
   at : (tree : TreeState) (k : Key) (y d : ℕ) → k.0 ≡ d → get tree.rows k ≡ Some y → row_of tree d k.1 ≡ Some y
   at tree k y d same is = subst (λ (e : ℕ). row_of tree e k.1 ≡ Some y) same is

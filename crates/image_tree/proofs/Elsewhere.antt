@@ -25,7 +25,7 @@ use Rattle.image_tree.specs.Laws.{PlannedCommitsHoldElsewhere, UnconcernedNodesS
 use Rattle.sfs_base.proofs.BasicTruth.{not_both}
 use Rattle.sfs_base.proofs.BasicOptions.{none_some, some_same}
 use Rattle.image_tree.proofs.NetRows.{same_option, net_row_is, no_net_row}
-use Rattle.image_tree.proofs.Committed.{links_alike, number_once}
+use Rattle.image_tree.proofs.Committed.{links_alike, number_once, number_within}
 use Rattle.image_tree.proofs.Standing.{not_used}
 
 -- the net of rows that stay has no row
@@ -136,11 +136,7 @@ module _ (commit : Commit) (old new : TreeState) (image next : SeenInodes) (ther
   ]
 
   within_there : (x i : ℕ) → commit.concerns x ≡ true → commit.after x ≡ Some i → i < there.image.count
-  within_there x i concerned is = subst (λ (n : ℕ). i < n) (sym suits.agrees.count) (by_way (plan.commits.numbers.comes x i is))
-    where
-      by_way : ComesBy commit image x i → i < image.count
-      by_way (had was) = plan.stands.within x i was
-      by_way (enters _ lt _) = lt
+  within_there x i concerned is = subst (λ (n : ℕ). i < n) (sym suits.agrees.count) (number_within commit old image plan.stands plan.commits.numbers x i is)
 
   built_there : (x i : ℕ) → there.after x ≡ Some i → commit.concerns x ≡ true →
       IsBuiltAnew (commit_there commit there) there.new x (seen_before (commit_there commit there) there.image x) (there.next.seen i)
@@ -175,7 +171,10 @@ module _ (commit : Commit) (old new : TreeState) (image next : SeenInodes) (ther
 
   -- the inode of a node aside is no concerned node's
   untouched : (x i : ℕ) → commit.concerns x ≡ false → there.before x ≡ Some i → IsTouched commit i → ⊥
-  untouched x i other is t = by_number t.number
+  untouched x i other is t = elim t.number [
+    | inl was ↦ apart t.node t.concerned (suits.agrees.numbers t.node t.concerned ∙ was)
+    | inr now ↦ by_way now (plan.commits.numbers.comes t.node i now)
+  ]
     where
       apart : (y : ℕ) → commit.concerns y ≡ true → there.before y ≡ Some i → ⊥
       apart y concerned same = not_both (ap commit.concerns (suits.stands.once x y i is same) ∙ concerned) other
@@ -183,10 +182,6 @@ module _ (commit : Commit) (old new : TreeState) (image next : SeenInodes) (ther
       by_way : commit.after t.node ≡ Some i → ComesBy commit image t.node i → ⊥
       by_way now (had was) = apart t.node t.concerned (suits.agrees.numbers t.node t.concerned ∙ was)
       by_way now (enters none _ _) = not_used (kind_of there.old x) (sym (suits.stands.each x i is).kind ∙ (suits.agrees.entering t.node i t.concerned none now).kind)
-
-      by_number : (commit.before t.node ≡ Some i) ⊎ (commit.after t.node ≡ Some i) → ⊥
-      by_number (inl was) = apart t.node t.concerned (suits.agrees.numbers t.node t.concerned ∙ was)
-      by_number (inr now) = by_way now (plan.commits.numbers.comes t.node i now)
 
   aside_there : (x : ℕ) → commit.concerns x ≡ false → IsAside there.old there.new x
   aside_there x other = record {
@@ -234,14 +229,13 @@ module _ (commit : Commit) (old new : TreeState) (image next : SeenInodes) (ther
 
   -- a touched inode is no other node's in the plan
   touched_alone : (i : ℕ) → IsTouched commit i → (y : ℕ) → commit.concerns y ≡ false → commit.after y ≡ Some i → ⊥
-  touched_alone i t y other is = by_number t.number
+  touched_alone i t y other is = elim t.number [
+    | inl was ↦ same_concern (plan.stands.once t.node y i was (plan.commits.stays y i is other).0)
+    | inr now ↦ same_concern (number_once commit old image plan.stands plan.commits.numbers t.node y i now is)
+  ]
     where
       same_concern : t.node ≡ y → ⊥
       same_concern same = not_both t.concerned (ap commit.concerns same ∙ other)
-
-      by_number : (commit.before t.node ≡ Some i) ⊎ (commit.after t.node ≡ Some i) → ⊥
-      by_number (inl was) = same_concern (plan.stands.once t.node y i was (plan.commits.stays y i is other).0)
-      by_number (inr now) = same_concern (number_once commit old image plan.stands plan.commits.numbers t.node y i now is)
 
   rest_there : (i : ℕ) → i < there.next.count → Rests i
   rest_there i lt = elim (suits.follows.inodes i within) as (λ _. Rests i) [

@@ -1,34 +1,29 @@
 -- The first fault is none exactly where the rules hold.
-use Rattle.std.proofs.Common.{◌≡◌, ◌≢◌, ℕ, zero, suc, ◌+◌, ◌<◌, ◌≤◌, Bool, true, false, cond, not, ◌||◌, ◌&&◌, List, [], ◌∷◌, Option, Some, None, option_map, inl, inr, refl, sym, ap, subst, ◌∙◌, arith, nat_eq, nat_lt}
+use Rattle.std.proofs.Common.{◌≡◌, ◌≢◌, ℕ, zero, suc, ◌+◌, ◌<◌, ◌≤◌, Bool, true, false, cond, not, ◌||◌, ◌&&◌, List, [], ◌∷◌, Option, Some, None, option_map, inl, inr, refl, sym, ap, subst, ◌∙◌, arith, nat_eq, nat_lt, count_by}
 use borrow.Author.Tests.{eqb-true, eq-eqb, eqb-false, ltb-true, ltb-false, lt-ltb}
 use Rattle.std.specs.Prelude.{bytes_eq, filter_map, slice_get}
 use Rattle.std.specs.List.{range_with_len, list_any, find, cons_option, AllByRecursion}
 use Rattle.std.specs.Option.{option_map_or}
-use Rattle.std.specs.FinMap.{len}
-use Rattle.sfs_tree.specs.Tree.{BUCKET_ROWS, TreeState, bucket_rows, walk_up, and_above, lies_below}
+use Rattle.std.specs.FinMap.{len, entries}
+use Rattle.sfs_tree.specs.Tree.{BUCKET_ROWS, TreeState, bucket_rows, walk_up, and_above, lies_below, holds_directory, links_of, count_of}
 use Rattle.sfs_tree.specs.Sound.{Above, at_root, below}
 use Rattle.sfs_tree.proofs.RowFacts.{holder_found}
 use Rattle.sfs_tree.proofs.Walks.{walk_is}
 use Rattle.sfs_image.specs.Slot.{Row, kind_byte}
 use Rattle.sfs_image.specs.Seen.{SeenInodes}
 use Rattle.image_tree.specs.Slots.{name_count}
-use Rattle.image_tree.specs.ImageTree.{NOTHING_MADE, shows_directory, is_used, image_rows}
-use Rattle.std.proofs.Common.{count_by}
-use Rattle.std.specs.FinMap.{entries}
-use Rattle.sfs_tree.specs.Tree.{holds_directory, links_of, count_of}
+use Rattle.image_tree.specs.ImageTree.{NOTHING_MADE, shows_directory, is_used, image_rows, shows_file}
 use Rattle.sfs_base.specs.declared.numbers.Kind.TheVariants.{File, Directory}
-use Rattle.image_tree.specs.ImageTree.{shows_file}
-use Rattle.sfs_base.proofs.BasicTruth.{and_first, and_second, and_false}
+use Rattle.sfs_base.proofs.BasicTruth.{and_first, and_second, and_false, or_first, or_second, or_true, not_false, then_false, not_both}
 use Rattle.image_tree.specs.Keeps.{ruled_tree, IsDirectoryInode, MayName, MayStand, KeepsRules}
 use Rattle.image_tree.specs.Rules.{has_name_twice, has_overfull_bucket, is_misplaced, has_misplaced_row, names_root, is_named_twice, has_wrong_links, is_unreached, breaks_tree_rule, BYTE_RULES, RULES, TreeFault, fault_by, first_fault, breaks_rule, KeepsByteRules}
 use Rattle.image_tree.specs.Laws.{NoFaultIsRulesKept, FreeInodesBreakNoTreeRule, OrphansBreakNoTreeRule}
 use Rattle.sfs_base.proofs.BasicNumbers.{not_below, not_same}
-use Rattle.sfs_base.proofs.BasicTruth.{or_first, or_second, or_true, not_false, then_false, not_both}
 use Rattle.sfs_base.proofs.BasicOptions.{none_some}
 use Rattle.sfs_base.proofs.BasicLists.{bytes_same}
 use Rattle.image_tree.proofs.SlotRows.{count_slot}
 use Rattle.image_tree.proofs.Images.{directory_shown}
-use Rattle.image_tree.proofs.Mounted.{sound_shown}
+use Rattle.image_tree.proofs.Mounted.{sound_shown, used_not_free}
 
 only_if : (b p : Bool) → (b ≡ true → p ≡ false) → (b && p) ≡ false
 only_if true p h = h refl
@@ -87,6 +82,10 @@ module _ (f : ℕ → Option TreeFault) where
         | false ↦ λ u. let other : a ≢ k = eqb-false _ _ u in rest e k (omega arith) (omega arith)
       ] refl
 
+pub unmapped : (rule : ℕ) (o : Option ℕ) → ◌≡◌ {A = Option TreeFault} (option_map (λ i. record { rule = rule; inode = i }) o) None → o ≡ None
+unmapped rule None e = refl
+unmapped rule (Some i) e = absurd (none_some (sym e))
+
 module _ (breaks : ℕ → ℕ → Bool) (count : ℕ) where
   -- where no inode breaks a rule there is no first fault
   no_fault : ((rule i : ℕ) → 1 ≤ rule → i < count → breaks rule i ≡ false) → first_fault breaks count ≡ None
@@ -94,11 +93,7 @@ module _ (breaks : ℕ → ℕ → Bool) (count : ℕ) where
 
   -- and where there is none, no inode breaks one
   pub no_break : first_fault breaks count ≡ None → (rule i : ℕ) → 1 ≤ rule → rule < 15 → i < count → breaks rule i ≡ false
-  no_break none rule i le lt less = none_found (breaks rule) 0 count (unmapped (find (breaks rule) (range_with_len 0 count)) (none_gathered (fault_by breaks count) 1 RULES none rule le (omega arith))) i (omega arith) (omega arith)
-    where
-      unmapped : (o : Option ℕ) → ◌≡◌ {A = Option TreeFault} (option_map (λ i. record { rule = rule; inode = i }) o) None → o ≡ None
-      unmapped None e = refl
-      unmapped (Some i) e = absurd (none_some (sym e))
+  no_break none rule i le lt less = none_found (breaks rule) 0 count (unmapped rule (find (breaks rule) (range_with_len 0 count)) (none_gathered (fault_by breaks count) 1 RULES none rule le (omega arith))) i (omega arith) (omega arith)
 
 -- rows in slots of which none passes
 no_row_passes : (test : Row → Bool) (slots : List (Option Row)) → AllByRecursion (λ slot. option_map_or test slot false ≡ false) slots →
@@ -138,8 +133,8 @@ may_stand image (Some row ∷ slots) a b = (here, may_stand image slots (or_seco
       no_root = eqb-false _ _ (or_first (nat_eq row.inode 0) _ b);
     }
 
-placed : (image : SeenInodes) (slots : List (Option Row)) → AllByRecursion (MayStand image) slots →
-    list_any (λ slot. option_map_or (is_misplaced image) slot false) slots ≡ false
+placed : (image : SeenInodes) (slots : List (Option Row)) → AllByRecursion (MayStand image) slots
+    → list_any (λ slot. option_map_or (is_misplaced image) slot false) slots ≡ false
 placed image [] h = refl
 placed image (None ∷ slots) h = placed image slots h.1
 placed image (Some row ∷ slots) h =
@@ -147,8 +142,8 @@ placed image (Some row ∷ slots) h =
     ∙ ap (λ b. not b || list_any (λ slot. option_map_or (is_misplaced image) slot false) slots) (eq-eqb _ _ h.0.kind)
     ∙ placed image slots h.1
 
-no_root_named : (image : SeenInodes) (slots : List (Option Row)) → AllByRecursion (MayStand image) slots →
-    list_any (λ slot. option_map_or (λ (row : Row). nat_eq row.inode 0) slot false) slots ≡ false
+no_root_named : (image : SeenInodes) (slots : List (Option Row)) → AllByRecursion (MayStand image) slots
+    → list_any (λ slot. option_map_or (λ (row : Row). nat_eq row.inode 0) slot false) slots ≡ false
 no_root_named image [] h = refl
 no_root_named image (None ∷ slots) h = no_root_named image slots h.1
 no_root_named image (Some row ∷ slots) h = ap (λ b. b || list_any (λ slot. option_map_or (λ (row : Row). nat_eq row.inode 0) slot false) slots) (not_same _ _ h.0.no_root) ∙ no_root_named image slots h.1
@@ -222,11 +217,8 @@ module _ (image : SeenInodes) (breaks_byte_rule : ℕ → ℕ → Bool) (r : Kee
         (either_false (nat_eq rule 10) _ _ (holds_of_directory i (has_misplaced_row image i) lt (λ is. placed image (slots i) (k.children i is)))
         (either_false (nat_eq rule 11) _ _ (holds_of_directory i (names_root image i) lt (λ is. no_root_named image (slots i) (k.children i is)))
         (either_false (nat_eq rule 12) _ _ (holds_of_directory i (is_named_twice image i) lt (λ is. not_below _ _ (k.named_once i is)))
-        (either_false (nat_eq rule 13) _ _ (only_if (is_used image i) (has_wrong_links image i) (λ used. ap not (eq-eqb _ _ (k.links i lt (used_some i used)))))
+        (either_false (nat_eq rule 13) _ _ (only_if (is_used image i) (has_wrong_links image i) (λ used. ap not (eq-eqb _ _ (k.links i lt (used_not_free image i used)))))
         (either_false (nat_eq rule 14) _ _ (holds_of_directory i (is_unreached image i) lt (reached_test i)) refl))))))
-      where
-        used_some : (i : ℕ) → is_used image i ≡ true → (image.seen i).kind ≢ 0
-        used_some i used free = not_both used (ap not (eq-eqb _ _ free))
 
     no_rule_broken : ((rule i : ℕ) → 1 ≤ rule → rule ≤ BYTE_RULES → i < image.count → breaks_byte_rule rule i ≡ false) → (rule i : ℕ) → 1 ≤ rule →
         i < image.count → breaks_rule breaks_byte_rule image rule i ≡ false

@@ -6,7 +6,7 @@ use Rattle.std.specs.List.{range_with_len, find, cons_option}
 use Rattle.image_tree.specs.Rules.{RULES, TreeFault, fault_by, first_fault, IsLeastFault, FindsFault}
 use Rattle.image_tree.specs.Laws.{FirstFaultIsLeast}
 use Rattle.sfs_base.proofs.BasicOptions.{none_some, some_same}
-use Rattle.image_tree.proofs.Faults.{no_break, none_found}
+use Rattle.image_tree.proofs.Faults.{no_break, none_found, unmapped}
 
 -- a number that is found passes, and none before it does
 record IsFound (p : ℕ → Bool) (a n k : ℕ) : Type 0 where
@@ -79,11 +79,7 @@ module _ (breaks : ℕ → ℕ → Bool) (count : ℕ) where
           record { same = ap (λ (f : TreeFault). f.rule) (sym made); found = is ∙ ap (λ (f : TreeFault). Some f.inode) made }
 
   unbroken : (rule : ℕ) → fault_by breaks count rule ≡ None → (i : ℕ) → i < count → breaks rule i ≡ false
-  unbroken rule none i lt = none_found (breaks rule) 0 count (unmapped (find (breaks rule) (range_with_len 0 count)) none) i (omega arith) (omega arith)
-    where
-      unmapped : (o : Option ℕ) → ◌≡◌ {A = Option TreeFault} (option_map (λ i. record { rule = rule; inode = i }) o) None → o ≡ None
-      unmapped None e = refl
-      unmapped (Some i) e = absurd (none_some (sym e))
+  unbroken rule none i lt = none_found (breaks rule) 0 count (unmapped rule (find (breaks rule) (range_with_len 0 count)) none) i (omega arith) (omega arith)
 
   is_first : (fault : TreeFault) → first_fault breaks count ≡ Some fault → IsLeastFault breaks count fault
   is_first fault e =

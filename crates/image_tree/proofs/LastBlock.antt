@@ -1,11 +1,11 @@
 -- A directory's blocks end with the last one that has a row.
-use Rattle.std.proofs.Common.{◌≡◌, ◌≢◌, ℕ, zero, suc, ◌≤◌, Bool, true, false, cond, ◌&&◌, List, [], ◌∷◌, Option, Some, None, refl, sym, ap, ◌∙◌, arith, nat_eq}
+use Rattle.std.proofs.Common.{◌≡◌, ◌≢◌, ℕ, zero, suc, ◌≤◌, true, false, cond, ◌&&◌, List, [], ◌∷◌, Option, Some, None, refl, sym, ap, ◌∙◌, arith, nat_eq}
 use borrow.Author.Tests.{eqb-true}
 use Rattle.std.specs.Prelude.{is_none, slice_get, slice_index_or}
 use Rattle.sfs_image.specs.Slot.{Row}
 use Rattle.image_tree.specs.Slots.{rows_end}
 use Rattle.image_tree.specs.Laws.{BlocksEndWithRow}
-use Rattle.sfs_base.proofs.BasicTruth.{and_first, and_second}
+use Rattle.sfs_base.proofs.BasicTruth.{and_first, and_second, false_not_true, and_false}
 
 -- from the end of the rows on no slot has one
 none_behind : (slots : List (Option Row)) (k : ℕ) → rows_end slots ≤ k → slice_index_or slots k None ≡ None
@@ -41,16 +41,9 @@ last_of_rows [] some = absurd (some refl)
 last_of_rows (slot ∷ slots) some =
     elim (nat_eq (rows_end slots) 0) as (λ b. nat_eq (rows_end slots) 0 ≡ b → HasLast (slot ∷ slots)) [
       | true ↦ λ t. by_slot slot t some
-      | false ↦ λ t. further t (last_of_rows slots (λ none. not_both (sym t ∙ ap (λ n. nat_eq n 0) none)))
+      | false ↦ λ t. further t (last_of_rows slots (λ none. false_not_true (sym t ∙ ap (λ n. nat_eq n 0) none)))
     ] refl
   where
-    not_both : false ≡ true → ⊥
-    not_both e = cc
-
-    no_and : (b : Bool) → (b && false) ≡ false
-    no_and true = refl
-    no_and false = refl
-
     by_slot : (slot : Option Row) → nat_eq (rows_end slots) 0 ≡ true → rows_end (slot ∷ slots) ≢ 0 → HasLast (slot ∷ slots)
     by_slot None t some = absurd (some (ap (λ b. cond b 0 (suc (rows_end slots))) t))
     by_slot (Some row) t some = record { place = 0; row = row; is = ap suc (eqb-true _ _ t); there = refl }
@@ -59,7 +52,7 @@ last_of_rows (slot ∷ slots) some =
     further t rest = record {
       place = suc rest.place;
       row = rest.row;
-      is = ap (λ b. cond (is_none slot && b) 0 (suc (rows_end slots))) t ∙ ap (λ b. cond b 0 (suc (rows_end slots))) (no_and (is_none slot)) ∙ ap suc rest.is;
+      is = ap (λ b. cond (is_none slot && b) 0 (suc (rows_end slots))) t ∙ ap (λ b. cond b 0 (suc (rows_end slots))) (and_false (is_none slot)) ∙ ap suc rest.is;
       there = rest.there;
     }
 

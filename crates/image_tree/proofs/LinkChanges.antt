@@ -4,7 +4,7 @@ use borrow.Author.Tests.{eqb-true}
 use Rattle.std.specs.Prelude.{bytes_eq, All}
 use Rattle.std.specs.List.{AllByRecursion, list_any}
 use Rattle.std.specs.List.Sorted.{IsStrictlySortedBy}
-use Rattle.std.specs.declared.cmp.Ordering.TheVariants.{Less, Equal}
+use Rattle.std.specs.declared.cmp.Ordering.TheVariants.{Less}
 use Rattle.std.specs.Ordering.{nat_cmp, is_eq}
 use Rattle.std.specs.Cmp.{tied_itself, nat_cmp_total}
 use Rattle.std.specs.FinMap.{FinMap, get, entries, insert, remove}
@@ -25,8 +25,9 @@ use Rattle.image_tree.specs.Laws.{NetsGiveLinks}
 use Rattle.sfs_base.proofs.BasicTruth.{not_both}
 use Rattle.sfs_base.proofs.BasicOptions.{none_some}
 use Rattle.sfs_base.proofs.BasicLists.{bytes_same, same_bytes}
-use Rattle.image_tree.proofs.NetRows.{no_net_row, HasNamesOnce, once_ascending}
-use Rattle.image_tree.proofs.Standing.{kind_directory}
+use Rattle.image_tree.proofs.NetRows.{no_net_row, HasNamesOnce, once_ascending, equal_not_less}
+use Rattle.sfs_tree.proofs.Readings.{directory_by_kind}
+use Rattle.sfs_base.proofs.BasicNumbers.{from_plus_zero}
 
 Rows : Type 0
 Rows = FinMap key_cmp ℕ
@@ -75,11 +76,8 @@ module _ (p : Key × ℕ → Bool) where
 
   count_without : (rows : FinMap key_cmp ℕ) (k : Key) (o : Option ℕ) → o ≡ get rows k → passing rows ≡ passing (remove rows k) + counted_row p k o
   count_without rows k (Some x) is = count-remove rows k x p (sym is)
-  count_without rows k None is = ap passing (sym unchanged) ∙ none_more _
+  count_without rows k None is = ap passing (sym unchanged) ∙ from_plus_zero _
     where
-      none_more : (n : ℕ) → n ≡ n + 0
-      none_more n = omega arith
-
       unchanged : remove rows k ≡ rows
       unchanged = same_rows (remove rows k) rows (λ q. elim (same_key q k) [
         | inl same ↦ ap (get (remove rows k)) same ∙ none_removed rows k ∙ is ∙ ap (get rows) (sym same)
@@ -87,10 +85,7 @@ module _ (p : Key × ℕ → Bool) where
       ])
 
   count_with : (rows : FinMap key_cmp ℕ) (k : Key) (o : Option ℕ) → passing (with_child rows k o) ≡ passing (remove rows k) + counted_row p k o
-  count_with rows k None = none_more _
-    where
-      none_more : (n : ℕ) → n ≡ n + 0
-      none_more n = omega arith
+  count_with rows k None = from_plus_zero _
   count_with rows k (Some x) = count-insert (remove rows k) k x p (none_removed rows k)
 
   -- what all changes come to in a count
@@ -166,10 +161,7 @@ own_keys d [] once = tt
 own_keys d (row ∷ rows) once = (no_change d row.name rows once.0, own_keys d rows once.1)
 
 less_apart : (d e : ℕ) → nat_cmp d e ≡ Less → e ≢ d
-less_apart d e less same = not_both (sym (is_equal _ (ap is_eq (tied_itself nat_cmp_total d))) ∙ ap (nat_cmp d) (sym same) ∙ less)
-  where
-    not_both : Equal ≡ Less → ⊥
-    not_both e = cc
+less_apart d e less same = equal_not_less (sym (is_equal _ (ap is_eq (tied_itself nat_cmp_total d))) ∙ ap (nat_cmp d) (sym same) ∙ less)
 
 module _ (old new : TreeState) (nets : ℕ → List NetRow) (each : (d : ℕ) → IsNet (names_of d old.rows) (names_of d new.rows) (nets d)) where
   -- a directory's changes are at keys that no later member's changes have
@@ -248,7 +240,7 @@ nets_give_links old new nets members x h =
     ] refl
   where
     same : (y : ℕ) → is_directory old y ≡ is_directory new y
-    same y = kind_directory old y ∙ ap is_directory_kind (sym (h.kinds y)) ∙ sym (kind_directory new y)
+    same y = directory_by_kind old y ∙ ap is_directory_kind (sym (h.kinds y)) ∙ sym (directory_by_kind new y)
 
     agree : count_by (holds_directory old x) (entries old.rows) ≡ count_by (holds_directory new x) (entries old.rows)
     agree = count_agree (holds_directory old x) (holds_directory new x) old.rows (λ k y _. ap (λ b. nat_eq k.0 x && b) (same y))

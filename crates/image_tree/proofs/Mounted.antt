@@ -18,8 +18,7 @@ use Rattle.sfs_tree.proofs.Joined.{name_cmp-IsAntisymmetric, bucket_small}
 use Rattle.sfs_base.proofs.BasicNumbers.{not_same, some_counted}
 use Rattle.sfs_tree.proofs.Names.{get-names_where}
 use Rattle.sfs_tree.proofs.RowFacts.{root_alive, named_alive}
-use Rattle.sfs_image.specs.Slot.{Row, kind_byte}
-use Rattle.sfs_image.specs.Slot.{kind_of as slot_kind}
+use Rattle.sfs_image.specs.Slot.{Row, kind_byte, kind_of as slot_kind}
 use Rattle.sfs_image.specs.Seen.{SeenInodes}
 use Rattle.image_tree.specs.Slots.{looked_up, name_count}
 use Rattle.image_tree.specs.ImageTree.{Making, NOTHING_MADE, shows_directory, image_rows, is_node, is_used, node_shown, nodes_where, tree_where, image_tree, tree_with_orphans}
@@ -168,6 +167,9 @@ pub sound_shown : (image : SeenInodes) (making : Making) → KeepsRules image �
 sound_shown image making k = sound_where image k (is_node image) (directory_is_node image) (file_is_node image) making
 
 -- the image's own tree, with its orphans
+pub used_not_free : (image : SeenInodes) (x : ℕ) → is_used image x ≡ true → (image.seen x).kind ≢ 0
+used_not_free image x u free = not_both u (ap (λ b. not (nat_eq b 0)) free)
+
 module _ (image : SeenInodes) (making : Making) (k : KeepsRules image) (g : ShowsByKind image) where
   abbrev own : TreeState
   own = tree_with_orphans image making
@@ -204,9 +206,6 @@ module _ (image : SeenInodes) (making : Making) (k : KeepsRules image) (g : Show
       | true ↦ λ u e. record { is = some_same e; within = ltb-true _ _ t; used = u }
     ] refl e
   ] refl e
-
-  used_not_free : (x : ℕ) → is_used image x ≡ true → (image.seen x).kind ≢ 0
-  used_not_free x u free = not_both u (ap (λ b. not (nat_eq b 0)) free)
 
   own_directory : (i : ℕ) → i < image.count → is_directory own i ≡ shows_directory (image.seen i)
   own_directory i lt = directory_where image (is_used image) making used_directory i lt
@@ -265,7 +264,7 @@ module _ (image : SeenInodes) (making : Making) (k : KeepsRules image) (g : Show
 
   own_shows : (x : ℕ) → x < image.count → is_used image x ≡ true → ShowsNode num own x (image.seen x)
   own_shows x lt used =
-      let some = used_not_free x used in
+      let some = used_not_free image x used in
       record {
         kind = byte_again (image.seen x).kind (g.kinds x lt some) ∙ ap kind_byte (sym (own_kind x lt used));
         links = k.links x lt some ∙ sym (own_links x lt);

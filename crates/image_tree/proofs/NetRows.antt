@@ -69,16 +69,16 @@ unfoldable pub HasNamesOnce : List NetRow → Type 0
 HasNamesOnce [] = Unit {0}
 HasNamesOnce (row ∷ rows) = (row_in_net row.name rows ≡ None) × HasNamesOnce rows
 
+pub equal_not_less : Equal ≡ Less → ⊥
+equal_not_less e = cc
+
 pub once_ascending : (net : List NetRow) → IsStrictlySortedBy name_cmp (map net_name net) → HasNamesOnce net
 unfolding HasNamesOnce IsStrictlySortedBy
 once_ascending [] h = tt
 once_ascending (row ∷ rows) h = (none_behind row.name rows h.0, once_ascending rows h.1)
   where
     less_apart : (n m : List ℕ) → name_cmp n m ≡ Less → n ≢ m
-    less_apart n m less same = not_both (sym (is_equal _ (ap is_eq (tied_itself nat_list_cmp_total n))) ∙ ap (name_cmp n) same ∙ less)
-      where
-        not_both : Equal ≡ Less → ⊥
-        not_both e = cc
+    less_apart n m less same = equal_not_less (sym (is_equal _ (ap is_eq (tied_itself nat_list_cmp_total n))) ∙ ap (name_cmp n) same ∙ less)
 
     none_behind : (n : List ℕ) (rows : List NetRow) → AllByRecursion (λ other. name_cmp n other ≡ Less) (map net_name rows) → row_in_net n rows ≡ None
     none_behind n [] h = refl

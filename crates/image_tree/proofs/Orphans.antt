@@ -25,6 +25,15 @@ use Rattle.image_tree.proofs.Images.{row_shown}
 use Rattle.image_tree.proofs.Mounted.{looked_may}
 
 module _ (image next : SeenInodes) (k : KeepsRules image) (g : ShowsByKind image) (f : FreesOrphans image next) where
+  no_kind : 0 ≡ kind_byte Directory → ⊥
+  no_kind e = cc
+
+  no_file : 0 ≡ kind_byte File → ⊥
+  no_file e = cc
+
+  within_image : (n : ℕ) → n < next.count → n < image.count
+  within_image n lt = subst (λ (c : ℕ). n < c) f.count lt
+
   no_directory_file : (n : ℕ) → n ≡ kind_byte Directory → nat_eq n (kind_byte File) ≡ false
   no_directory_file n e = ap (λ m. nat_eq m (kind_byte File)) e
 
@@ -112,14 +121,11 @@ module _ (image next : SeenInodes) (k : KeepsRules image) (g : ShowsByKind image
   was_directory : (i : ℕ) → IsDirectoryInode next i → WasDirectory i
   was_directory i is = elim (freed_or i within) as (λ _. WasDirectory i) [
     | inl same ↦ record { inode = (within, ap (λ (seen : Seen). seen.kind) (sym same) ∙ is.1); same = same }
-    | inr freed ↦ absurd (not_both (sym freed.0.kind ∙ is.1))
+    | inr freed ↦ absurd (no_kind (sym freed.0.kind ∙ is.1))
   ]
     where
       within : i < image.count
       within = subst (λ (n : ℕ). i < n) f.count is.0
-
-      not_both : 0 ≡ kind_byte Directory → ⊥
-      not_both e = cc
 
   -- an inode that a row names stays
   named_stays : (d : ℕ) → IsDirectoryInode image d → (row : Row) → looked_up row.name (image.seen d).slots ≡ Some row →
@@ -156,18 +162,15 @@ module _ (image next : SeenInodes) (k : KeepsRules image) (g : ShowsByKind image
       stand (slot ∷ slots) h = (stand_at slot h.0, stand slots h.1)
 
   blocks_stay : HoldsApart next
-  blocks_stay i p j q lt less small tiny some same = by_both (freed_or i (within i lt)) (freed_or j (within j less))
+  blocks_stay i p j q lt less small tiny some same = by_both (freed_or i (within_image i lt)) (freed_or j (within_image j less))
     where
-      within : (n : ℕ) → n < next.count → n < image.count
-      within n lt = subst (λ (c : ℕ). n < c) f.count lt
-
       by_both : FreedOr i → FreedOr j → (i ≡ j) × (p ≡ q)
       by_both (inr freed) other = absurd (some (freed.0.blocks p small))
       by_both (inl first) (inr freed) = absurd (some (same ∙ freed.0.blocks q tiny))
       by_both (inl first) (inl second) =
           let a : (next.seen i).blocks p ≡ (image.seen i).blocks p = ap (λ (seen : Seen). seen.blocks p) first in
           let b : (next.seen j).blocks q ≡ (image.seen j).blocks q = ap (λ (seen : Seen). seen.blocks q) second in
-          k.apart i p j q (within i lt) (within j less) small tiny (λ none. some (a ∙ none)) (sym a ∙ same ∙ b)
+          k.apart i p j q (within_image i lt) (within_image j less) small tiny (λ none. some (a ∙ none)) (sym a ∙ same ∙ b)
 
   used_stays : (i : ℕ) → i < image.count → (next.seen i).kind ≢ 0 → next.seen i ≡ image.seen i
   used_stays i lt used = elim (freed_or i lt) as (λ _. next.seen i ≡ image.seen i) [ inl same ↦ same | inr freed ↦ absurd (used freed.0.kind) ]
@@ -192,48 +195,36 @@ module _ (image next : SeenInodes) (k : KeepsRules image) (g : ShowsByKind image
     reached = λ i is. let w = was_directory i is in let up = k.reached i w.inode in (up.0, above_same up.1);
   }
 
-  no_kind : 0 ≡ kind_byte Directory → ⊥
-  no_kind e = cc
-
   kinds_stay : ShowsByKind next
   kinds_stay = record {
     kinds = λ i lt used.
-        let same = ap (λ (seen : Seen). seen.kind) (used_stays i (within i lt) used) in
-        elim (g.kinds i (within i lt) (λ free. used (same ∙ free))) as (λ _. ((next.seen i).kind ≡ kind_byte File) ⊎ ((next.seen i).kind ≡ kind_byte Directory)) [ inl file ↦ inl (same ∙ file) | inr directory ↦ inr (same ∙ directory) ];
+        let same = ap (λ (seen : Seen). seen.kind) (used_stays i (within_image i lt) used) in
+        elim (g.kinds i (within_image i lt) (λ free. used (same ∙ free))) as (λ _. ((next.seen i).kind ≡ kind_byte File) ⊎ ((next.seen i).kind ≡ kind_byte Directory)) [ inl file ↦ inl (same ∙ file) | inr directory ↦ inr (same ∙ directory) ];
     sizes = λ i lt used.
-        let same = used_stays i (within i lt) used in
-        subst (λ (seen : Seen). seen.size ≡ Rattle.image_tree.specs.Stands.own_size seen) (sym same) (g.sizes i (within i lt) (λ free. used (ap (λ (seen : Seen). seen.kind) same ∙ free)));
+        let same = used_stays i (within_image i lt) used in
+        subst (λ (seen : Seen). seen.size ≡ Rattle.image_tree.specs.Stands.own_size seen) (sym same) (g.sizes i (within_image i lt) (λ free. used (ap (λ (seen : Seen). seen.kind) same ∙ free)));
     files = λ i lt file.
-        let same = used_stays i (within i lt) (λ free. not_both (sym free ∙ file)) in
-        subst (λ (seen : Seen). seen.slots ≡ []) (sym same) (g.files i (within i lt) (ap (λ (seen : Seen). seen.kind) (sym same) ∙ file));
+        let same = used_stays i (within_image i lt) (λ free. no_file (sym free ∙ file)) in
+        subst (λ (seen : Seen). seen.slots ≡ []) (sym same) (g.files i (within_image i lt) (ap (λ (seen : Seen). seen.kind) (sym same) ∙ file));
     directories = λ i lt directory.
-        let same = used_stays i (within i lt) (λ free. no_kind (sym free ∙ directory)) in
-        ap (λ (seen : Seen). seen.bytes) same ∙ g.directories i (within i lt) (ap (λ (seen : Seen). seen.kind) (sym same) ∙ directory);
-    unused = λ i lt free. elim (freed_or i (within i lt)) as (λ _. IsUnused (next.seen i)) [
-      | inl same ↦ subst IsUnused (sym same) (g.unused i (within i lt) (ap (λ (seen : Seen). seen.kind) (sym same) ∙ free))
+        let same = used_stays i (within_image i lt) (λ free. no_kind (sym free ∙ directory)) in
+        ap (λ (seen : Seen). seen.bytes) same ∙ g.directories i (within_image i lt) (ap (λ (seen : Seen). seen.kind) (sym same) ∙ directory);
+    unused = λ i lt free. elim (freed_or i (within_image i lt)) as (λ _. IsUnused (next.seen i)) [
+      | inl same ↦ subst IsUnused (sym same) (g.unused i (within_image i lt) (ap (λ (seen : Seen). seen.kind) (sym same) ∙ free))
       | inr freed ↦ freed.0
     ];
   }
-    where
-      within : (n : ℕ) → n < next.count → n < image.count
-      within n lt = subst (λ (c : ℕ). n < c) f.count lt
-
-      not_both : 0 ≡ kind_byte File → ⊥
-      not_both e = cc
 
   no_orphans : HasNoOrphans next
   no_orphans i lt file none =
       let within = subst (λ (n : ℕ). i < n) f.count lt in
       elim (freed_or i within) as (λ _. ⊥) [
-        | inr freed ↦ not_both (sym freed.0.kind ∙ file)
+        | inr freed ↦ no_file (sym freed.0.kind ∙ file)
         | inl same ↦
             let orphan : is_orphan image i ≡ true =
             ap (λ b. b && nat_eq (count_of (image_rows image) i) 0) (eq-eqb (image.seen i).kind (kind_byte File) (ap (λ (seen : Seen). seen.kind) (sym same) ∙ file)) ∙ eq-eqb (count_of (image_rows image) i) 0 (sym (count_same i) ∙ none) in
-            not_both (sym (f.freed i within orphan).kind ∙ file)
+            no_file (sym (f.freed i within orphan).kind ∙ file)
       ]
-    where
-      not_both : 0 ≡ kind_byte File → ⊥
-      not_both e = cc
 
 pub freed_orphans_keep_the_tree : FreedOrphansKeepTheTree
 freed_orphans_keep_the_tree image next making k g f = record {

@@ -7,6 +7,7 @@ use Rattle.sfs_tree.proofs.Counting.{count-remove, count_none, stayed, get_other
 use Rattle.sfs_base.proofs.BasicTruth.{not_both}
 use Rattle.sfs_base.proofs.BasicOptions.{none_some}
 use Rattle.image_tree.proofs.Basics.{found_cases, found_first, found_behind, found_apart}
+use Rattle.sfs_base.proofs.BasicNumbers.{zero_plus}
 
 -- Entries that pass a test stand one to one with the rows of a map that pass another: each has its row, each row is an entry's, and no
 -- two entries have one row.
@@ -22,28 +23,28 @@ module _ (p q : Key × ℕ → Bool) (to : Key × ℕ → Key × ℕ) where
   same_entry : (k : Key) (x : ℕ) (e : Key × ℕ) → k ≡ e.0 → x ≡ e.1 → ◌≡◌ {A = Key × ℕ} (k, x) e
   same_entry k x e a b = λ i. (a i, b i)
 
+  behind : (e : Key × ℕ) (es : List (Key × ℕ)) → T (is_sorted key_cmp (e ∷ es)) → (k : Key) (x : ℕ) → found_in es k ≡ Some x → found_in (e ∷ es) k ≡ Some x
+  behind e es s k x is = found_behind key_cmp_total key_cmp-IsAntisymmetric k x e es s is
+
   fewer : (e : Key × ℕ) (es : List (Key × ℕ)) → T (is_sorted key_cmp (e ∷ es)) → p e ≡ false → (rows : FinMap key_cmp ℕ) →
       ArePaired p q to (found_in (e ∷ es)) rows → ArePaired p q to (found_in es) rows
   fewer e es s fails rows h = record {
-    forth = λ k x is. h.forth k x (behind k x is);
+    forth = λ k x is. h.forth k x (behind e es s k x is);
     back = λ l y is passes.
         let b = h.back l y is passes in
         elim (found_cases key_cmp_total key_cmp-IsAntisymmetric b.0 b.1 e es b.2) as (λ _. (k : Key) × (x : ℕ) × (found_in es k ≡ Some x) × (p (k, x) ≡ true) × ((to (k, x)).0 ≡ l)) [
           | inl same ↦ absurd (not_both (ap p (sym (same_entry b.0 b.1 e same.0 same.1)) ∙ b.3) fails)
           | inr found ↦ (b.0, b.1, found, b.3, b.4)
         ];
-    once = λ k l x y a pa b pb. h.once k l x y (behind k x a) pa (behind l y b) pb;
+    once = λ k l x y a pa b pb. h.once k l x y (behind e es s k x a) pa (behind e es s l y b) pb;
   }
-    where
-      behind : (k : Key) (x : ℕ) → find key_cmp k es ≡ Some x → find key_cmp k (e ∷ es) ≡ Some x
-      behind k x is = found_behind key_cmp_total key_cmp-IsAntisymmetric k x e es s is
 
   without : (e : Key × ℕ) (es : List (Key × ℕ)) → T (is_sorted key_cmp (e ∷ es)) → p e ≡ true → (rows : FinMap key_cmp ℕ) →
       ArePaired p q to (found_in (e ∷ es)) rows → ArePaired p q to (found_in es) (remove rows (to e).0)
   without e es s passes rows h = record {
     forth = λ k x is pass.
-        let f = h.forth k x (behind k x is) pass in
-        (get_other-remove rows (to e).0 (to (k, x)).0 (λ same. apart k x is (h.once k e.0 x e.1 (behind k x is) pass first passes same)) ∙ f.0, f.1);
+        let f = h.forth k x (behind e es s k x is) pass in
+        (get_other-remove rows (to e).0 (to (k, x)).0 (λ same. apart k x is (h.once k e.0 x e.1 (behind e es s k x is) pass first passes same)) ∙ f.0, f.1);
     back = λ l y is pass.
         let was = stayed rows (to e).0 l y is in
         let b = h.back l y was.1 pass in
@@ -51,7 +52,7 @@ module _ (p q : Key × ℕ → Bool) (to : Key × ℕ → Key × ℕ) where
           | inl same ↦ absurd (was.0 (sym b.4 ∙ ap (λ (r : Key × ℕ). (to r).0) (same_entry b.0 b.1 e same.0 same.1)))
           | inr found ↦ (b.0, b.1, found, b.3, b.4)
         ];
-    once = λ k l x y a pa b pb. h.once k l x y (behind k x a) pa (behind l y b) pb;
+    once = λ k l x y a pa b pb. h.once k l x y (behind e es s k x a) pa (behind e es s l y b) pb;
   }
     where
       first : find key_cmp e.0 (e ∷ es) ≡ Some e.1
@@ -59,9 +60,6 @@ module _ (p q : Key × ℕ → Bool) (to : Key × ℕ → Key × ℕ) where
 
       apart : (k : Key) (x : ℕ) → find key_cmp k es ≡ Some x → k ≢ e.0
       apart k x is = found_apart key_cmp_total key_cmp-IsAntisymmetric k x e es s is
-
-      behind : (k : Key) (x : ℕ) → find key_cmp k es ≡ Some x → find key_cmp k (e ∷ es) ≡ Some x
-      behind k x is = found_behind key_cmp_total key_cmp-IsAntisymmetric k x e es s is
 
   paired_list : (es : List (Key × ℕ)) → T (is_sorted key_cmp es) → (rows : FinMap key_cmp ℕ) → ArePaired p q to (found_in es) rows →
       count_by p es ≡ count_by q (entries rows)
@@ -77,15 +75,12 @@ module _ (p q : Key × ℕ → Bool) (to : Key × ℕ → Key × ℕ) where
             let rest = paired_list es (Rattle.sfs_base.proofs.BasicTruth.both_second _ _ s) (remove rows (to e).0) (without e es s t rows h) in
             let less = count-remove rows (to e).0 (to e).1 q f.0 in
             count-cons p e es ∙ ap (λ b. cond b 1 0 + count_by p es) t ∙ one_more _ _ _ (q (to e)) f.1 rest less
-        | false ↦ λ t. count-cons p e es ∙ ap (λ b. cond b 1 0 + count_by p es) t ∙ ap (λ n. 0 + n) (paired_list es (Rattle.sfs_base.proofs.BasicTruth.both_second _ _ s) rows (fewer e es s t rows h)) ∙ none_more _
+        | false ↦ λ t. count-cons p e es ∙ ap (λ b. cond b 1 0 + count_by p es) t ∙ ap (λ n. 0 + n) (paired_list es (Rattle.sfs_base.proofs.BasicTruth.both_second _ _ s) rows (fewer e es s t rows h)) ∙ zero_plus _
       ] refl
     where
       one_more : (a b c : ℕ) (t : Bool) → t ≡ true → a ≡ b → c ≡ b + cond t 1 0 → 1 + a ≡ c
       one_more a b c true t e f = omega arith
       one_more a b c false t e f = absurd (cc)
-
-      none_more : (n : ℕ) → 0 + n ≡ n
-      none_more n = omega arith
 
 -- so they are counted alike
 pub count_paired : (p q : Key × ℕ → Bool) (to : Key × ℕ → Key × ℕ) (rows other : FinMap key_cmp ℕ) → ArePaired p q to (get rows) other →

@@ -124,17 +124,14 @@ module _ (store : ℕ → List ℕ) (raws : ℕ → List ℕ) (count : ℕ) wher
     facts : (i : ℕ) → i < count → InodeFacts (raws i)
     facts i lt = inode_facts (raws i) (none_of (inode_fault (raws i)) (ap (λ (r : List ℕ). is_some (inode_fault r)) (sym (own_raw store (raws i))) ∙ records i lt))
 
-    abbrev kind_at : ℕ → ℕ
-    kind_at i = (inode_in (parts i)).kind
-
-    kind_is : (i : ℕ) → kind_at i ≡ slice_index (raws i) 0
+    kind_is : (i : ℕ) → (inode_in (parts i)).kind ≡ slice_index (raws i) 0
     kind_is i = ap (λ (r : List ℕ). (inode_of r).kind) (own_raw store (raws i))
 
-    unused_shown : (i : ℕ) → i < count → kind_at i ≡ 0 → IsUnused (seen_of (parts i))
+    unused_shown : (i : ℕ) → i < count → (inode_in (parts i)).kind ≡ 0 → IsUnused (seen_of (parts i))
     unused_shown i lt free = record { kind = free; blocks = no_pointer store (raws i) ((facts i lt).free (sym (kind_is i) ∙ free)) }
 
-    kinds_shown : (i : ℕ) → i < count → kind_at i ≢ 0 → (kind_at i ≡ kind_byte File) ⊎ (kind_at i ≡ kind_byte Directory)
-    kinds_shown i lt used = by_number (kind_at i) used (let a = (facts i lt).kind in let b = kind_is i in omega arith)
+    kinds_shown : (i : ℕ) → i < count → (inode_in (parts i)).kind ≢ 0 → ((inode_in (parts i)).kind ≡ kind_byte File) ⊎ ((inode_in (parts i)).kind ≡ kind_byte Directory)
+    kinds_shown i lt used = by_number (inode_in (parts i)).kind used (let a = (facts i lt).kind in let b = kind_is i in omega arith)
       where
         by_number : (n : ℕ) → n ≢ 0 → n ≤ 2 → (n ≡ kind_byte File) ⊎ (n ≡ kind_byte Directory)
         by_number zero some le = absurd (some refl)
@@ -143,14 +140,14 @@ module _ (store : ℕ → List ℕ) (raws : ℕ → List ℕ) (count : ℕ) wher
         by_number (suc (suc (suc n))) some le = absurd (omega arith)
 
     module _ (sizes : (i : ℕ) → i < count → breaks_size (parts i) ≡ false) where
-      size_shown : (i : ℕ) → i < count → kind_at i ≢ 0 → (inode_in (parts i)).size ≡ own_size (seen_of (parts i))
+      size_shown : (i : ℕ) → i < count → (inode_in (parts i)).kind ≢ 0 → (inode_in (parts i)).size ≡ own_size (seen_of (parts i))
       size_shown i lt used = elim (kinds_shown i lt used) [
         | inl file ↦
             sym (ap (λ n. cond (nat_eq n (kind_byte Directory)) (4096 * (length (shown_slots (parts i)) / 15)) (length (shown_bytes (parts i)))) file
             ∙ ap (λ n. length (cond (nat_eq n (kind_byte File)) (tabulate (inode_in (parts i)).size (Rattle.sfs_image.specs.Part.file_byte (parts i))) [])) file
             ∙ length-tabulate (inode_in (parts i)).size (Rattle.sfs_image.specs.Part.file_byte (parts i)))
         | inr directory ↦
-            let is = eq-eqb (kind_at i) (kind_byte Directory) directory in
+            let is = eq-eqb (inode_in (parts i)).kind (kind_byte Directory) directory in
             let fits = (sizes_say (parts i)).0 (sizes i lt) in
             let whole_blocks = fits.whole is in
             let few = fits.few is in

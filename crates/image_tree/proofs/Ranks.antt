@@ -10,14 +10,12 @@ use Rattle.image_tree.specs.Commit.{Commit, seen_before, HasBlock, hole, kept, f
 use Rattle.image_tree.specs.Need.{Rewrite, rewrites_table, table_has_pointer, takes_place, pointer_after, place_in_row, takes_in_row, rank, RanksServe, GrantServes, IsListed, TakesByRank}
 use Rattle.image_tree.specs.Laws.{RanksServeGrants, RanksTakeFreeBlocks, RanksGoOn}
 use Rattle.sfs_base.proofs.BasicOptions.{none_some, some_same}
+use Rattle.sfs_base.proofs.BasicNumbers.{from_plus_zero, zero_plus, plus_zero}
 
 module _ (takes : ℕ → Bool) where
   count_more : (a n : ℕ) → count_by takes (range_with_len a (suc n)) ≡ count_by takes (range_with_len a n) + cond (takes (a + n)) 1 0
-  count_more a zero = count-cons takes a (range_with_len (a + 1) 0) ∙ ap (λ m. cond (takes m) 1 0 + 0) (same a) ∙ swap _
+  count_more a zero = count-cons takes a (range_with_len (a + 1) 0) ∙ ap (λ m. cond (takes m) 1 0 + 0) (from_plus_zero a) ∙ swap _
     where
-      same : (a : ℕ) → a ≡ a + 0
-      same a = omega arith
-
       swap : (x : ℕ) → x + 0 ≡ 0 + x
       swap x = omega arith
   count_more a (suc n) =
@@ -32,24 +30,16 @@ module _ (takes : ℕ → Bool) where
 
   rank_more : (p : ℕ) → rank takes (suc p) ≡ rank takes p + cond (takes p) 1 0
   unfolding rank
-  rank_more p = count_more 0 p ∙ ap (λ m. count_by takes (range_with_len 0 p) + cond (takes m) 1 0) (same p)
-    where
-      same : (p : ℕ) → 0 + p ≡ p
-      same p = omega arith
+  rank_more p = count_more 0 p ∙ ap (λ m. count_by takes (range_with_len 0 p) + cond (takes m) 1 0) (zero_plus p)
 
   rank_up : (p more : ℕ) → rank takes p ≤ rank takes (p + more)
-  rank_up p zero = let e = ap (rank takes) (same p) in omega arith
-    where
-      same : (p : ℕ) → p + 0 ≡ p
-      same p = omega arith
+  rank_up p zero = let e = ap (rank takes) (plus_zero p) in omega arith
   rank_up p (suc more) =
       let rest = rank_up p more in
       let step = rank_more (p + more) in
-      let e = ap (rank takes) (next p more) in
+      let next : p + suc more ≡ suc (p + more) = omega arith in
+      let e = ap (rank takes) next in
       omega arith
-    where
-      next : (p more : ℕ) → p + suc more ≡ suc (p + more)
-      next p more = omega arith
 
   rank_below : (p n : ℕ) → takes p ≡ true → p < n → rank takes p < rank takes n
   rank_below p n t lt =

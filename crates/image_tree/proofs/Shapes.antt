@@ -127,21 +127,18 @@ module _ (num : Numbering) (tree other : TreeState) (r : IsRenamed num tree othe
   met_renamed zero path x m = refl
   met_renamed (suc steps) path x m =
       ap (λ l. record { path = path; node = inode_under num x } ∷ l) (
-      ap (λ b. flat_map walk_other (cond b (entries (names_of (inode_under num x) other.rows)) [])) (directory_renamed num tree other r x (inode_under num x) (number_of_met x m) m)
+      ap (λ b. flat_map (walk other) (cond b (entries (names_of (inode_under num x) other.rows)) [])) (directory_renamed num tree other r x (inode_under num x) (number_of_met x m) m)
       ∙ by_kind (λ row is. met_renamed steps (path ++ row.0 ∷ []) row.1 is) (is_directory tree x))
     where
-      walk : List ℕ × ℕ → List Met
-      walk row = met_from steps tree (path ++ row.0 ∷ []) row.1
+      walk : TreeState → List ℕ × ℕ → List Met
+      walk from row = met_from steps from (path ++ row.0 ∷ []) row.1
 
-      walk_other : List ℕ × ℕ → List Met
-      walk_other row = met_from steps other (path ++ row.0 ∷ []) row.1
-
-      by_kind : ((row : List ℕ × ℕ) → IsMet tree row.1 → walk_other (with_value (inode_under num) row) ≡ map rename_met (walk row)) → (b : Bool) →
-          flat_map walk_other (cond b (entries (names_of (inode_under num x) other.rows)) []) ≡ map rename_met (flat_map walk (cond b (entries (names_of x tree.rows)) []))
+      by_kind : ((row : List ℕ × ℕ) → IsMet tree row.1 → walk other (with_value (inode_under num) row) ≡ map rename_met (walk tree row)) → (b : Bool) →
+          flat_map (walk other) (cond b (entries (names_of (inode_under num x) other.rows)) []) ≡ map rename_met (flat_map (walk tree) (cond b (entries (names_of x tree.rows)) []))
       by_kind deeper false = refl
       by_kind deeper true =
-          ap (flat_map walk_other) (part_renamed (λ _. true) x (inode_under num x) (number_of_met x m))
-          ∙ flat_alike (λ (row : List ℕ × ℕ). IsMet tree row.1) (with_value (inode_under num)) rename_met walk walk_other deeper (entries (names_of x tree.rows)) (children_met x)
+          ap (flat_map (walk other)) (part_renamed (λ _. true) x (inode_under num x) (number_of_met x m))
+          ∙ flat_alike (λ (row : List ℕ × ℕ). IsMet tree row.1) (with_value (inode_under num)) rename_met (walk tree) (walk other) deeper (entries (names_of x tree.rows)) (children_met x)
 
   met_same : met other ≡ map rename_met (met tree)
   met_same =
@@ -156,13 +153,13 @@ module _ (num : Numbering) (tree other : TreeState) (r : IsRenamed num tree othe
   same_node : (x y : ℕ) → IsMet tree x → IsMet tree y → nat_eq (inode_under num y) (inode_under num x) ≡ nat_eq y x
   same_node x y m l = number_same num tree other r x y (inode_under num x) (inode_under num y) (number_of_met x m) (number_of_met y l)
 
-  any_same : (x : ℕ) → IsMet tree x → (files : List ℕ) → AllByRecursion (IsMet tree) files →
-      list_any (λ b. nat_eq b (inode_under num x)) (map (inode_under num) files) ≡ list_any (λ b. nat_eq b x) files
+  any_same : (x : ℕ) → IsMet tree x → (files : List ℕ) → AllByRecursion (IsMet tree) files
+      → list_any (λ b. nat_eq b (inode_under num x)) (map (inode_under num) files) ≡ list_any (λ b. nat_eq b x) files
   any_same x m [] a = refl
   any_same x m (f ∷ files) a = ap (λ b. b || list_any (λ b. nat_eq b (inode_under num x)) (map (inode_under num) files)) (same_node x f m a.0) ∙ ap (λ b. nat_eq f x || b) (any_same x m files a.1)
 
-  with_file_same : (x : ℕ) → IsMet tree x → (files : List ℕ) → AllByRecursion (IsMet tree) files →
-      with_file (map (inode_under num) files) (inode_under num x) ≡ map (inode_under num) (with_file files x)
+  with_file_same : (x : ℕ) → IsMet tree x → (files : List ℕ) → AllByRecursion (IsMet tree) files
+      → with_file (map (inode_under num) files) (inode_under num x) ≡ map (inode_under num) (with_file files x)
   with_file_same x m files a =
       ap (λ b. cond b (map (inode_under num) files) (map (inode_under num) files ++ inode_under num x ∷ [])) (any_same x m files a)
       ∙ by_test (list_any (λ b. nat_eq b x) files)
@@ -175,8 +172,8 @@ module _ (num : Numbering) (tree other : TreeState) (r : IsRenamed num tree othe
   with_file_met : (x : ℕ) → IsMet tree x → (files : List ℕ) → AllByRecursion (IsMet tree) files → AllByRecursion (IsMet tree) (with_file files x)
   with_file_met x m files a = elim (list_any (λ b. nat_eq b x) files) as (λ b. AllByRecursion (IsMet tree) (cond b files (files ++ x ∷ []))) [ true ↦ a | false ↦ all_append (IsMet tree) files (x ∷ []) a (m, tt) ]
 
-  fold_same : (xs files : List ℕ) → AllByRecursion (IsMet tree) xs → AllByRecursion (IsMet tree) files →
-      fold with_file (map (inode_under num) files) (map (inode_under num) xs) ≡ map (inode_under num) (fold with_file files xs)
+  fold_same : (xs files : List ℕ) → AllByRecursion (IsMet tree) xs → AllByRecursion (IsMet tree) files
+      → fold with_file (map (inode_under num) files) (map (inode_under num) xs) ≡ map (inode_under num) (fold with_file files xs)
   fold_same [] files a b = refl
   fold_same (x ∷ xs) files a b =
       ap (λ l. fold with_file l (map (inode_under num) xs)) (with_file_same x a.0 files b) ∙ fold_same xs (with_file files x) a.1 (with_file_met x a.0 files b)
@@ -208,15 +205,15 @@ module _ (num : Numbering) (tree other : TreeState) (r : IsRenamed num tree othe
   files_are_met : AllByRecursion (IsMet tree) (files_met tree)
   files_are_met = fold_met _ [] (all_filtered (IsMet tree) _ _ nodes_met) tt
 
-  place_same : (x : ℕ) → IsMet tree x → (files : List ℕ) → AllByRecursion (IsMet tree) files →
-      position_or_len (λ f. nat_eq f (inode_under num x)) (map (inode_under num) files) ≡ position_or_len (λ f. nat_eq f x) files
+  place_same : (x : ℕ) → IsMet tree x → (files : List ℕ) → AllByRecursion (IsMet tree) files
+      → position_or_len (λ f. nat_eq f (inode_under num x)) (map (inode_under num) files) ≡ position_or_len (λ f. nat_eq f x) files
   place_same x m [] a = refl
   place_same x m (f ∷ files) a =
       ap (λ b. cond (not b) (1 + position_or_len (λ f. nat_eq f (inode_under num x)) (map (inode_under num) files)) 0) (same_node x f m a.0)
       ∙ ap (λ n. cond (not (nat_eq f x)) (1 + n) 0) (place_same x m files a.1)
 
-  position_same : (x : ℕ) → IsMet tree x → (files : List ℕ) → AllByRecursion (IsMet tree) files →
-      position (λ f. nat_eq f (inode_under num x)) (map (inode_under num) files) ≡ position (λ f. nat_eq f x) files
+  position_same : (x : ℕ) → IsMet tree x → (files : List ℕ) → AllByRecursion (IsMet tree) files
+      → position (λ f. nat_eq f (inode_under num x)) (map (inode_under num) files) ≡ position (λ f. nat_eq f x) files
   position_same x m files a =
       ap (λ n. cond (nat_lt n (length (map (inode_under num) files))) (Some n) None) (place_same x m files a)
       ∙ ap (λ n. cond (nat_lt (position_or_len (λ f. nat_eq f x) files) n) (Some (position_or_len (λ f. nat_eq f x) files)) None) (length-map files (inode_under num))

@@ -8,6 +8,7 @@ use Rattle.image_tree.specs.Slots.{has_name, looked_up, name_count, rows_end, bl
 use Rattle.image_tree.specs.Commit.{filled}
 use Rattle.sfs_base.proofs.BasicOptions.{none_some}
 use Rattle.image_tree.proofs.SlotRows.{count_slot, none_looked}
+use Rattle.sfs_base.proofs.BasicNumbers.{from_zero_plus, from_plus_zero, none_below}
 
 -- a name that is not found is counted nowhere
 pub none_counted : (n : List ℕ) (slots : List (Option Row)) → looked_up n slots ≡ None → name_count n slots ≡ 0
@@ -70,14 +71,8 @@ module _ (change : Option Row → Option Row) (empty : change None ≡ None) (na
 -- further rows are counted beside what stands
 pub count_filled : (n : List ℕ) (slots : List (Option Row)) (rows : List Row) →
     name_count n (filled slots rows) ≡ name_count n slots + name_count n (map Some rows)
-count_filled n [] rows = none_more _
-  where
-    none_more : (a : ℕ) → a ≡ 0 + a
-    none_more a = omega arith
-count_filled n (slot ∷ slots) [] = none_more _
-  where
-    none_more : (a : ℕ) → a ≡ a + 0
-    none_more a = omega arith
+count_filled n [] rows = from_zero_plus _
+count_filled n (slot ∷ slots) [] = from_plus_zero _
 count_filled n (None ∷ slots) (row ∷ rows) =
     let a = count_slot n (Some row) (filled slots rows) in
     let b = count_slot n (Some row) (map Some rows) in
@@ -128,10 +123,7 @@ rows_end_step slot slots k le =
 
 no_rows_left : (n : List ℕ) (slots : List (Option Row)) → rows_end slots ≤ 0 → name_count n slots ≡ 0
 no_rows_left n [] le = refl
-no_rows_left n (Some row ∷ slots) le = absurd (no_less le)
-  where
-    no_less : {k : ℕ} → suc k ≤ 0 → ⊥
-    no_less h = omega arith
+no_rows_left n (Some row ∷ slots) le = absurd (none_below le)
 no_rows_left n (None ∷ slots) le =
     let c = count_slot n None slots in
     let rest = no_rows_left n slots (within (rows_end slots) le) in
@@ -147,8 +139,8 @@ padding n (suc k) zero = refl
 padding n (suc k) (suc m) = let c = count_slot n None (take k (replicate m None)) in let d = padding n k m in omega arith
 
 -- slots that are cut behind the last row, or filled up with empty ones
-pub count_at_length : (n : List ℕ) (k m : ℕ) (slots : List (Option Row)) → rows_end slots ≤ k →
-    name_count n (take k (slots ++ replicate m None)) ≡ name_count n slots
+pub count_at_length : (n : List ℕ) (k m : ℕ) (slots : List (Option Row)) → rows_end slots ≤ k
+    → name_count n (take k (slots ++ replicate m None)) ≡ name_count n slots
 count_at_length n k m [] le = padding n k m
 count_at_length n zero m (slot ∷ slots) le = sym (no_rows_left n (slot ∷ slots) le)
 count_at_length n (suc k) m (slot ∷ slots) le =
@@ -157,8 +149,8 @@ count_at_length n (suc k) m (slot ∷ slots) le =
     let b = count_slot n slot slots in
     omega arith
 
-pub looked_at_length : (n : List ℕ) (k m : ℕ) (slots : List (Option Row)) → rows_end slots ≤ k →
-    looked_up n (take k (slots ++ replicate m None)) ≡ looked_up n slots
+pub looked_at_length : (n : List ℕ) (k m : ℕ) (slots : List (Option Row)) → rows_end slots ≤ k
+    → looked_up n (take k (slots ++ replicate m None)) ≡ looked_up n slots
 looked_at_length n k m [] le = none_looked n (take k (replicate m None)) (padding n k m)
 looked_at_length n zero m (slot ∷ slots) le = sym (none_looked n (slot ∷ slots) (no_rows_left n (slot ∷ slots) le))
 looked_at_length n (suc k) m (slot ∷ slots) le = ap (λ o. cond (has_name n slot) slot o) (looked_at_length n k m slots (rows_end_step slot slots k le))

@@ -25,6 +25,7 @@ use Rattle.image_tree.specs.Laws.{StandingImagesShow}
 use Rattle.image_tree.specs.Keeps.{ruled_tree, IsDirectoryInode, MayName, MayStand, KeepsRules}
 use Rattle.sfs_base.proofs.BasicTruth.{not_both}
 use Rattle.sfs_base.proofs.BasicOptions.{none_some, some_same}
+use Rattle.sfs_tree.proofs.Readings.{directory_by_kind}
 use Rattle.image_tree.proofs.Renaming.{under_is, naming_renamed, links_renamed, sound_renamed, above_renamed}
 use Rattle.image_tree.proofs.Shapes.{part_renamed, shape_renamed, with_value}
 use Rattle.image_tree.proofs.SlotRows.{OnRow, each_found}
@@ -64,13 +65,6 @@ directory_kind tree x e = by_node (get tree.nodes x) e
     by_node (Some n) e = by_kind n.kind e
     by_node None e = absurd (cc)
 
-pub kind_directory : (tree : TreeState) (x : ℕ) → is_directory tree x ≡ is_directory_kind (kind_of tree x)
-kind_directory tree x = by_node (get tree.nodes x)
-  where
-    by_node : (o : Option Node) → option_map_or (λ n. is_directory_kind n.kind) o false ≡ is_directory_kind (option_map_or (λ n. n.kind) o File)
-    by_node (Some n) = refl
-    by_node None = refl
-
 pub not_used : (k : Kind) → kind_byte k ≡ 0 → ⊥
 not_used File e = cc
 not_used Directory e = cc
@@ -92,7 +86,7 @@ module _ (num : Numbering) (tree : TreeState) (image : SeenInodes) (making : Mak
   shown = image_tree image making
 
   is_shown : (x i : ℕ) → num x ≡ Some i → shows_directory (image.seen i) ≡ is_directory tree x
-  is_shown x i is = ap (λ k. nat_eq k (kind_byte Directory)) (st.each x i is).kind ∙ byte_directory (kind_of tree x) ∙ sym (kind_directory tree x)
+  is_shown x i is = ap (λ k. nat_eq k (kind_byte Directory)) (st.each x i is).kind ∙ byte_directory (kind_of tree x) ∙ sym (directory_by_kind tree x)
 
   directory_seen : (x i : ℕ) → num x ≡ Some i → is_directory tree x ≡ true → (image.seen i).kind ≡ kind_byte Directory
   directory_seen x i is kind = (st.each x i is).kind ∙ ap kind_byte (directory_kind tree x kind)
@@ -231,8 +225,8 @@ module _ (num : Numbering) (tree : TreeState) (image : SeenInodes) (s : IsSound 
     reached = λ i is. let x = node_of_directory num tree image NOTHING_MADE s st i is in reached_shown num tree image NOTHING_MADE s st may x.0 i x.1 x.2;
   }
     where
-      len_part : (test : List ℕ → Bool) (x i : ℕ) → num x ≡ Some i →
-          len (Rattle.sfs_tree.specs.Tree.names_where i test (image_rows image)) ≡ len (Rattle.sfs_tree.specs.Tree.names_where x test tree.rows)
+      len_part : (test : List ℕ → Bool) (x i : ℕ) → num x ≡ Some i
+          → len (Rattle.sfs_tree.specs.Tree.names_where i test (image_rows image)) ≡ len (Rattle.sfs_tree.specs.Tree.names_where x test tree.rows)
       len_part test x i is =
           len-entries _ ∙ ap length (part_renamed num tree (ruled_tree image) (shown_renamed num tree image NOTHING_MADE s st) test x i is) ∙ length-map (entries (Rattle.sfs_tree.specs.Tree.names_where x test tree.rows)) (with_value (inode_under num)) ∙ sym (len-entries _)
 

@@ -1,5 +1,5 @@
 -- Images without a fault: their trees are sound and they stand for them; and which images have none.
-use Rattle.std.proofs.Common.{Bool, ◌≡◌, ℕ, ◌/◌, ◌<◌, ◌≤◌, true, false, cond, List, length, Option, Some, None, IsSome, inl, refl, sym, ap, subst, arith, nat_lt, ◌∙◌, ◌⊎◌, ◌≢◌, inr}
+use Rattle.std.proofs.Common.{Bool, ◌≡◌, ℕ, ◌/◌, ◌<◌, ◌≤◌, true, false, cond, List, length, Option, Some, None, IsSome, inl, refl, sym, ap, subst, arith, nat_lt, ◌∙◌, ◌⊎◌, ◌≢◌, inr, nat_eq, not, ◌&&◌}
 use borrow.Author.Tests.{ltb-true, ltb-false}
 use Rattle.std.specs.Prelude.{is_none}
 use Rattle.std.specs.FinMap.{get}
@@ -7,8 +7,8 @@ use Rattle.sfs_tree.specs.Tree.{TreeState}
 use Rattle.sfs_tree.specs.Sound.{IsNumbered, IsWithinLimits}
 use Rattle.sfs_tree.specs.Laws.{IsSoundTree}
 use Rattle.sfs_image.specs.Super.{Layout}
-use Rattle.sfs_image.specs.Settled.{SlotFault, image_block, layout_of, settled, super_fault_of, journal_fault_of}
-use Rattle.sfs_image.specs.Seen.{SeenInodes}
+use Rattle.sfs_image.specs.Settled.{SlotFault, image_block, layout_of, settled, super_fault_of, journal_fault_of, parts_of}
+use Rattle.sfs_image.specs.Seen.{SeenInodes, Seen}
 use Rattle.sfs_image.proofs.SuperLaws.{super_facts}
 use Rattle.sfs_base.proofs.BasicLists.{zeros_read}
 use Rattle.image_tree.specs.ImageTree.{is_node, image_tree}
@@ -16,16 +16,13 @@ use Rattle.sfs_image.specs.Part.{Part, seen_of, is_directory_part}
 use Rattle.sfs_image.specs.Rules.{breaks_record, breaks_root, breaks_size, breaks_pointers, breaks_apart, breaks_tail, breaks_slots, breaks_bytes_rule}
 use Rattle.sfs_image.specs.ImageOf.{with_opened}
 use Rattle.sfs_image.specs.Slot.{kind_byte}
-use Rattle.sfs_image.specs.Settled.{parts_of}
-use Rattle.sfs_image.specs.Seen.{Seen}
 use Rattle.sfs_image.proofs.ImageOfLaws.{read_as}
 use Rattle.sfs_image.proofs.RuleLaws.{rule_from_apart}
 use Rattle.sfs_base.proofs.BasicNumbers.{not_same}
 use borrow.Author.Tests.{eqb-true, eqb-false, eq-eqb}
-use Rattle.std.proofs.Common.{nat_eq, not, ◌&&◌}
 use Rattle.image_tree.specs.Renamed.{Numbering}
 use Rattle.image_tree.specs.Stands.{ShowsNode, IsUnused, StandsForTree, StandsForSoundTree}
-use Rattle.image_tree.proofs.Standing.{directory_kind}
+use Rattle.image_tree.proofs.Standing.{directory_kind, standing_images_show}
 use Rattle.image_tree.specs.Image.{inodes_shown, image_inodes, breaks_bytes_of, ImageFault, first_of_faults, fault_of, making_at_mount, HasGoodBytes}
 use Rattle.image_tree.specs.Keeps.{KeepsRules}
 use Rattle.image_tree.specs.Rules.{TreeFault, tree_fault, breaks_rule, KeepsByteRules}
@@ -35,7 +32,6 @@ use Rattle.sfs_base.proofs.BasicOptions.{none_some, some_same, none_not_some}
 use Rattle.image_tree.proofs.Images.{no_node_outside, directory_is_node}
 use Rattle.image_tree.proofs.Faults.{no_break, no_fault_is_rules_kept}
 use Rattle.image_tree.proofs.Mounted.{sound_shown, limits_where, rules_make_standing}
-use Rattle.image_tree.proofs.Standing.{standing_images_show}
 use Rattle.image_tree.proofs.Parts.{shows_by_kind, holds_apart, root_shown}
 
 module _ (image : List ℕ) where
@@ -48,10 +44,14 @@ module _ (image : List ℕ) where
   some_inodes : super_fault_of image ≡ None → 0 < inodes.count
   some_inodes none = let low = (super_facts (length image / 4096) layout (image_block image 0) none).fits.ranges.inodes_low in omega arith
 
-  -- no rule on bytes is broken
-  record IsGood : Type 0 where
+  -- neither the super block nor a journal has a fault
+  record HasGoodStart : Type 0 where
     super : super_fault_of image ≡ None
     journals : journal_fault_of layout image ≡ None
+
+  -- no rule on bytes is broken
+  record IsGood : Type 0 where
+    start : HasGoodStart
     inodes_good : (rule i : ℕ) → 1 ≤ rule → rule ≤ 7 → i < layout.inodes → breaks_bytes_of image rule i ≡ false
 
   module _ (g : IsGood) where
@@ -60,7 +60,7 @@ module _ (image : List ℕ) where
 
     byte_rules : KeepsByteRules inodes
     byte_rules = record {
-      root = (some_inodes g.super, root_shown (image_block image) (settled layout image) layout.inodes (g.inodes_good 2 0 (omega arith) (omega arith) (some_inodes g.super)));
+      root = (some_inodes g.start.super, root_shown (image_block image) (settled layout image) layout.inodes (g.inodes_good 2 0 (omega arith) (omega arith) (some_inodes g.start.super)));
       apart = holds_apart (image_block image) (settled layout image) layout.inodes (λ i lt. g.inodes_good 1 i (omega arith) (omega arith) lt) (λ i lt. g.inodes_good 5 i (omega arith) (omega arith) lt);
     }
 
@@ -68,7 +68,7 @@ module _ (image : List ℕ) where
     no_tree_fault k = (no_fault_is_rules_kept inodes (breaks_bytes_of image) byte_rules g.inodes_good).1 k
 
     faultless : KeepsRules inodes → fault_of image ≡ None
-    faultless k = by_faults (super_fault_of image) (journal_fault_of layout image) (tree_fault (breaks_bytes_of image) inodes) g.super g.journals (no_tree_fault k)
+    faultless k = by_faults (super_fault_of image) (journal_fault_of layout image) (tree_fault (breaks_bytes_of image) inodes) g.start.super g.start.journals (no_tree_fault k)
       where
         by_faults : (super : Option ℕ) (journal : Option SlotFault) (tree : Option TreeFault) → super ≡ None → journal ≡ None → tree ≡ None →
             first_of_faults super journal tree ≡ None
@@ -79,8 +79,7 @@ module _ (image : List ℕ) where
 
   -- an image without a fault has good bytes, and keeps the rules
   record IsFaultless : Type 0 where
-    super : super_fault_of image ≡ None
-    journals : journal_fault_of layout image ≡ None
+    start : HasGoodStart
     tree : tree_fault (breaks_bytes_of image) inodes ≡ None
 
   parts_of_none : fault_of image ≡ None → IsFaultless
@@ -88,7 +87,7 @@ module _ (image : List ℕ) where
     where
       by_faults : (super : Option ℕ) (journal : Option SlotFault) (tree : Option TreeFault) → super_fault_of image ≡ super →
           journal_fault_of layout image ≡ journal → tree_fault (breaks_bytes_of image) inodes ≡ tree → first_of_faults super journal tree ≡ None → IsFaultless
-      by_faults None None None a b c e = record { super = a; journals = b; tree = c }
+      by_faults None None None a b c e = record { start = record { super = a; journals = b }; tree = c }
       by_faults (Some at) journal tree a b c e = absurd (none_some (sym e))
       by_faults None (Some slot) tree a b c e = absurd (none_some (sym e))
       by_faults None None (Some fault) a b c e = absurd (none_some (sym e))
@@ -97,8 +96,7 @@ module _ (image : List ℕ) where
   good_bytes e =
       let f = parts_of_none e in
       record {
-        super = f.super;
-        journals = f.journals;
+        start = f.start;
         inodes_good = λ rule i low high lt. byte_rule rule i high (no_break (breaks_rule (breaks_bytes_of image) inodes) inodes.count f.tree rule i low (omega arith) lt);
       }
     where
@@ -141,16 +139,16 @@ module _ (image : List ℕ) where
     apart_good i lt = rule_from_apart (parts_of layout image) i (λ j p q le small tiny some same. is.stands.apart i p j q lt (omega arith) small tiny some same)
 
     is_good : IsGood
-    is_good = record { super = h.super; journals = h.journals; inodes_good = each }
-      where
-        each : (rule i : ℕ) → 1 ≤ rule → rule ≤ 7 → i < layout.inodes → breaks_bytes_of image rule i ≡ false
-        each rule i low high lt = elim (nat_eq rule 2) as (λ b. nat_eq rule 2 ≡ b → breaks_bytes_of image rule i ≡ false) [
-          | true ↦ λ t. ap (λ (r : ℕ). breaks_bytes_of image r i) (eqb-true _ _ t) ∙ root_good i
-          | false ↦ λ t. elim (nat_eq rule 5) as (λ b. nat_eq rule 5 ≡ b → breaks_bytes_of image rule i ≡ false) [
-            | true ↦ λ u. ap (λ (r : ℕ). breaks_bytes_of image r i) (eqb-true _ _ u) ∙ apart_good i lt
-            | false ↦ λ u. h.parts rule i low high (eqb-false _ _ t) (eqb-false _ _ u) lt
-          ] refl
+    is_good = record {
+      start = record { super = h.super; journals = h.journals };
+      inodes_good = λ rule i low high lt. elim (nat_eq rule 2) as (λ b. nat_eq rule 2 ≡ b → breaks_bytes_of image rule i ≡ false) [
+        | true ↦ λ t. ap (λ (r : ℕ). breaks_bytes_of image r i) (eqb-true _ _ t) ∙ root_good i
+        | false ↦ λ t. elim (nat_eq rule 5) as (λ b. nat_eq rule 5 ≡ b → breaks_bytes_of image rule i ≡ false) [
+          | true ↦ λ u. ap (λ (r : ℕ). breaks_bytes_of image r i) (eqb-true _ _ u) ∙ apart_good i lt
+          | false ↦ λ u. h.parts rule i low high (eqb-false _ _ t) (eqb-false _ _ u) lt
         ] refl
+      ] refl;
+    }
 
 pub trees_of_images_are_mounted : TreesOfImagesAreMounted
 trees_of_images_are_mounted image share tree is =

@@ -5,10 +5,10 @@ use Rattle.std.specs.List.{cons_option}
 use Rattle.std.specs.Option.{option_map_or}
 use Rattle.std.proofs.lemmas.List.{length-map, length-append, append_assoc}
 use Rattle.sfs_base.specs.Name.{bucket}
-use borrow.Author.Tests.{eqb-true, eq-eqb, ne_eqb}
+use borrow.Author.Tests.{eq-eqb, ne_eqb}
 use Rattle.std.specs.Ordering.{nat_cmp, eq_by_cmp}
 use Rattle.std.specs.Cmp.{nat_cmp_total, unsigned_ties}
-use Rattle.std.specs.FinMap.{FinMap, find, get, insert, entries, len, get-from_entries, get-insert, len-entries, same_map, nat_cmp-IsAntisymmetric}
+use Rattle.std.specs.FinMap.{find, get, insert, entries, len, get-from_entries, get-insert, len-entries}
 use Rattle.std.proofs.lemmas.Map.Text.{is_eq-slice_cmp}
 use Rattle.sfs_base.specs.declared.numbers.Kind.{Kind}
 use Rattle.sfs_base.specs.declared.numbers.Kind.TheVariants.{File, Directory}
@@ -16,6 +16,8 @@ use Rattle.sfs_tree.specs.Order.{key_cmp}
 use Rattle.sfs_tree.specs.Tree.{Node, TreeState, name_row, bucket_rows, row_of, is_directory, is_directory_kind}
 use Rattle.sfs_tree.proofs.Joined.{key_cmp_total, same_key, length-from_entries}
 use Rattle.sfs_tree.proofs.Names.{entries-names_where}
+use Rattle.sfs_tree.proofs.Numbered.{put_same}
+use Rattle.sfs_base.proofs.BasicOptions.{none_some}
 use Rattle.area_pair.specs.declared.area.Row.{Row}
 use Rattle.area_pair.specs.Rows.{clashes, KeepsApart}
 use Rattle.area_pair.specs.Sound.{HaveInodes, AreRoots}
@@ -55,22 +57,11 @@ kind_found row (x ∷ xs) n other h e =
       | false ↦ λ t s. kind_found row xs n other (λ k y f. h (suc k) y f) s
     ] refl (ap (λ b. cond b (Some (node_entry x).1) (find nat_cmp row.node.0 (map node_entry xs ++ root_entry ∷ []))) (unsigned_ties row.node.0 x.node.0) ∙ e)
 
--- to insert what is there changes nothing
-insert_same : (m : FinMap nat_cmp Node) (k : ℕ) (v : Node) → get m k ≡ Some v → insert m k v ≡ m
-insert_same m k v e =
-    same_map nat_cmp_total nat_cmp-IsAntisymmetric _ _ (λ q.
-    get-insert nat_cmp_total m k v q
-    ∙ ap (λ b. cond b (Some v) (get m q)) (sym (unsigned_ties q k))
-    ∙ elim (nat_eq q k) as (λ t. nat_eq q k ≡ t → cond t (Some v) (get m q) ≡ get m q) [
-      | true ↦ λ t. sym e ∙ ap (get m) (sym (eqb-true _ _ t))
-      | false ↦ λ t. refl
-    ] refl)
-
 -- a row that comes makes the tree of one row more
 pub first_nodes : (share : ℕ) (row : Row) (rs : List Row) → row.node.0 ≢ 0 → KeepsApart (row ∷ rs) → cond (is_some (get (first_tree share rs).nodes row.node.0)) (first_tree share rs).nodes (insert (first_tree share rs).nodes row.node.0 (record { kind = row.kind; bytes = [] })) ≡ (first_tree share (row ∷ rs)).nodes
 first_nodes share row rs other apart =
     elim (get (first_tree share rs).nodes row.node.0) as (λ o. get (first_tree share rs).nodes row.node.0 ≡ o → cond (is_some o) (first_tree share rs).nodes (insert (first_tree share rs).nodes row.node.0 (record { kind = row.kind; bytes = [] })) ≡ insert (first_tree share rs).nodes row.node.0 (record { kind = row.kind; bytes = [] })) [
-      | Some n ↦ λ e. sym (insert_same (first_tree share rs).nodes row.node.0 (record { kind = row.kind; bytes = [] }) (e ∙ ap Some (kind_found row rs n other (apart_head row rs apart) (sym (get-from_entries nat_cmp_total (map node_entry rs ++ root_entry ∷ []) row.node.0) ∙ e))))
+      | Some n ↦ λ e. sym (put_same (first_tree share rs).nodes row.node.0 (record { kind = row.kind; bytes = [] }) (e ∙ ap Some (kind_found row rs n other (apart_head row rs apart) (sym (get-from_entries nat_cmp_total (map node_entry rs ++ root_entry ∷ []) row.node.0) ∙ e))))
       | None ↦ λ e. refl
     ] refl
 
@@ -168,10 +159,7 @@ roots_rest row done h = roots_behind (row ∷ []) done h
 
 -- a row that is found names an inode of a disk
 pub named_inode : (rs : List Row) (name : List ℕ) (child : ℕ) → HaveInodes rs → find key_cmp (0, name) (map row_entry rs) ≡ Some child → child ≤ 15
-named_inode [] name child h e = absurd (none_is e)
-  where
-    none_is : None ≡ Some child → ⊥
-    none_is e = cc
+named_inode [] name child h e = absurd (none_some e)
 named_inode (x ∷ rs) name child h e =
     elim (eq_by_cmp key_cmp (0, name) (0, x.name)) as (λ t. cond t (Some x.node.0) (find key_cmp (0, name) (map row_entry rs)) ≡ Some child → child ≤ 15) [
       | true ↦ λ f. let is : x.node.0 ≡ child = cc in let inode = (h 0 x refl).1 in omega arith
@@ -180,10 +168,7 @@ named_inode (x ∷ rs) name child h e =
 
 -- the row that is found by its name, at its place
 pub row_found : (rs : List Row) (name : List ℕ) (child : ℕ) → find key_cmp (0, name) (map row_entry rs) ≡ Some child → (k : ℕ) × (x : Row) × (slice_get rs k ≡ Some x) × (x.node.0 ≡ child) × (bytes_eq name x.name ≡ true)
-row_found [] name child e = absurd (none_is e)
-  where
-    none_is : None ≡ Some child → ⊥
-    none_is e = cc
+row_found [] name child e = absurd (none_some e)
 row_found (x ∷ rs) name child e =
     elim (bytes_eq name x.name) as (λ t. bytes_eq name x.name ≡ t → cond t (Some x.node.0) (find key_cmp (0, name) (map row_entry rs)) ≡ Some child → (k : ℕ) × (y : Row) × (slice_get (x ∷ rs) k ≡ Some y) × (y.node.0 ≡ child) × (bytes_eq name y.name ≡ true)) [
       | true ↦ λ t f. let is : x.node.0 ≡ child = cc in (0, x, refl, is, t)

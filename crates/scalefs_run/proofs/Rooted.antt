@@ -13,6 +13,7 @@ use Rattle.sfs_base.specs.declared.numbers.Kind.TheVariants.{File, Directory}
 use Rattle.sfs_tree.specs.Order.{name_cmp}
 use Rattle.sfs_tree.specs.Tree.{TreeState, names_of, row_of}
 use Rattle.sfs_tree.specs.Tree.{kind_of}
+use Rattle.sfs_tree.proofs.Merged.{itself}
 use Rattle.sfs_tree.proofs.Names.{get-names_where}
 use Rattle.area_pair.specs.declared.area.Row.{Row}
 use Rattle.area_pair.specs.Rows.{clashes, KeepsApart}
@@ -50,9 +51,6 @@ less_not_equal Less e = refl
 less_not_equal Equal e = cc
 less_not_equal Greater e = cc
 
-self_ties : (name : List ℕ) → eq_by_cmp name_cmp name name ≡ true
-self_ties name = is_eq-slice_cmp name name ∙ same_bytes name
-
 -- a name that is less ties neither way
 less_names : (a b : List ℕ) → is_lt (name_cmp a b) ≡ true → bytes_eq a b ≡ false
 less_names a b lt = sym (is_eq-slice_cmp a b) ∙ less_not_equal _ lt
@@ -72,7 +70,7 @@ less_not_equal_back a b lt =
 found_at : (es : Entries) (k : ℕ) (e : List ℕ × ℕ) → is_sorted name_cmp es ≡ true → slice_get es k ≡ Some e → find name_cmp e.0 es ≡ Some e.1
 found_at [] k e sorted at = absurd (none_some at)
 found_at (x ∷ es) zero e sorted at =
-    ap (λ b. cond b (Some x.1) (find name_cmp e.0 es)) (ap (λ (y : List ℕ × ℕ). eq_by_cmp name_cmp y.0 x.0) (sym (some_same at)) ∙ self_ties x.0)
+    ap (λ b. cond b (Some x.1) (find name_cmp e.0 es)) (ap (λ (y : List ℕ × ℕ). eq_by_cmp name_cmp y.0 x.0) (sym (some_same at)) ∙ itself x.0)
     ∙ ap (λ (y : List ℕ × ℕ). Some y.1) (some_same at)
 found_at (x ∷ es) (suc k) e sorted at =
     ap (λ b. cond b (Some x.1) (find name_cmp e.0 es)) (less_not_equal_back e.0 x.0 (below_at x.0 es k e (and_first _ _ sorted) at))

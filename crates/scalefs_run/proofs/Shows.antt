@@ -8,7 +8,6 @@ use Rattle.std.specs.Cmp.{nat_cmp_total, unsigned_ties}
 use Rattle.std.specs.Cmp.Lexicographic.{nat_list_cmp_total}
 use Rattle.std.specs.FinMap.{find, entries, from_entries, get-entries, get-from_entries, same_map}
 use Rattle.std.proofs.lemmas.Map.Text.{is_eq-slice_cmp}
-use Rattle.sfs_base.specs.declared.numbers.Kind.{Kind}
 use Rattle.sfs_base.specs.declared.numbers.Kind.TheVariants.{File}
 use Rattle.sfs_tree.specs.Order.{name_cmp, key_cmp}
 use Rattle.sfs_tree.specs.Tree.{TreeState, Node, names_of}
@@ -18,6 +17,7 @@ use Rattle.sfs_tree.proofs.Joined.{key_cmp_total, name_cmp-IsAntisymmetric}
 use Rattle.sfs_tree.proofs.Names.{get-names_where}
 use Rattle.area_pair.specs.declared.area.Row.{Row}
 use Rattle.area_pair.specs.Rows.{KeepsApart, by_mention, with_inode, mentions}
+use Rattle.sfs_tree.proofs.Readings.{with_kind}
 use Rattle.area_pair.proofs.Sound.{apart_head, apart_tail}
 use Rattle.scalefs_run.specs.First.{first_tree, row_entry, node_entry, root_entry}
 use Rattle.scalefs_run.specs.Flushed.{row_with_kind, rows_of_root}
@@ -26,10 +26,6 @@ use Rattle.scalefs_run.specs.RunInvariant.{root_shown}
 use Rattle.scalefs_run.proofs.Opened.{row_ties, one_kind}
 use Rattle.sfs_base.proofs.BasicOptions.{none_some}
 use Rattle.sfs_base.proofs.BasicOptions.{some_same}
-
--- an entry of a directory with its node's kind
-abbrev pub with_kind : TreeState → List ℕ × ℕ → List ℕ × Kind
-with_kind tree e = (e.0, kind_of tree e.1)
 
 -- numbers don't show
 numbers_apart : (nodes : List ℕ) (rows : List Row) → map name_and_kind (map (with_inode nodes) rows) ≡ map name_and_kind rows

@@ -1,5 +1,5 @@
 -- What a crash leaves of a whole run.
-use Rattle.std.proofs.Common.{◌≡◌, inl, ℕ, ◌≤◌, true, false, List, [], Option, Some, None, IsSome, refl, sym, ap, subst, ◌∙◌, arith}
+use Rattle.std.proofs.Common.{◌≡◌, inl, ℕ, ◌≤◌, List, [], Option, IsSome, refl, sym, ap, subst, ◌∙◌, arith}
 use Rattle.std.proofs.lemmas.List.Elements.{All-nil}
 use Rattle.sfs_base.specs.Ends.{HasRisen}
 use Rattle.sfs_tree.specs.declared.history.Entry.{Entry}
@@ -19,11 +19,6 @@ use Rattle.scalefs_run.specs.declared.flush.Store.{Store}
 use Rattle.area_pair.proofs.Sound.{image_sound}
 use Rattle.scalefs_run.proofs.Crashes.{at_cut_earlier}
 use Rattle.scalefs_run.proofs.Shows.{shown-first}
-
--- what a disk tells that tells something
-pub told_here : (told : Option (List ℕ)) → IsSome told → (content : List ℕ) × (told ≡ Some content)
-told_here (Some content) some = (content, refl)
-told_here None some = absurd (let never : false ≡ true = some in cc)
 
 -- before the first call the root has the rows that were opened
 at_cut_first : (Failed : Type 0) (share : ℕ) (opened : List Row) (k : ℕ) (image : List ℕ) → KeepsApart opened → rows_of image ≡ opened → IsAtCut Failed (first_tree share opened) [] k image

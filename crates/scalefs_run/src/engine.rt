@@ -147,12 +147,7 @@ fn answer<D: Disk>(
     ensures advances { Advances (D.view disk.old) (D.view disk.new) }
 {
     match call {
-        Call::Fsync { node: _ } => Ok(flush(
-            engine.alloc,
-            &mut engine.store,
-            disk,
-            &engine.tree,
-        )),
+        Call::Fsync { node: _ } => Ok(flush(engine.alloc, &mut engine.store, disk, &engine.tree)),
         _ => Ok(Flushed {
             reply: engine.tree.step(core, call)?,
             ack: None,

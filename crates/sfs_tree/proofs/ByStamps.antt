@@ -17,14 +17,12 @@ module _ (test : Entry → Bool) where
   counted_at : (es : List Entry) (i : ℕ) (e : Entry) → slice_get es i ≡ Some e → test e ≡ true → count_by test es ≢ 0
   counted_at [] i e there passes none = cc
   counted_at (x ∷ es) zero e there passes none = one_is_more _ (ap (λ b. cond b 1 0 + count_by test es) (sym passes ∙ ap test (sym (some_is x e there))) ∙ sym (count-cons test x es) ∙ none)
-
   counted_at (x ∷ es) (suc i) e there passes none = counted_at es i e there passes (none_left _ _ (sym (count-cons test x es) ∙ none))
 
   -- the only one that passes is found
   only_found : (es : List Entry) (i : ℕ) (e : Entry) → count_by test es ≡ 1 → slice_get es i ≡ Some e → test e ≡ true → find test es ≡ Some e
   only_found [] i e one there passes = cc
   only_found (x ∷ es) zero e one there passes = ap (λ b. cond b (Some x) (find test es)) (ap test (some_is x e there) ∙ passes) ∙ there
-
   only_found (x ∷ es) (suc i) e one there passes =
       elim (test x) as (λ b. test x ≡ b → cond b (Some x) (find test es) ≡ Some e) [
         | true ↦ λ t. absurd (counted_at es i e there passes (none_left _ (ap (λ b. cond b 1 0 + count_by test es) (sym t) ∙ sym (count-cons test x es) ∙ one)))
@@ -109,7 +107,6 @@ from_get es s (suc c) zero there lt =
       | None ↦ λ some. cc
     ]) (there s (le_itself s) (less_plus s c))
     ∙ ap (entry_with es) (from_plus_zero s)
-
 from_get es s (suc c) (suc i) there lt =
     (elim (entry_with es s) as (λ o. IsSome o → slice_get (cons_option o (entries_from es (suc s) c)) (suc i) ≡ slice_get (entries_from es (suc s) c) i) [
       | Some e ↦ λ some. refl

@@ -8,7 +8,7 @@ use Rattle.std.specs.FinMap.Entries.{below_all}
 use Rattle.std.proofs.lemmas.List.Sums.{count_by-le-length}
 use Rattle.std.specs.FinMap.{len-entries}
 use Rattle.sfs_tree.specs.Order.{Key, key_cmp}
-use Rattle.sfs_tree.proofs.Joined.{key_cmp_total, key_cmp-IsAntisymmetric, is_equal, count-cons, count-insert}
+use Rattle.sfs_tree.proofs.Joined.{key_cmp_total, key_cmp-IsAntisymmetric, is_equal, other_key, count-cons, count-insert}
 use Rattle.sfs_tree.proofs.Search.{not_found}
 use Rattle.sfs_base.proofs.BasicTruth.{both_second}
 use Rattle.sfs_base.proofs.BasicTruth.{both_first}
@@ -18,11 +18,6 @@ use Rattle.sfs_base.proofs.BasicTruth.{true_not_false}
 pub same_itself : (k : Key) → eq_by_cmp key_cmp k k ≡ true
 same_itself k = ap is_eq (tied_itself key_cmp_total k)
 
--- a key that is not another
-pub other_than : (q k : Key) → q ≢ k → eq_by_cmp key_cmp q k ≡ false
-other_than q k differ =
-    elim (eq_by_cmp key_cmp q k) as (λ b. eq_by_cmp key_cmp q k ≡ b → b ≡ false) [ true ↦ λ t. absurd (differ (key_cmp-IsAntisymmetric q k (is_equal _ t))) | false ↦ λ _. refl ] refl
-
 -- maps of rows that answer alike are one
 pub same_rows : (m n : FinMap key_cmp ℕ) → ((q : Key) → get m q ≡ get n q) → m ≡ n
 same_rows m n h = same_map key_cmp_total key_cmp-IsAntisymmetric m n h
@@ -31,10 +26,10 @@ pub none_removed : (rows : FinMap key_cmp ℕ) (k : Key) → get (remove rows k)
 none_removed rows k = get-remove key_cmp_total rows k k ∙ ap (λ b. cond b None (get rows k)) (same_itself k)
 
 pub get_other-remove : (rows : FinMap key_cmp ℕ) (k q : Key) → q ≢ k → get (remove rows k) q ≡ get rows q
-get_other-remove rows k q differ = get-remove key_cmp_total rows k q ∙ ap (λ b. cond b None (get rows q)) (other_than q k differ)
+get_other-remove rows k q differ = get-remove key_cmp_total rows k q ∙ ap (λ b. cond b None (get rows q)) (other_key q k differ)
 
 pub get_other-insert : (rows : FinMap key_cmp ℕ) (k q : Key) (x : ℕ) → q ≢ k → get (insert rows k x) q ≡ get rows q
-get_other-insert rows k q x differ = get-insert key_cmp_total rows k x q ∙ ap (λ b. cond b (Some x) (get rows q)) (other_than q k differ)
+get_other-insert rows k q x differ = get-insert key_cmp_total rows k x q ∙ ap (λ b. cond b (Some x) (get rows q)) (other_key q k differ)
 
 pub get_same-insert : (rows : FinMap key_cmp ℕ) (k : Key) (x : ℕ) → get (insert rows k x) k ≡ Some x
 get_same-insert rows k x = get-insert key_cmp_total rows k x k ∙ ap (λ b. cond b (Some x) (get rows k)) (same_itself k)

@@ -25,7 +25,6 @@ tree_after-push first (e ∷ history) entry = tree_after-push (tree_after_entry 
 
 legal_push : (first : TreeState) (stamp : ℕ) (history : List Entry) (entry : Entry) → IsLegalFrom first stamp history → MayCome (tree_after first history) (stamp + length history) entry → IsLegalFrom first stamp (history ++ entry ∷ [])
 legal_push first stamp [] entry legal may = (subst (λ n. MayCome first n entry) (plus_zero stamp) may, tt)
-
 legal_push first stamp (e ∷ history) entry legal may =
     (legal.0, legal_push (tree_after_entry first e) (suc stamp) history entry legal.1 (subst (λ n. MayCome (tree_after first (e ∷ history)) n entry) (plus_suc stamp (length history)) may))
 

@@ -16,6 +16,7 @@ use Rattle.sfs_tree.specs.Fits.{Fits}
 use Rattle.sfs_tree.specs.Footprints.{own_effect, moves_directory_between}
 use Rattle.sfs_tree.specs.Lock.{moves_between, needs_lock, AreHolders, EndsAtRoot}
 use Rattle.sfs_tree.specs.Laws.{IsSoundTree, LocksAreSeen, StaysHeld, HoldersStay, WaysStay, DeadStayDead, ReadHoldersStay, ReadHoldersAreAbove, StandingIsAlive}
+use Rattle.sfs_base.proofs.BasicOptions.{none_some, some_same}
 use Rattle.sfs_tree.proofs.RowFacts.{IsNamed, alive_named, named_alive, named_or_none, holder_found, added_cases, removed_cases}
 use Rattle.sfs_tree.proofs.Fitting.{not_so}
 use Rattle.sfs_tree.proofs.KeepsNodes.{directory_node, KeepKinds-new, KeepKinds-edit}
@@ -223,16 +224,10 @@ way_kept tree next s t same at_root kind alive = at_root
 way_kept tree next s t same (below node holder name above row rest) kind alive =
     elim (holder_found next node) [
       | inl f ↦
-          let held : row_of next holder f.2.0 ≡ Some node = subst (λ (d : ℕ). row_of next d f.2.0 ≡ Some node) (some_is f.0 (sym f.1 ∙ same node kind alive ∙ holder_is tree s node holder name row kind)) f.2.1 in
+          let held : row_of next holder f.2.0 ≡ Some node = subst (λ (d : ℕ). row_of next d f.2.0 ≡ Some node) (some_same (sym f.1 ∙ same node kind alive ∙ holder_is tree s node holder name row kind)) f.2.1 in
           below node holder f.2.0 above held (way_kept tree next s t same rest (s.holds holder name node row).0 (t.holds holder f.2.0 node held).1)
-      | inr none ↦ absurd (none_is (sym none.0 ∙ same node kind alive ∙ holder_is tree s node holder name row kind))
+      | inr none ↦ absurd (none_some (sym none.0 ∙ same node kind alive ∙ holder_is tree s node holder name row kind))
     ]
-  where
-    some_is : (a : ℕ) → Some a ≡ Some holder → a ≡ holder
-    some_is a e = cc
-
-    none_is : None ≡ Some holder → ⊥
-    none_is e = cc
 
 pub ways_stay : WaysStay
 ways_stay tree core c node above is lt free kind alive way =
@@ -241,13 +236,12 @@ ways_stay tree core c node above is lt free kind alive way =
 pub read_holders_stay : ReadHoldersStay
 read_holders_stay tree core c node [] is lt free read = tt
 read_holders_stay tree core c node (holder ∷ holders) is lt free read =
-    let fits = calls_fit tree core c is lt in
-    (
+    let fits = calls_fit tree core c is lt in (
       record {
         kind = directory_stays tree core (verdict tree core c).effect (verdict tree core c).makes node fits (directory_node tree node read.0.kind) ∙ read.0.kind;
         held = λ alive. let stays = holders_stay tree core c node is lt free read.0.kind alive in stays.holder ∙ read.0.held stays.alive;
       },
-      read_holders_stay tree core c holder holders is lt free read.1
+      read_holders_stay tree core c holder holders is lt free read.1,
     )
 
 -- the directories that were read up to the root
@@ -255,17 +249,11 @@ read_above : (tree : TreeState) → IsSound tree → (node : ℕ) (holders : Lis
 read_above tree s node [] alive read ends = subst (λ (z : ℕ). Above tree z []) (sym ends) at_root
 read_above tree s node (holder ∷ holders) alive read ends = elim (holder_found tree node) [
   | inl f ↦
-      let is : f.0 ≡ holder = some_is f.0 (sym f.1 ∙ read.0.held alive) in
+      let is : f.0 ≡ holder = some_same (sym f.1 ∙ read.0.held alive) in
       let row : row_of tree holder f.2.0 ≡ Some node = subst (λ (d : ℕ). row_of tree d f.2.0 ≡ Some node) is f.2.1 in
       below node holder f.2.0 holders row (read_above tree s holder holders (s.holds holder f.2.0 node row).1 read.1 ends)
-  | inr none ↦ absurd (none_is (sym none.0 ∙ read.0.held alive))
+  | inr none ↦ absurd (none_some (sym none.0 ∙ read.0.held alive))
 ]
-  where
-    some_is : (a : ℕ) → Some a ≡ Some holder → a ≡ holder
-    some_is a e = cc
-
-    none_is : None ≡ Some holder → ⊥
-    none_is e = cc
 
 pub read_holders_are_above : ReadHoldersAreAbove
 read_holders_are_above tree node holders is alive kind read ends =

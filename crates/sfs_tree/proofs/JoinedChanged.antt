@@ -7,6 +7,7 @@ use borrow.Author.Tests.{eqb-true, eq-eqb, eqb-false, ltb-true, ltb-false}
 use Rattle.std.proofs.lemmas.List.{get_or_past, length-set}
 use Rattle.sfs_base.specs.Name.{bucket}
 use Rattle.sfs_tree.specs.Order.{name_cmp, Key, key_cmp}
+use Rattle.sfs_tree.specs.RowsState.{RowsState}
 use Rattle.sfs_tree.specs.Buckets.{Bucket, bucket_at, joined, IsPlaced, IsBuilt}
 use Rattle.sfs_tree.proofs.Joined.{key_cmp_total, name_cmp-IsAntisymmetric, is_equal, same_key, other_key, bucket_small, bucket_at_set, get-joined, len-joined}
 use Rattle.sfs_tree.proofs.Counting.{same_rows}
@@ -59,6 +60,10 @@ module _ (ms : List Bucket) (d : ℕ) (name : List ℕ) (v : Option ℕ) (new : 
                 ∙ ap (cond (eq_by_cmp key_cmp (e, other) (d, name)) v) (ap (λ j. get (bucket_at ms j) other) (sym there) ∙ sym old)
             | false ↦ λ t. sym old ∙ ap (λ b. cond b v (get (joined ms) (e, other))) (sym (other_key (e, other) (d, name) (λ same. eqb-false _ _ t (ap (λ (k : Key). 8 * k.0 + bucket k.1) same))))
           ] refl
+
+-- a row of what is shown stands
+pub row_stands : {shown : RowsState} (now : RowsState) (k : Key) → shown ≡ now → IsSome (get now.rows k) → IsSome (get shown.rows k)
+row_stands now k same = subst (λ (s : RowsState). IsSome (get s.rows k)) (sym same)
 
 module _ (ms : List Bucket) (d : ℕ) (name : List ℕ) (h : IsPlaced ms) (some : IsSome (get (joined ms) (d, name))) where
   -- a row that is some_true lies in a bucket that is some_true

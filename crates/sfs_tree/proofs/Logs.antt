@@ -1,5 +1,5 @@
 -- What an entry logs erases to its changes of rows.
-use Rattle.std.proofs.Common.{◌≡◌, ◌≢◌, ℕ, Bool, true, false, cond, not, ◌&&◌, List, [], ◌∷◌, ◌++◌, filter, Option, Some, None, option_map, refl, sym, ap, subst, ◌∙◌, nat_eq, bytes_eq}
+use Rattle.std.proofs.Common.{◌≡◌, ◌≢◌, ℕ, Bool, true, false, cond, not, ◌&&◌, List, [], ◌∷◌, ◌++◌, filter, Option, Some, None, option_map, refl, sym, ap, ap₂, subst, ◌∙◌, nat_eq, bytes_eq}
 use Rattle.std.specs.Prelude.{◌||◌, is_none}
 use Rattle.std.specs.List.{list_any}
 use Rattle.std.specs.Option.{option_map_or}
@@ -58,9 +58,16 @@ module _ (tree : TreeState) (stamp p : ℕ) (n : List ℕ) (q : ℕ) (m : List �
   abbrev entry_of_move : Option ℕ → List Change
   entry_of_move o = logged_replaced tree stamp p q m o ++ goes ∷ comes ∷ []
 
+  -- a row that goes is no end, where no row of its name comes and it goes elsewhere or another row comes
+  no_end : (o : Option ℕ) → list_any (adds_name n) (filter (is_logged_in p) (entry_of_move o)) ≡ false → (is_none goes.other && not (list_any adds_any (filter (is_logged_in p) (entry_of_move o)))) ≡ false
+      → is_end_of (filter (is_logged_in p) (entry_of_move o)) goes ≡ false
+  no_end o none_named apart = ap₂ (λ (a b : Bool). is_directory_kind (kind_of tree x) && (a || b)) none_named apart ∙ and-false (is_directory_kind (kind_of tree x))
+
   -- what moves away is not ended, where it comes to another directory
   away : (o : Option ℕ) → nat_eq p q ≡ false → is_end_of (filter (is_logged_in p) (entry_of_move o)) goes ≡ false
-  away o apart = ap (λ (b : Bool). is_directory_kind (kind_of tree x) && b) (inner o) ∙ and-false (is_directory_kind (kind_of tree x))
+  away o apart =
+      no_end o (elim o as (λ (o : Option ℕ). list_any (adds_name n) (filter (is_logged_in p) (entry_of_move o)) ≡ false) [ None ↦ rw (back, same_number p) refl | Some there ↦ rw (back, same_number p) refl ])
+      (ap (λ (b : Bool). b && not (list_any adds_any (filter (is_logged_in p) (entry_of_move o)))) other)
     where
       other : is_none goes.other ≡ false
       other = ap (λ (b : Bool). is_none (option_map numbered_node (cond b None (Some q)))) apart
@@ -71,30 +78,18 @@ module _ (tree : TreeState) (stamp p : ℕ) (n : List ℕ) (q : ℕ) (m : List �
         | false ↦ λ t. refl
       ] refl
 
-      none_named : (o : Option ℕ) → list_any (adds_name n) (filter (is_logged_in p) (entry_of_move o)) ≡ false
-      none_named None = rw (back, same_number p) refl
-      none_named (Some there) = rw (back, same_number p) refl
-
-      inner : (o : Option ℕ) → (list_any (adds_name n) (filter (is_logged_in p) (entry_of_move o)) || (is_none goes.other && not (list_any adds_any (filter (is_logged_in p) (entry_of_move o))))) ≡ false
-      inner o = rw (none_named o, other) refl
-
   -- nor where it stays in its directory under another name
   renamed : (o : Option ℕ) → p ≡ q → bytes_eq n m ≡ false → is_end_of (filter (is_logged_in p) (entry_of_move o)) goes ≡ false
-  renamed o same names = ap (λ (b : Bool). is_directory_kind (kind_of tree x) && b) (inner o) ∙ and-false (is_directory_kind (kind_of tree x))
+  renamed o same names =
+      no_end o (elim o as (λ (o : Option ℕ). list_any (adds_name n) (filter (is_logged_in p) (entry_of_move o)) ≡ false) [ None ↦ rw (back, same_number p, names) refl | Some there ↦ rw (back, same_number p, names) refl ])
+      (ap (λ (b : Bool). is_none goes.other && not b) (some_comes o) ∙ and-false (is_none goes.other))
     where
       back : nat_eq q p ≡ true
       back = subst (λ (y : ℕ). nat_eq y p ≡ true) same (same_number p)
 
-      none_named : (o : Option ℕ) → list_any (adds_name n) (filter (is_logged_in p) (entry_of_move o)) ≡ false
-      none_named None = rw (back, same_number p, names) refl
-      none_named (Some there) = rw (back, same_number p, names) refl
-
       some_comes : (o : Option ℕ) → list_any adds_any (filter (is_logged_in p) (entry_of_move o)) ≡ true
       some_comes None = rw (back, same_number p) refl
       some_comes (Some there) = rw (back, same_number p) refl
-
-      inner : (o : Option ℕ) → (list_any (adds_name n) (filter (is_logged_in p) (entry_of_move o)) || (is_none goes.other && not (list_any adds_any (filter (is_logged_in p) (entry_of_move o))))) ≡ false
-      inner o = rw (none_named o, some_comes o) (and-false (is_none goes.other))
 
   -- what is replaced is ended where it is a directory
   replaced_ends : (there : ℕ) → is_end_of (filter (is_logged_in q) (entry_of_move (Some there))) (there_goes there) ≡ is_directory tree there

@@ -108,7 +108,7 @@ greater a b not_less not_same =
 is_true : (b : Bool) → b ≡ true → T b
 is_true b e = subst T (sym e) tt
 
-itself : (a : List ℕ) → eq_by_cmp name_cmp a a ≡ true
+pub itself : (a : List ℕ) → eq_by_cmp name_cmp a a ≡ true
 itself a = ap is_eq (tied_itself nat_list_cmp_total a)
 
 -- what follows a row, once it is joined with the other rows, is in order

@@ -11,9 +11,9 @@ use Rattle.sfs_tree.specs.NodesState.{NodesState}
 use Rattle.sfs_tree.specs.RowsState.{RowsState}
 use Rattle.sfs_tree.specs.Counts.{is_directory_in, IsCounted, IsWide, MayRise}
 use Rattle.sfs_tree.specs.Store.{IsStored}
-use Rattle.sfs_tree.proofs.Joined.{key_cmp_total, key_cmp-IsAntisymmetric, is_equal}
+use Rattle.sfs_tree.proofs.Joined.{key_cmp_total, key_cmp-IsAntisymmetric, is_equal, other_key}
 use Rattle.sfs_tree.proofs.Counted.{MayRise-counted}
-use Rattle.sfs_tree.proofs.Counting.{same_rows, other_than, get_other-insert, count-remove, len_less, found, Found, found_none}
+use Rattle.sfs_tree.proofs.Counting.{same_rows, get_other-insert, count-remove, len_less, found, Found, found_none}
 use Rattle.sfs_tree.proofs.StoreKept.{IsStored-removed, rows_small}
 use Rattle.sfs_base.proofs.BasicOptions.{none_some, some_same}
 
@@ -24,7 +24,7 @@ swapped rows k to x differ =
     get-remove key_cmp_total (insert rows to x) k q
     ∙ ap (cond (eq_by_cmp key_cmp q k) None) (get-insert key_cmp_total rows to x q)
     ∙ elim (eq_by_cmp key_cmp q k) as (λ b. eq_by_cmp key_cmp q k ≡ b → cond b None (cond (eq_by_cmp key_cmp q to) (Some x) (get rows q)) ≡ cond (eq_by_cmp key_cmp q to) (Some x) (cond b None (get rows q))) [
-      | true ↦ λ t. ap (λ b. cond b (Some x) None) (sym (ap (λ p. eq_by_cmp key_cmp p to) (key_cmp-IsAntisymmetric q k (is_equal _ t)) ∙ other_than k to differ))
+      | true ↦ λ t. ap (λ b. cond b (Some x) None) (sym (ap (λ p. eq_by_cmp key_cmp p to) (key_cmp-IsAntisymmetric q k (is_equal _ t)) ∙ other_key k to differ))
       | false ↦ λ t. refl
     ] refl
     ∙ sym (get-insert key_cmp_total (remove rows k) to x q ∙ ap (cond (eq_by_cmp key_cmp q to) (Some x)) (get-remove key_cmp_total rows k q)))

@@ -151,7 +151,6 @@ bucket_apart d number n rows some =
   where
     not_some : (t : Bool) (o : Option ℕ) → t ≡ false → IsSome (cond t o None) → ⊥
     not_some true o e some = absurd (true_not_false e)
-
     not_some false o e some = none_some some
       where
         none_some : IsSome {T = ℕ} None → ⊥

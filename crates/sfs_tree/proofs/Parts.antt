@@ -4,7 +4,7 @@ use borrow.Author.Tests.{eqb-true, eq-eqb, eqb-false}
 use Rattle.std.specs.Option.{option_map_or}
 use Rattle.std.specs.Ordering.{eq_by_cmp}
 use Rattle.std.specs.Cmp.Lexicographic.{nat_list_cmp_total}
-use Rattle.std.specs.FinMap.{FinMap, entries, get, insert, remove, get-insert, get-remove, same_map}
+use Rattle.std.specs.FinMap.{FinMap, get, insert, remove, get-insert, get-remove, same_map}
 use Rattle.sfs_base.specs.declared.numbers.Kind.{Kind}
 use Rattle.sfs_base.specs.declared.numbers.Kind.TheVariants.{File}
 use Rattle.sfs_tree.specs.Order.{name_cmp, Key, key_cmp}
@@ -14,6 +14,7 @@ use Rattle.sfs_tree.specs.Fits.{Fits, FitsMoves}
 use Rattle.sfs_tree.specs.Parts.{part_with, part_without, is_this, links_after, kind_after}
 use Rattle.sfs_tree.specs.Laws.{PartsAfter, NodesAfter, CountsAfter}
 use Rattle.sfs_tree.proofs.Joined.{key_cmp_total, key_cmp-IsAntisymmetric, same_key, name_cmp-IsAntisymmetric, is_equal, count-insert}
+use Rattle.sfs_tree.proofs.Counting.{put_back, none_removed}
 use Rattle.sfs_tree.proofs.Names.{get-names_where}
 use Rattle.sfs_tree.proofs.RowFacts.{removed_other}
 use Rattle.sfs_tree.proofs.KeepsNodes.{node_cases}
@@ -63,23 +64,9 @@ parts_after tree core (Edits file edit) makes d test = refl
 parts_after tree core (Moves p n q m c) makes d test =
     names_where-insert d test q m c (remove tree.rows (p, n)) ∙ ap (part_with d test q m c) (names_where-remove d test p n tree.rows)
 
--- a row more where one was removed is the row again
-put_back : (rows : FinMap key_cmp ℕ) (k : Key) (x : ℕ) → get rows k ≡ Some x → insert (remove rows k) k x ≡ rows
-put_back rows k x row =
-    same_map key_cmp_total key_cmp-IsAntisymmetric _ _ (λ q.
-    get-insert key_cmp_total (remove rows k) k x q
-    ∙ ap (cond (eq_by_cmp key_cmp q k) (Some x)) (get-remove key_cmp_total rows k q)
-    ∙ elim (eq_by_cmp key_cmp q k) as (λ b. eq_by_cmp key_cmp q k ≡ b → cond b (Some x) (cond b None (get rows q)) ≡ get rows q) [
-      | true ↦ λ t. sym (ap (get rows) (key_cmp-IsAntisymmetric q k (is_equal _ t)) ∙ row)
-      | false ↦ λ t. refl
-    ] refl)
-
-gone : (rows : FinMap key_cmp ℕ) (k : Key) → get (remove rows k) k ≡ None
-gone rows k = get-remove key_cmp_total rows k k ∙ ap (λ o. cond (Rattle.std.specs.Ordering.is_eq o) None (get rows k)) (Rattle.std.specs.Cmp.tied_itself key_cmp_total k)
-
 -- how many rows name a node, once one went
 count-remove : (rows : FinMap key_cmp ℕ) (k : Key) (x node : ℕ) → get rows k ≡ Some x → count_of (remove rows k) node + cond (nat_eq x node) 1 0 ≡ count_of rows node
-count-remove rows k x node row = sym (count-insert (remove rows k) k x (names_it node) (gone rows k)) ∙ ap (λ r. count_of r node) (put_back rows k x row)
+count-remove rows k x node row = sym (count-insert (remove rows k) k x (names_it node) (none_removed rows k)) ∙ ap (λ r. count_of r node) (put_back rows k x row)
 
 -- a row more where one stands is a row more where it went
 put_over : (rows : FinMap key_cmp ℕ) (k : Key) (x : ℕ) → insert (remove rows k) k x ≡ insert rows k x
@@ -110,7 +97,7 @@ module _ (tree : TreeState) (node p : ℕ) (n : List ℕ) (q : ℕ) (m : List �
   links_moved (Some y) e =
       let left = remove tree.rows (p, n) in
       let row : get left (q, m) ≡ Some y = removed_other tree.rows q p m n apart ∙ e in
-      let new : count_of (insert left (q, m) c) node ≡ count_of (remove left (q, m)) node + cond (nat_eq c node) 1 0 = ap (λ r. count_of r node) (sym (put_over left (q, m) c)) ∙ count-insert (remove left (q, m)) (q, m) c (names_it node) (gone left (q, m)) in
+      let new : count_of (insert left (q, m) c) node ≡ count_of (remove left (q, m)) node + cond (nat_eq c node) 1 0 = ap (λ r. count_of r node) (sym (put_over left (q, m) c)) ∙ count-insert (remove left (q, m)) (q, m) c (names_it node) (none_removed left (q, m)) in
       let replaced = count-remove left (q, m) y node row in
       let was = count-remove tree.rows (p, n) c node f.row in
       one_less (nat_eq y node) _ _ (joined _ (count_of (remove left (q, m)) node) (count_of left node) _ _ _ new replaced was)

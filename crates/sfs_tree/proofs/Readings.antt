@@ -166,7 +166,7 @@ module _ (tree other : TreeState) where
           ] refl
 
 -- a name with the kind of its node
-abbrev with_kind : TreeState → List ℕ × ℕ → List ℕ × Kind
+abbrev pub with_kind : TreeState → List ℕ × ℕ → List ℕ × Kind
 with_kind tree row = (row.0, kind_of tree row.1)
 
 -- the names of a list with the kinds of their nodes go by the kinds that its rows have

@@ -2,20 +2,16 @@
 use Rattle.std.proofs.Common.{◌≡◌, ℕ, zero, suc, ◌<◌, Bool, true, false, cond, T, List, [], ◌∷◌, ◌++◌, length, take, drop, set, get_or, Some, None, IsSome, refl, sym, ap, subst, ◌∙◌, arith}
 use Rattle.std.specs.List.{AllWithin}
 use Rattle.std.specs.declared.cmp.Ordering.{Ordering}
-use Rattle.std.specs.declared.cmp.Ordering.TheVariants.{Less, Equal, Greater}
+use Rattle.std.specs.declared.cmp.Ordering.TheVariants.{Less}
 use Rattle.std.specs.Ordering.{is_eq, is_lt, eq_by_cmp}
 use Rattle.std.specs.Cmp.{IsTotalOrder}
 use Rattle.std.specs.FinMap.{find, is_sorted, IsAntisymmetric}
 use Rattle.std.specs.FinMap.Entries.{below_all}
+use Rattle.sfs_tree.proofs.Joined.{is_equal}
 use Rattle.sfs_tree.proofs.Search.{not_found, first_if}
 use Rattle.sfs_base.proofs.BasicTruth.{both_of}
 use Rattle.sfs_base.proofs.BasicTruth.{both_second}
 use Rattle.sfs_base.proofs.BasicTruth.{both_first}
-
-equal_is : (o : Ordering) → is_eq o ≡ true → o ≡ Equal
-equal_is Less e = cc
-equal_is Equal e = refl
-equal_is Greater e = cc
 
 less_not_equal : (o : Ordering) → o ≡ Less → is_eq o ≡ false
 less_not_equal o e = ap is_eq e
@@ -38,24 +34,24 @@ module _ {K X : Type 0} {R : K → K → Ordering} (o : IsTotalOrder R) (same : 
   sorted_removed (e ∷ es) zero h = both_second _ _ h
   sorted_removed (e ∷ es) (suc i) h = both_of _ _ (below_removed e.0 es i (both_first _ _ h)) (sorted_removed es i (both_second _ _ h))
 
+  other : (q k : K) (e : K × X) → R e.0 k ≡ Less → eq_by_cmp R q e.0 ≡ true → eq_by_cmp R q k ≡ false
+  other q k e less t = ap (λ x. eq_by_cmp R x k) (same q e.0 (is_equal _ t)) ∙ less_not_equal _ less
+
   -- the entry of a key is not found any more, and every other is
   pub find_removed : (q k : K) (es : List (K × X)) (i : ℕ) → i < length es → T (is_sorted R es) → AllWithin (λ e. R e.0 k ≡ Less) es 0 i → key_at es i k → find R q (take i es ++ drop (suc i) es) ≡ cond (eq_by_cmp R q k) None (find R q es)
   find_removed q k [] i lt s before at = absurd (omega arith)
   find_removed q k (e ∷ es) zero lt s before at =
       elim (eq_by_cmp R q e.0) as (λ b. eq_by_cmp R q e.0 ≡ b → find R q es ≡ cond b None (cond b (Some e.1) (find R q es))) [
-        | true ↦ λ t. not_found o q es (subst (λ x. T (below_all R x es)) (sym (same q e.0 (equal_is _ t))) (both_first _ _ s))
+        | true ↦ λ t. not_found o q es (subst (λ x. T (below_all R x es)) (sym (same q e.0 (is_equal _ t))) (both_first _ _ s))
         | false ↦ λ t. refl
       ] refl
       ∙ ap (λ x. cond (eq_by_cmp R q x) None (cond (eq_by_cmp R q e.0) (Some e.1) (find R q es))) (at e (omega arith))
   find_removed q k (e ∷ es) (suc i) lt s before at =
       ap (λ r. cond (eq_by_cmp R q e.0) (Some e.1) r) (find_removed q k es i (omega arith) (both_second _ _ s) (λ j d a b. before (suc j) d (omega arith) (omega arith)) (λ d a. at d (omega arith)))
       ∙ elim (eq_by_cmp R q e.0) as (λ b. eq_by_cmp R q e.0 ≡ b → cond b (Some e.1) (cond (eq_by_cmp R q k) None (find R q es)) ≡ cond (eq_by_cmp R q k) None (cond b (Some e.1) (find R q es))) [
-        | true ↦ λ t. ap (λ b. cond b None (Some e.1)) (sym (other t))
+        | true ↦ λ t. ap (λ b. cond b None (Some e.1)) (sym (other q k e (before 0 e (omega arith) (omega arith)) t))
         | false ↦ λ t. refl
       ] refl
-    where
-      other : eq_by_cmp R q e.0 ≡ true → eq_by_cmp R q k ≡ false
-      other t = ap (λ x. eq_by_cmp R x k) (same q e.0 (equal_is _ t)) ∙ less_not_equal _ (before 0 e (omega arith) (omega arith))
 
   below_replaced : (x k : K) (v : X) (es : List (K × X)) (i : ℕ) → key_at es i k → T (below_all R x es) → T (below_all R x (set es i (k, v)))
   below_replaced x k v [] i at h = tt
@@ -78,29 +74,17 @@ module _ {K X : Type 0} {R : K → K → Ordering} (o : IsTotalOrder R) (same : 
   find_replaced q k v (e ∷ es) (suc i) lt before at =
       ap (λ r. cond (eq_by_cmp R q e.0) (Some e.1) r) (find_replaced q k v es i (omega arith) (λ j d a b. before (suc j) d (omega arith) (omega arith)) (λ d a. at d (omega arith)))
       ∙ elim (eq_by_cmp R q e.0) as (λ b. eq_by_cmp R q e.0 ≡ b → cond b (Some e.1) (cond (eq_by_cmp R q k) (Some v) (find R q es)) ≡ cond (eq_by_cmp R q k) (Some v) (cond b (Some e.1) (find R q es))) [
-        | true ↦ λ t. ap (λ b. cond b (Some v) (Some e.1)) (sym (other t))
+        | true ↦ λ t. ap (λ b. cond b (Some v) (Some e.1)) (sym (other q k e (before 0 e (omega arith) (omega arith)) t))
         | false ↦ λ t. refl
       ] refl
-    where
-      other : eq_by_cmp R q e.0 ≡ true → eq_by_cmp R q k ≡ false
-      other t = ap (λ x. eq_by_cmp R x k) (same q e.0 (equal_is _ t)) ∙ less_not_equal _ (before 0 e (omega arith) (omega arith))
 
   -- where a key is found, the search ended at it
   pub found_at : (q : K) (es : List (K × X)) (i : ℕ) → IsSome (first_if o q (drop i es)) → (i < length es) × key_at es i q
-  found_at q [] zero some = absurd (no_some some)
-    where
-      no_some : IsSome {T = X} None → ⊥
-      no_some e = cc
-  found_at q [] (suc i) some = absurd (no_some some)
-    where
-      no_some : IsSome {T = X} None → ⊥
-      no_some e = cc
-  found_at q (e ∷ es) zero some = (omega arith, λ d a. sym (same q e.0 (equal_is _ (was (eq_by_cmp R q e.0) some))))
+  found_at q [] zero some = absurd (cc some)
+  found_at q [] (suc i) some = absurd (cc some)
+  found_at q (e ∷ es) zero some = (omega arith, λ d a. sym (same q e.0 (is_equal _ (was (eq_by_cmp R q e.0) some))))
     where
       was : (b : Bool) → IsSome (cond b (Some e.1) None) → b ≡ true
       was true some = refl
-      was false some = absurd (no_some some)
-        where
-          no_some : IsSome {T = X} None → ⊥
-          no_some e = cc
+      was false some = absurd (cc some)
   found_at q (e ∷ es) (suc i) some = let rest = found_at q es i some in (omega (arith, rest.0), λ d a. rest.1 d rest.0)

@@ -1,5 +1,5 @@
 -- The rows of a directory as a list: where one is found, and where one is put.
-use Rattle.std.proofs.Common.{◌≡◌, ℕ, zero, suc, ◌<◌, ◌≤◌, Bool, true, false, cond, T, List, [], ◌∷◌, ◌++◌, length, take, drop, map, get_or, Some, None, IsTrue, ◌≢◌, refl, sym, ap, subst, ◌∙◌, arith}
+use Rattle.std.proofs.Common.{◌≡◌, ℕ, zero, suc, ◌<◌, ◌≤◌, Bool, true, false, cond, T, List, [], ◌∷◌, ◌++◌, length, take, drop, map, get_or, Some, None, IsSome, IsTrue, ◌≢◌, refl, sym, ap, subst, ◌∙◌, arith}
 use Rattle.std.specs.Prelude.{insert}
 use Rattle.std.specs.declared.cmp.Ordering.{Ordering}
 use Rattle.std.specs.declared.cmp.Ordering.TheVariants.{Less}
@@ -12,7 +12,7 @@ use Rattle.std.specs.Cmp.{eq_by_cmp_equiv}
 use Rattle.std.proofs.lemmas.Map.Text.{is_eq-slice_cmp}
 use Rattle.std.proofs.Math.Seq.{drop-cons}
 use Rattle.std.specs.Cmp.Lexicographic.{nat_list_cmp_total}
-use Rattle.std.specs.FinMap.{find, put, is_sorted, get, entries, from_sorted, get-from_sorted, entries-from_sorted, entries-insert, same_entries_map}
+use Rattle.std.specs.FinMap.{FinMap, find, put, is_sorted, get, entries, from_sorted, get-from_sorted, entries-from_sorted, entries-insert, same_entries_map}
 use Rattle.std.specs.FinMap as finmap
 use Rattle.std.specs.FinMap.Entries.{is_sorted-put}
 use Rattle.sfs_tree.specs.Order.{name_cmp}
@@ -44,6 +44,11 @@ entries-map_of rows s = entries-from_sorted name_cmp (map name_and_child rows) (
 
 pub get-map_of : (rows : List NameRow) (name : List ℕ) → IsTrue (is_sorted name_cmp (map name_and_child rows)) → get (from_sorted {R = name_cmp} (map name_and_child rows)) name ≡ find name_cmp name (map name_and_child rows)
 get-map_of rows name s = get-from_sorted name_cmp (map name_and_child rows) name (is_true _ s)
+
+-- a name that is shown is found in the rows
+pub found_in_rows : (rows : List NameRow) (now : FinMap name_cmp ℕ) (name : List ℕ) → IsTrue (is_sorted name_cmp (map name_and_child rows)) → from_sorted {R = name_cmp} (map name_and_child rows) ≡ now → IsSome (get now name)
+    → IsSome (find name_cmp name (map name_and_child rows))
+found_in_rows rows now name s same some = subst IsSome (sym (ap (λ m. get m name) same) ∙ get-map_of rows name s) some
 
 -- what stands where the search ended
 pub find-at_place : (rows : List NameRow) (name : List ℕ) (place : ℕ) → IsTrue (is_sorted name_cmp (map name_and_child rows)) → IsPlaceOf (map name_and_child rows) name place → find name_cmp name (map name_and_child rows) ≡ first_if {R = name_cmp} nat_list_cmp_total name (map name_and_child (drop place rows))

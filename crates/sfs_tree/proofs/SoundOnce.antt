@@ -63,16 +63,13 @@ module _ (tree : TreeState) (n : IsNumbered tree) where
       within : (core creation : ℕ) → core < length tree.made → creation < slice_index tree.made core → creation < tree.share
       within core creation lt before = let few = n.within core lt in omega arith
 
+  apart : (node : ℕ) → node < tree.first → IsMade tree node → ⊥
+  apart node lt made = let e = made.4 in omega arith
+
   known_once : (node : ℕ) (x y : (node < tree.first) ⊎ IsMade tree node) → x ≡ y
   known_once node (inl x) (inl y) = let less : IsProp (node < tree.first) = hlevel props in ap inl (less x y)
-  known_once node (inl x) (inr y) = absurd (apart x y)
-    where
-      apart : node < tree.first → IsMade tree node → ⊥
-      apart lt made = let e = made.4 in omega arith
-  known_once node (inr x) (inl y) = absurd (apart y x)
-    where
-      apart : node < tree.first → IsMade tree node → ⊥
-      apart lt made = let e = made.4 in omega arith
+  known_once node (inl x) (inr y) = absurd (apart node x y)
+  known_once node (inr x) (inl y) = absurd (apart node y x)
   known_once node (inr x) (inr y) = ap inr (made_once node x y)
 
 pub IsNumbered-prop : (tree : TreeState) → IsProp (IsNumbered tree)

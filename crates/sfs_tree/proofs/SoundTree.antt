@@ -66,7 +66,6 @@ sound_file tree s file alive no_directory =
 
     named : (b : Bool) → nat_eq (count_of tree.rows file) 0 ≡ b → not b ≡ true → IsSome (get tree.nodes file)
     named true t a = absurd (false_not_true a)
-
     named false t a =
         let f : Found (names_it file) tree.rows = found (names_it file) tree.rows (some (count_of tree.rows file) (eqb-false _ _ t)) in
         s.node f.row.0.0 f.row.0.1 file (f.there ∙ ap Some (eqb-true _ _ f.passes))

@@ -1,5 +1,5 @@
 -- Trees that stay sound from the root alone on.
-use Rattle.std.proofs.Common.{◌≡◌, ℕ, ◌+◌, ◌<◌, false, List, [], Some, None, inl, inr, refl, sym, ap, subst, ◌∙◌, arith}
+use Rattle.std.proofs.Common.{◌≡◌, ℕ, ◌+◌, ◌<◌, false, List, [], Some, inl, inr, refl, sym, ap, subst, ◌∙◌, arith}
 use Rattle.std.specs.Option.{option_map_or}
 use Rattle.std.specs.Ordering.{nat_cmp}
 use Rattle.std.proofs.lemmas.List.{get_or-replicate, length-replicate}
@@ -9,6 +9,7 @@ use Rattle.sfs_tree.specs.Order.{key_cmp}
 use Rattle.sfs_tree.specs.Tree.{Node, is_directory_kind}
 use Rattle.sfs_tree.specs.Verdict.{verdict}
 use Rattle.sfs_tree.specs.Laws.{RootIsSound, CallsKeepSound, CallsFit, DrawnIsNew, DrawnApart}
+use Rattle.sfs_base.proofs.BasicOptions.{none_some}
 use Rattle.sfs_tree.proofs.KeepsNodes.{node_cases}
 use Rattle.sfs_tree.proofs.Kept.{IsSound-kept, IsNumbered-kept}
 use Rattle.sfs_tree.proofs.Fitting.{verdict_fits}
@@ -33,10 +34,7 @@ pub drawn_numbers_are_apart : DrawnApart
 drawn_numbers_are_apart tree core other before other_before lt less same = same_drawn tree.first tree.share core other before other_before lt less same
 
 no_row : {X : Type 0} (directory : ℕ) (name : List ℕ) (child : ℕ) → get (empty {X = ℕ} {R = key_cmp}) (directory, name) ≡ Some child → X
-no_row directory name child row = absurd (none_is (sym (get-empty key_cmp (directory, name)) ∙ row))
-  where
-    none_is : None ≡ Some child → ⊥
-    none_is e = cc
+no_row directory name child row = absurd (none_some (sym (get-empty key_cmp (directory, name)) ∙ row))
 
 pub root_alone_is_sound : RootIsSound
 root_alone_is_sound first share cores low = record {

@@ -98,7 +98,6 @@ walk_meets : (tree : TreeState) (steps x : ℕ) (l : List ℕ) → Chain (holder
 walk_meets tree zero x [] chain le = refl
 walk_meets tree (suc steps) x [] chain le = ap (and_above (walk_up steps tree)) chain
 walk_meets tree zero x (h ∷ l) chain le = absurd (none_below le)
-
 walk_meets tree (suc steps) x (h ∷ l) chain le = ap (and_above (walk_up steps tree)) chain.0 ∙ ap (λ k. h ∷ k) (walk_meets tree steps h l chain.1 (one_less le))
   where
     one_less : {a b : ℕ} → suc a ≤ suc b → a ≤ b

@@ -57,7 +57,7 @@ logged_by tree core stamp (Moves directory name to_directory to_name child) make
     logged_replaced tree stamp directory to_directory to_name (row_of tree to_directory to_name)
     ++ log_entry stamp directory name child (kind_of tree child) Remove (other_side directory to_directory) []
     ∷ log_entry stamp to_directory to_name child (kind_of tree child) Add (other_side to_directory directory)
-      (recorded_above tree (Moves directory name to_directory to_name child) to_directory)
+    (recorded_above tree (Moves directory name to_directory to_name child) to_directory)
     ∷ []
 logged_by tree core stamp (Edits file edit) makes = []
 

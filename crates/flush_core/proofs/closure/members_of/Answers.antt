@@ -1,7 +1,7 @@
 use Rattle.std.proofs.Common.{◌≡◌, ◌^◌, true, inl, inr, sym, subst, ◌∙◌, arith}
 use Rattle.flush_core.specs.Closure.{every_entry, Closure, itself}
 use Rattle.flush_core.specs.NodeSets.{has_node}
-use Rattle.flush_core.proofs.Basics.{both}
+use Rattle.sfs_base.proofs.BasicTruth.{not_both}
 use Rattle.flush_core.proofs.Marks.{with_in, with_kept, with_cases, marked_within}
 use Rattle.flush_core.proofs.Counting.{one_more_less}
 use Rattle.flush_core.proofs.Brought.{wanted_is_in, in_members}
@@ -12,7 +12,7 @@ loop-wanted-init c = record {
   own = c.in_ok-insert.ensures.ok c.args.node ∙ with_in c.args.node _ (has_node c.new-members.result);
   sound = λ first history is x h. elim (with_cases c.args.node x (has_node c.new-members.result) (sym (c.in_ok-insert.ensures.ok x) ∙ h)) [
     | inl e ↦ subst (λ y. Closure first history every_entry c.args.cut.now (has_node c.args.inodes.now) (record { node = c.args.node; stamp = c.args.stamp }) y) e itself
-    | inr old ↦ absurd (both old (c.new-members.ensures x))
+    | inr old ↦ absurd (not_both old (c.new-members.ensures x))
   ];
 }
 

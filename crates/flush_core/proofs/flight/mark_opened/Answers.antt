@@ -5,6 +5,7 @@ use Rattle.flush_core.specs.Machine.{opened_for}
 use Rattle.flush_core.specs.Flights.{flight_as, kept_opened}
 use Rattle.flush_core.proofs.InPlace.{IsChanged, changed_more, changed_all}
 use Rattle.flush_core.proofs.flight.mark_opened.Goals as goal
+use Rattle.sfs_base.proofs.BasicNumbers.{le_itself}
 
 pub loop-flight-preserved : goal.loop-flight-preserved
 loop-flight-preserved c =
@@ -15,10 +16,7 @@ loop-flight-preserved c =
 -- a whole list put back is that list
 put_back : {X : Type 0} (n : ℕ) (xs old : List X) → length old ≤ n → length xs ≡ length old → take n (xs ++ drop (length xs) old) ≡ xs
 put_back n xs old most same =
-    ap (λ l. take n (xs ++ l)) (drop_all (length xs) old (subst (λ k. k ≤ length xs) same (same_le (length xs)))) ∙ ap (take n) (append-nil xs) ∙ take_all n xs (subst (λ k. k ≤ n) (sym same) most)
-  where
-    same_le : (k : ℕ) → k ≤ k
-    same_le k = omega arith
+    ap (λ l. take n (xs ++ l)) (drop_all (length xs) old (subst (λ k. k ≤ length xs) same (le_itself (length xs)))) ∙ ap (take n) (append-nil xs) ∙ take_all n xs (subst (λ k. k ≤ n) (sym same) most)
 
 whole : {a b n : ℕ} → a ≡ b → a ≡ n → b ≤ n
 whole same long = omega arith

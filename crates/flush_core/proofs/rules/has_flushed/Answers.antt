@@ -1,6 +1,6 @@
 use Rattle.std.proofs.Common.{refl}
 use Rattle.flush_core.specs.Broken.{IsFlushedIn}
-use Rattle.flush_core.proofs.Basics.{both}
+use Rattle.sfs_base.proofs.BasicTruth.{not_both}
 use Rattle.flush_core.proofs.Searched.{found, none_more, none_at_all}
 use Rattle.flush_core.proofs.rules.has_flushed.Goals as goal
 
@@ -13,7 +13,7 @@ returns-then-is_flushed_in c = (
 pub loop-change-preserved : goal.loop-change-preserved
 loop-change-preserved c =
     none_more (IsFlushedIn c.args.cut.now c.args.directory) c.args.changes.now c.loop-change.change-index c.change-item.result c.change-item.result c.loop-change-test.true c.change-item.is c.loop-change.invariant
-    (λ is. both (c.is_flushed_in.ensures.1 is) c.if-is_flushed_in.false)
+    (λ is. not_both (c.is_flushed_in.ensures.1 is) c.if-is_flushed_in.false)
 
 pub returns : goal.returns
 returns c = none_at_all (IsFlushedIn c.args.cut.now c.args.directory) c.args.changes.now c.loop-change.change-index c.loop-change-test.false c.loop-change.invariant

@@ -1,6 +1,6 @@
 use Rattle.std.proofs.Common.{refl}
 use Rattle.flush_core.specs.Broken.{LacksAncestor}
-use Rattle.flush_core.proofs.Basics.{both}
+use Rattle.sfs_base.proofs.BasicTruth.{not_both}
 use Rattle.flush_core.proofs.Searched.{found, none_more, none_at_all}
 use Rattle.flush_core.proofs.rules.lacks_ancestors.Goals as goal
 
@@ -13,7 +13,7 @@ returns-then-lacks_ancestor c = (
 pub loop-change-preserved : goal.loop-change-preserved
 loop-change-preserved c =
     none_more (LacksAncestor c.args.changes.now c.args.cut.now) c.args.changes.now c.loop-change.change-index c.change-item.result c.change-item.result c.loop-change-test.true c.change-item.is c.loop-change.invariant
-    (λ is. both (c.lacks_ancestor.ensures.1 is) c.if-lacks_ancestor.false)
+    (λ is. not_both (c.lacks_ancestor.ensures.1 is) c.if-lacks_ancestor.false)
 
 pub returns : goal.returns
 returns c = none_at_all (LacksAncestor c.args.changes.now c.args.cut.now) c.args.changes.now c.loop-change.change-index c.loop-change-test.false c.loop-change.invariant

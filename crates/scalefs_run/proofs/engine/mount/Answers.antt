@@ -6,7 +6,8 @@ use Rattle.scalefs_run.specs.Safe.{CrashInvariant}
 use Rattle.scalefs_run.specs.RunInvariant.{RunInvariant}
 use Rattle.scalefs_run.specs.declared.flush.Store.{Store}
 use Rattle.scalefs_run.proofs.Begun.{stands_first}
-use Rattle.scalefs_run.proofs.Survived.{safe_first, told_here}
+use Rattle.area_pair.proofs.Doubts.{content_of}
+use Rattle.scalefs_run.proofs.Survived.{safe_first}
 use Rattle.scalefs_run.proofs.engine.mount.Goals as goal
 
 pub returns-clause-begins : goal.returns-clause-begins
@@ -26,7 +27,7 @@ returns-clause-begins g c =
       none = c.new.ensures.items;
       invariant = subst (λ (h : List Entry). RunInvariant before.faults before.now (first_tree share rows) h tree store after) (sym c.new.ensures.items) stands;
       crash_invariant = λ only tells counts.
-          let content = told_here before.content tells in
+          let content = content_of before.content tells in
           let moments = c.open.ensures.moments only counts content.0 content.1 in
           let same = opened.rows content.0 content.1 in
           let safe : CrashInvariant before.faults before.now (first_tree share rows) [] store after = safe_first share before.faults before.now rows store before after opened.sound (opened.settled tells only) (λ k image ge le left. moments k image ge le left ∙ sym same) in

@@ -1,7 +1,6 @@
-use Rattle.std.proofs.Common.{rules, ◌≡◌, ◌≤◌, ◌<◌, ◌++◌, ◌∷◌, [], length, inr, refl, sym, ap, subst, ◌∙◌, nat_eq}
+use Rattle.std.proofs.Common.{rules, ◌≤◌, ◌<◌, ◌++◌, ◌∷◌, [], length, inr, refl, sym, ap, subst, ◌∙◌, nat_eq}
 use Rattle.std.specs.List.{list_any}
 use Rattle.flush_core.specs.State.{KeptState}
-use Rattle.flush_core.specs.contracts.state.State as shown
 use Rattle.flush_core.proofs.KeptFlights.{listed_one, not_listed}
 use Rattle.flush_core.proofs.Beginning.{used_before, meets, late, takes_begun}
 use Rattle.flush_core.proofs.state.State.begin.Goals as goal
@@ -35,6 +34,7 @@ returns-then-len-stamp c = (
 
 pub returns : goal.returns
 returns c =
+    let same = c.self-2.view_is ∙ c.flight.ensures.same in
     takes_begun c.args.self.now c.args.commit c.args.node c.args.stamp c.requires (ap (λ (s : KeptState). s.failed) (sym c.self.view_is) ∙ c.in_default.is)
     (not_listed c.args.self.now.used c.args.commit (ap (λ (s : KeptState). list_any (λ n. nat_eq n c.args.commit) s.used) (sym c.self.view_is) ∙ ap (list_any (λ n. nat_eq n c.args.commit)) (sym c.deref.ensures.value) ∙ sym c.contains.ensures.value ∙ c.if-contains.false))
     c.in_ok-flight.flight c.in_ok-flight.ensures.begins c.in_ok-met.field-0
@@ -49,6 +49,3 @@ returns c =
       failed = (same i).failed;
       crashed = (same i).crashed;
     })
-  where
-    same : shown.the_view c.self-2.inside ≡ c.args.self.now
-    same = c.self-2.view_is ∙ c.flight.ensures.same

@@ -1,8 +1,7 @@
-use Rattle.std.proofs.Common.{◌≡◌, true, not, map, Some, inr, refl, sym, ap, ◌∙◌}
+use Rattle.std.proofs.Common.{true, not, map, Some, inr, refl, sym, ap, ◌∙◌}
 use Rattle.std.specs.List.{find}
 use Rattle.flush_core.specs.Flights.{flight_as, is_flying_in, is_opened_in}
 use Rattle.flush_core.specs.State.{KeptState}
-use Rattle.flush_core.specs.contracts.state.State as shown
 use Rattle.flush_core.proofs.Ended.{keeps_not_flying, keeps_not_opened, takes_crash}
 use Rattle.flush_core.proofs.state.State.crash.Goals as goal
 
@@ -24,6 +23,7 @@ returns-in-Some-first_not_opened c = (
 
 pub returns : goal.returns
 returns c =
+    let same = c.self-2.view_is ∙ c.raised_by.ensures.same in
     takes_crash c.args.self.now c.args.kept.now.items c.args.kept.now.spare c.requires
     (ap (λ (s : KeptState). find (λ named. not (is_flying_in (map flight_as s.flights) named)) c.args.kept.now.items) (sym c.self.view_is) ∙ ap (λ l. find (λ named. not (is_flying_in (map flight_as l) named)) c.args.kept.now.items) (sym c.deref.ensures.value) ∙ ap (find (λ named. not (is_flying_in (map flight_as c.deref.result.now) named))) (sym c.as_slice.ensures) ∙ sym c.first_not_flying.ensures ∙ c.in_default.is)
     (ap (λ (s : KeptState). find (λ named. not (is_opened_in (map flight_as s.flights) named)) c.args.kept.now.items) (sym c.self.view_is) ∙ ap (λ l. find (λ named. not (is_opened_in (map flight_as l) named)) c.args.kept.now.items) (sym c.deref-2.ensures.value) ∙ ap (find (λ named. not (is_opened_in (map flight_as c.deref-2.result.now) named))) (sym c.as_slice-2.ensures) ∙ sym c.first_not_opened.ensures ∙ c.in_default-first_not_opened.is)
@@ -38,6 +38,3 @@ returns c =
       failed = (same i).failed;
       crashed = true;
     })
-  where
-    same : shown.the_view c.self-2.inside ≡ c.args.self.now
-    same = c.self-2.view_is ∙ c.raised_by.ensures.same

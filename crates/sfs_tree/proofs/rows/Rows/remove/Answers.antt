@@ -3,21 +3,18 @@ use Rattle.std.specs.FinMap.{get, remove}
 use Rattle.sfs_base.specs.Name.{bucket}
 use Rattle.sfs_tree.specs.RowsState.{RowsState}
 use Rattle.sfs_tree.specs.Buckets.{joined, bucket_at, IsBuilt}
-use Rattle.sfs_tree.proofs.JoinedChanged.{row_within, row_there, IsPlaced-removed, joined-removed, IsBuilt-set, len-built}
+use Rattle.sfs_tree.proofs.JoinedChanged.{row_stands, row_within, row_there, IsPlaced-removed, joined-removed, IsBuilt-set, len-built}
 use Rattle.sfs_tree.proofs.rows.Rows.remove.Goals as goal
-use Rattle.sfs_tree.proofs.rows.Rows.remove.Goals.{After-self, After-remove_at}
-
-some : (c : After-self) → IsSome (get (joined c.self.inside.buckets.items) (c.args.directory, c.args.name.now))
-some c = subst (λ (s : RowsState). IsSome (get s.rows (c.args.directory, c.args.name.now))) (sym c.self.view_is) c.requires
+use Rattle.sfs_tree.proofs.rows.Rows.remove.Goals.{After-remove_at}
 
 pub remove_at-requires-clause-within : goal.remove_at-requires-clause-within
 remove_at-requires-clause-within c =
-    let some = some (goal.at.remove_at-requires-clause-within c).After-self in
+    let some = row_stands c.args.self.now (c.args.directory, c.args.name.now) c.self.view_is c.requires in
     subst (λ b. 8 * c.args.directory + b < vec_len c.self.inside.buckets) (sym c.bucket_of.ensures) (omega (arith, c.self.inside.buckets.ok.0, row_within c.self.inside.buckets.items c.args.directory c.args.name.now c.self.invariant.rows some))
 
 pub remove_at-requires-clause-present : goal.remove_at-requires-clause-present
 remove_at-requires-clause-present c =
-    let some = some (goal.at.remove_at-requires-clause-present c).After-self in
+    let some = row_stands c.args.self.now (c.args.directory, c.args.name.now) c.self.view_is c.requires in
     subst (λ b. IsSome (get (bucket_at c.self.inside.buckets.items (8 * c.args.directory + b)) c.args.name.now)) (sym c.bucket_of.ensures) (row_there c.self.inside.buckets.items c.args.directory c.args.name.now c.self.invariant.rows some)
 
 -- the buckets after the call

@@ -3,21 +3,18 @@ use Rattle.std.specs.FinMap.{get, insert}
 use Rattle.sfs_base.specs.Name.{bucket}
 use Rattle.sfs_tree.specs.RowsState.{RowsState}
 use Rattle.sfs_tree.specs.Buckets.{joined, bucket_at, IsBuilt}
-use Rattle.sfs_tree.proofs.JoinedChanged.{row_within, row_there, IsPlaced-replaced, joined-replaced, IsBuilt-set, len-built}
+use Rattle.sfs_tree.proofs.JoinedChanged.{row_stands, row_within, row_there, IsPlaced-replaced, joined-replaced, IsBuilt-set, len-built}
 use Rattle.sfs_tree.proofs.rows.Rows.replace.Goals as goal
-use Rattle.sfs_tree.proofs.rows.Rows.replace.Goals.{After-self, After-replace_at}
-
-some : (c : After-self) → IsSome (get (joined c.self.inside.buckets.items) (c.args.directory, c.args.name.now))
-some c = subst (λ (s : RowsState). IsSome (get s.rows (c.args.directory, c.args.name.now))) (sym c.self.view_is) c.requires
+use Rattle.sfs_tree.proofs.rows.Rows.replace.Goals.{After-replace_at}
 
 pub replace_at-requires-clause-within : goal.replace_at-requires-clause-within
 replace_at-requires-clause-within c =
-    let some = some (goal.at.replace_at-requires-clause-within c).After-self in
+    let some = row_stands c.args.self.now (c.args.directory, c.args.name.now) c.self.view_is c.requires in
     subst (λ b. 8 * c.args.directory + b < vec_len c.self.inside.buckets) (sym c.bucket_of.ensures) (omega (arith, c.self.inside.buckets.ok.0, row_within c.self.inside.buckets.items c.args.directory c.args.name.now c.self.invariant.rows some))
 
 pub replace_at-requires-clause-present : goal.replace_at-requires-clause-present
 replace_at-requires-clause-present c =
-    let some = some (goal.at.replace_at-requires-clause-present c).After-self in
+    let some = row_stands c.args.self.now (c.args.directory, c.args.name.now) c.self.view_is c.requires in
     subst (λ b. IsSome (get (bucket_at c.self.inside.buckets.items (8 * c.args.directory + b)) c.args.name.now)) (sym c.bucket_of.ensures) (row_there c.self.inside.buckets.items c.args.directory c.args.name.now c.self.invariant.rows some)
 
 -- the buckets after the call
