@@ -21,13 +21,10 @@ use Rattle.image_tree.specs.Laws.{NoFaultIsRulesKept, FreeInodesBreakNoTreeRule,
 use Rattle.sfs_base.proofs.BasicNumbers.{not_below, not_same}
 use Rattle.sfs_base.proofs.BasicOptions.{none_some}
 use Rattle.sfs_base.proofs.BasicLists.{bytes_same}
+use Rattle.sfs_image.proofs.RuleFacts.{asked}
 use Rattle.image_tree.proofs.SlotRows.{count_slot}
 use Rattle.image_tree.proofs.Images.{directory_shown}
 use Rattle.image_tree.proofs.Mounted.{sound_shown, used_not_free}
-
-only_if : (b p : Bool) → (b ≡ true → p ≡ false) → (b && p) ≡ false
-only_if true p h = h refl
-only_if false p h = refl
 
 either_false : (b x y : Bool) → x ≡ false → y ≡ false → cond b x y ≡ false
 either_false true x y e f = e
@@ -202,7 +199,7 @@ module _ (image : SeenInodes) (breaks_byte_rule : ℕ → ℕ → Bool) (r : Kee
 
   module _ (k : KeepsRules image) where
     holds_of_directory : (i : ℕ) (p : Bool) → i < image.count → (IsDirectoryInode image i → p ≡ false) → (shows_directory (image.seen i) && p) ≡ false
-    holds_of_directory i p lt h = only_if (shows_directory (image.seen i)) p (λ t. h (lt, eqb-true _ _ t))
+    holds_of_directory i p lt h = asked (shows_directory (image.seen i)) p (λ t. h (lt, eqb-true _ _ t))
 
     reached_test : (i : ℕ) → IsDirectoryInode image i → is_unreached image i ≡ false
     reached_test i is =
@@ -217,7 +214,7 @@ module _ (image : SeenInodes) (breaks_byte_rule : ℕ → ℕ → Bool) (r : Kee
         (either_false (nat_eq rule 10) _ _ (holds_of_directory i (has_misplaced_row image i) lt (λ is. placed image (slots i) (k.children i is)))
         (either_false (nat_eq rule 11) _ _ (holds_of_directory i (names_root image i) lt (λ is. no_root_named image (slots i) (k.children i is)))
         (either_false (nat_eq rule 12) _ _ (holds_of_directory i (is_named_twice image i) lt (λ is. not_below _ _ (k.named_once i is)))
-        (either_false (nat_eq rule 13) _ _ (only_if (is_used image i) (has_wrong_links image i) (λ used. ap not (eq-eqb _ _ (k.links i lt (used_not_free image i used)))))
+        (either_false (nat_eq rule 13) _ _ (asked (is_used image i) (has_wrong_links image i) (λ used. ap not (eq-eqb _ _ (k.links i lt (used_not_free image i used)))))
         (either_false (nat_eq rule 14) _ _ (holds_of_directory i (is_unreached image i) lt (reached_test i)) refl))))))
 
     no_rule_broken : ((rule i : ℕ) → 1 ≤ rule → rule ≤ BYTE_RULES → i < image.count → breaks_byte_rule rule i ≡ false) → (rule i : ℕ) → 1 ≤ rule →

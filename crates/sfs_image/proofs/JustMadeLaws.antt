@@ -142,14 +142,12 @@ module _ (layout : Layout) (image : List ℕ) (is : IsJustMade layout image) whe
         ]
       ]
 
-  slots_are_sound : (k : ℕ) → k < slot_count layout → slot_fault_of layout image k ≡ None
-  slots_are_sound k h = ap (option_map _) (cond-false (head_of (part 0 4096 (journal_slot layout image k))).gate _ _ (is.shut k h))
-
   is_accepted : IsAccepted layout image
   is_accepted = record {
     super = ap (super_fault (length image / 4096)) is.super ∙ super_fault-super_bytes (length image / 4096) layout is.fits;
     divided = ap super_of is.super ∙ super_of-super_bytes layout (length image / 4096) is.fits;
-    journals = first_of-from (slot_count layout) (slot_fault_of layout image) slots_are_sound;
+    journals = first_of-from (slot_count layout) (slot_fault_of layout image)
+        (λ k h. ap (option_map _) (cond-false (head_of (part 0 4096 (journal_slot layout image k))).gate _ _ (is.shut k h)));
     pointers = λ i h place there. absurd (there (has_none i h place));
   }
 

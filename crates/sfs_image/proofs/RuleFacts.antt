@@ -17,7 +17,7 @@ use Rattle.sfs_base.proofs.BasicOptions.{none_of}
 use Rattle.sfs_base.proofs.BasicTruth.{then_false}
 
 -- a test of a kind fails where what it asks fails
-asked : (kind wrong : Bool) → (kind ≡ true → wrong ≡ false) → (kind && wrong) ≡ false
+pub asked : (kind wrong : Bool) → (kind ≡ true → wrong ≡ false) → (kind && wrong) ≡ false
 asked true wrong fails = fails refl
 asked false wrong fails = refl
 
