@@ -83,10 +83,8 @@ module _ (r : Run) (cut : ℕ → ℕ) (s : Seen r cut) (keeps : Keeps r cut) (l
 
   -- its row at the cut stays, since the stamp is past the cut of the row's directory
   pub record IsLeft (t : ℕ) : Type 0 where
-    pub directory : ℕ
-    pub name : List ℕ
-    pub seen : get (s.rows t) (directory, name) ≡ Some x
-    pub past : cut directory ≤ t
+    pub seen : IsNamed (s.rows t) x
+    pub past : cut seen.directory ≤ t
 
   pub data Place (t : ℕ) : Type 0 where
     now : IsNow t → Place t
@@ -190,7 +188,7 @@ module _ (r : Run) (cut : ℕ → ℕ) (s : Seen r cut) (keeps : Keeps r cut) (l
 
   from_now : (t : ℕ) → IsNow t → Place (suc t)
   from_now t p = elim (below_or t (cut p.directory)) [
-    | inr le ↦ left (record { directory = p.directory; name = p.name; seen = behind r cut s t p.directory p.name le ∙ p.seen; past = omega arith })
+    | inr le ↦ left (record { seen = record { directory = p.directory; name = p.name; row = behind r cut s t p.directory p.name le ∙ p.seen }; past = omega arith })
     | inl lt ↦ below lt
   ]
     where
@@ -224,5 +222,5 @@ module _ (r : Run) (cut : ℕ → ℕ) (s : Seen r cut) (keeps : Keeps r cut) (l
   place_at (suc t) = elim (place_at t) [
     | now p ↦ from_now t p
     | gone g ↦ from_gone t g
-    | left l ↦ left (record { directory = l.directory; name = l.name; seen = behind r cut s t l.directory l.name l.past ∙ l.seen; past = let le = l.past in omega arith })
+    | left l ↦ left (record { seen = record { directory = l.seen.directory; name = l.seen.name; row = behind r cut s t l.seen.directory l.seen.name l.past ∙ l.seen.row }; past = let le = l.past in omega arith })
   ]

@@ -97,12 +97,16 @@ has_flush (e ∷ events) (suc place) commit flush begun =
       | Some first ↦ elim (nat_eq first.0 commit) as (λ b. (other : Flush) × (cond b (Some first.1) (flush_of events commit) ≡ Some other)) [ true ↦ (first.1, refl) | false ↦ rest ]
     ]
 
+-- A commit that is one of some, with its fsync.
+pub record IsFsyncOf (events : List Event) (chosen : ℕ → Bool) (commit : ℕ) (flush : Flush) : Type 0 where
+  pub is_chosen : chosen commit ≡ true
+  pub own : flush_of events commit ≡ Some flush
+
 -- An event by which one of some commits becomes durable.
 record IsDurableBy (events : List Event) (chosen : ℕ → Bool) (e : Event) (flush : Flush) : Type 0 where
   pub commit : ℕ
   pub same : e ≡ event.Durable commit
-  pub is_chosen : chosen commit ≡ true
-  pub own : flush_of events commit ≡ Some flush
+  pub fsync : IsFsyncOf events chosen commit flush
 
 is_durable_by : (events : List Event) (chosen : ℕ → Bool) (e : Event) (flush : Flush) → durable_by events chosen e ≡ Some flush → IsDurableBy events chosen e flush
 is_durable_by events chosen (event.Call entry) flush e = none_some e
@@ -112,7 +116,7 @@ is_durable_by events chosen (event.Fail commit) flush e = none_some e
 is_durable_by events chosen (event.Crash kept) flush e = none_some e
 is_durable_by events chosen (event.Durable commit) flush e =
     elim (chosen commit) as (λ b. chosen commit ≡ b → cond b (flush_of events commit) None ≡ Some flush → IsDurableBy events chosen (event.Durable commit) flush) [
-      | true ↦ λ t own. record { commit = commit; same = refl; is_chosen = t; own = own }
+      | true ↦ λ t own. record { commit = commit; same = refl; fsync = record { is_chosen = t; own = own } }
       | false ↦ λ _ none. none_some none
     ] refl e
 
@@ -122,14 +126,13 @@ not_chosen events chosen commit is = ap (λ b. cond b (flush_of events commit) N
 -- A commit that is one of some, begins before a place, and becomes durable before a count of events.
 pub record IsChosen (events : List Event) (place so_many : ℕ) (chosen : ℕ → Bool) (flush : Flush) : Type 0 where
   pub commit : ℕ
-  pub is_chosen : chosen commit ≡ true
+  pub fsync : IsFsyncOf events chosen commit flush
   pub durable : ℕ
   pub stands : slice_get events durable ≡ Some (event.Durable commit)
   pub earlier : durable < so_many
   pub begin : ℕ
   pub before : begin < place
   pub begun : IsBegun events begin commit flush
-  pub own : flush_of events commit ≡ Some flush
 
 module _ (first : TreeState) (events : List Event) (states : ℕ → MachineState) (run : IsRun first events states) (place : ℕ) (chosen : ℕ → Bool) where
   -- the fsyncs that became durable in the first events
@@ -159,11 +162,11 @@ module _ (first : TreeState) (events : List Event) (states : ℕ → MachineStat
   each_chosen so_many flush one =
       let given = given_by (durable_by (take place events) chosen) (take so_many events) flush one in
       let by = is_durable_by (take place events) chosen given.0 flush given.2 in
-      let there = of_begun (take place events) by.commit flush by.own in
+      let there = of_begun (take place events) by.commit flush by.fsync.own in
       let begun = begun_before there.0 by.commit flush there.1 in
       let place_of = place_of_one (take so_many events) given.0 given.1 in
       let at = taken_at events so_many place_of.0 given.0 place_of.1 in
-      record { commit = by.commit; is_chosen = by.is_chosen; durable = place_of.0; stands = at.1 ∙ ap Some by.same; earlier = at.0; begin = there.0; before = begun.0; begun = begun.1; own = own_flush there.0 by.commit flush begun.1 }
+      record { commit = by.commit; fsync = record { is_chosen = by.fsync.is_chosen; own = own_flush there.0 by.commit flush begun.1 }; durable = place_of.0; stands = at.1 ∙ ap Some by.same; earlier = at.0; begin = there.0; before = begun.0; begun = begun.1 }
 
   -- with more events there are more of them
   pub more_so_far : (few many : ℕ) → few ≤ many → (flush : Flush) → IsOneOf (so_far few) flush → IsOneOf (so_far many) flush

@@ -179,7 +179,7 @@ module _ (first : TreeState) (history : List Entry) (cut : Cut) (inodes : ℕ �
         | true ↦ λ e. inl (eqb-true _ _ e)
         | false ↦ λ e. inr (elim (place_at run (cut_of cut) (seen_of first history is legal cut) (keeps_of first history is legal cut kept.closed) (links_named first history is legal) node settled (λ t some. sym (nodes_at first history t is legal node some).1 ∙ kind) (length history)) [
           | now p ↦ inl (record { directory = p.directory; name = p.name; row = sym (at_end (length history) p.directory p.name refl) ∙ p.seen })
-          | left l ↦ inl (record { directory = l.directory; name = l.name; row = sym (at_end (length history) l.directory l.name refl) ∙ l.seen })
+          | left l ↦ inl (record { directory = l.seen.directory; name = l.seen.name; row = sym (at_end (length history) l.seen.directory l.seen.name refl) ∙ l.seen.row })
           | gone g ↦ inr (record {
             no_root = eqb-false _ _ e;
             unnamed = λ named. g.unseen (record { directory = named.directory; name = named.name; row = at_end (length history) named.directory named.name refl ∙ named.row });

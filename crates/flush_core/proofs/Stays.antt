@@ -46,19 +46,16 @@ module _ (first : TreeState) (events : List Event) (states : ℕ → MachineStat
   abbrev pub all : ℕ
   all = length whole
 
-  abbrev pub count : ℕ → ℕ
-  count place = length (states place).history
-
   pub legal_whole : IsLegal first whole
   legal_whole = (steady_at first events states run last within).legal
 
   -- an fsync does by a state's history what it does by the whole one
-  pub whole_alike : (place : ℕ) → place ≤ last → (flush : Flush) (cut : Cut) (inodes : ℕ → Bool) → flush.stamp ≤ count place → HasLiveNode first whole flush → ((node : ℕ) → cut_of cut node ≤ count place) → IsHeld first whole cut inodes
+  pub whole_alike : (place : ℕ) → place ≤ last → (flush : Flush) (cut : Cut) (inodes : ℕ → Bool) → flush.stamp ≤ length (states place).history → HasLiveNode first whole flush → ((node : ℕ) → cut_of cut node ≤ length (states place).history) → IsHeld first whole cut inodes
       → AreAlike first flush (view_by ((states place).history) every_entry cut inodes) (view_by whole (below all) cut inodes)
   whole_alike place le flush cut inodes low live cuts held =
-      alike_on first flush (view_by ((states place).history) every_entry cut inodes) (view_by whole (below (count place)) cut inodes) (view_by whole (below all) cut inodes)
-      (rw prefix.first_part at (prefixes_count first whole (count place) flush cut inodes is legal_whole prefix.shorter low live))
-      (recounts first whole (count place) (below (count place)) (below all) flush cut inodes is legal_whole (λ t lt. lt-ltb t (count place) lt) (λ t lt. lt-ltb t all (let more = prefix.shorter in omega arith)) cuts low live held)
+      alike_on first flush (view_by ((states place).history) every_entry cut inodes) (view_by whole (below (length (states place).history)) cut inodes) (view_by whole (below all) cut inodes)
+      (rw prefix.first_part at (prefixes_count first whole (length (states place).history) flush cut inodes is legal_whole prefix.shorter low live))
+      (recounts first whole (length (states place).history) (below (length (states place).history)) (below all) flush cut inodes is legal_whole (λ t lt. lt-ltb t (length (states place).history) lt) (λ t lt. lt-ltb t all (let more = prefix.shorter in omega arith)) cuts low live held)
     where
       prefix : IsPrefix (states place).history whole
       prefix = prefix_later first events states run place last le within
@@ -101,7 +98,7 @@ module _ (first : TreeState) (events : List Event) (states : ℕ → MachineStat
 
   -- a flight that concerns none of its nodes leaves it so, when it raises the cut
   raise_stays : (place : ℕ) → place ≤ last → (raiser flight : Flight) (cut raised : Cut) (inodes after : ℕ → Bool) → Stays raiser cut inodes → Stays flight cut inodes → ((node : ℕ) → raiser.concerned node ≡ true → flight.concerned node ≡ true → ⊥)
-      → raiser.flush.stamp ≤ count place → ((node : ℕ) → cut_of cut node ≤ count place) → IsHeld first whole cut inodes
+      → raiser.flush.stamp ≤ length (states place).history → ((node : ℕ) → cut_of cut node ≤ length (states place).history) → IsHeld first whole cut inodes
       → IsRaised first (states place).history every_entry cut inodes raiser.flush raised → AreInodesAfter first (states place).history every_entry cut inodes raiser.flush raised after → Stays flight raised after
   raise_stays place le raiser flight cut raised inodes after theirs own apart low cuts held raise sets = record {
     begin = own.begin;
@@ -129,7 +126,7 @@ module _ (first : TreeState) (events : List Event) (states : ℕ → MachineStat
       (others_stay place le kept was split.before split.images before_among apart_both.0 flight one (λ other it. differ other (older other it)))
       (kept.apart own flight (among own own_one) one (differ own own_one))
       (steady.stamps own (among own own_one))
-      (cuts_stay_low first (states place).history every_entry (count place) was steady.cuts (λ f it. let g = from f it in rw g.2 at (steady.stamps g.0 g.1)))
+      (cuts_stay_low first (states place).history every_entry (length (states place).history) was steady.cuts (λ f it. let g = from f it in rw g.2 at (steady.stamps g.0 g.1)))
       (flights_hold first events states is run alive last within place le was from (held_at first events states is run alive last within place le))
       (rw split.image at raise)
       (rw split.image at sets)

@@ -78,7 +78,7 @@ module _ (first : TreeState) (events : List Event) (states : ℕ → MachineStat
     | inr less ↦
         let one = below_greatest (tied_till place) t less in
         let chosen = each_chosen first events states run place tied place one.0 one.1 in
-        enough.theirs chosen.commit one.0 t chosen.is_chosen (record { place = chosen.durable; durable = chosen.stands; later = place; flush = flush; begun = begun; before = chosen.earlier }) chosen.own one.2
+        enough.theirs chosen.commit one.0 t chosen.fsync.is_chosen (record { place = chosen.durable; durable = chosen.stands; later = place; flush = flush; begun = begun; before = chosen.earlier }) chosen.fsync.own one.2
   ]
 
   -- An fsync of a live node, at a stamp that is not above the greatest.
