@@ -219,13 +219,13 @@ dead_stay_dead tree core c node is lt kind dead =
     ] refl
 
 -- the way up is the same, though a row on it may have another name
-way_kept : (tree next : TreeState) → IsSound tree → IsSound next → ((d : ℕ) → is_directory tree d ≡ true → is_alive next d ≡ true → holder_of next d ≡ holder_of tree d) → {node : ℕ} {above : List ℕ} → Above tree node above → is_directory tree node ≡ true → is_alive next node ≡ true → Above next node above
-way_kept tree next s t same at_root kind alive = at_root
-way_kept tree next s t same (below node holder name above row rest) kind alive =
-    elim (holder_found next node) [
+way_kept : (tree later : TreeState) → IsSound tree → IsSound later → ((d : ℕ) → is_directory tree d ≡ true → is_alive later d ≡ true → holder_of later d ≡ holder_of tree d) → {node : ℕ} {above : List ℕ} → Above tree node above → is_directory tree node ≡ true → is_alive later node ≡ true → Above later node above
+way_kept tree later s t same at_root kind alive = at_root
+way_kept tree later s t same (below node holder name above row rest) kind alive =
+    elim (holder_found later node) [
       | inl f ↦
-          let held : row_of next holder f.2.0 ≡ Some node = subst (λ (d : ℕ). row_of next d f.2.0 ≡ Some node) (some_same (sym f.1 ∙ same node kind alive ∙ holder_is tree s node holder name row kind)) f.2.1 in
-          below node holder f.2.0 above held (way_kept tree next s t same rest (s.holds holder name node row).0 (t.holds holder f.2.0 node held).1)
+          let held : row_of later holder f.2.0 ≡ Some node = subst (λ (d : ℕ). row_of later d f.2.0 ≡ Some node) (some_same (sym f.1 ∙ same node kind alive ∙ holder_is tree s node holder name row kind)) f.2.1 in
+          below node holder f.2.0 above held (way_kept tree later s t same rest (s.holds holder name node row).0 (t.holds holder f.2.0 node held).1)
       | inr none ↦ absurd (none_some (sym none.0 ∙ same node kind alive ∙ holder_is tree s node holder name row kind))
     ]
 
