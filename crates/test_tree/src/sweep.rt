@@ -160,9 +160,9 @@ fn renamed(alloc: Global, row: Row, new: Row) -> Result<Call, Fail>
 }
 
 // The calls that make the first trees: none, and directories in one another and beside.
-const NONE: [Asked; 0] = [];
+static NONE: [Asked; 0] = [];
 
-const FOUR: [Asked; 4] = [Mkdir(0, "a"), Mkdir(0, "b"), Mkdir(1, "a"), Mkdir(2, "a")];
+static FOUR: [Asked; 4] = [Mkdir(0, "a"), Mkdir(0, "b"), Mkdir(1, "a"), Mkdir(2, "a")];
 
 // A history that is drawn, from one of the first trees.
 fn drawn(alloc: Global, draw: &mut Draw) -> Result<Plot, Fail> {
