@@ -103,14 +103,19 @@ fn assert_ends(rt: &impl Abort, run: &Run) {
     run.assert_nodes(rt, &AFTER_ENDS);
 }
 
+// Tells all events, one after another.
+fn tell_all(rt: &impl Abort, run: &mut Run) -> Result<(), Fail> {
+    tell_calls(rt, run)?;
+    tell_commits(rt, run)?;
+    tell_ends(rt, run)
+}
+
 #[test]
 fn each_event_is_refused_for_its_first_reason_and_taken_when_it_is_right(
     rt: HostRuntime,
 ) -> Result<(), Fail> {
     let mut run = begun(rt.alloc())?;
-    tell_calls(&rt, &mut run)?;
-    tell_commits(&rt, &mut run)?;
-    tell_ends(&rt, &mut run)?;
+    tell_all(&rt, &mut run)?;
     assert_ends(&rt, &run);
     Ok(())
 }
