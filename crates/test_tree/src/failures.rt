@@ -63,7 +63,7 @@ fn told(alloc: Global, first: u32, before: &[Asked], calls: &[Asked]) -> Result<
 }
 
 // A directory with one in it moves into a third one.
-const MOVED: [Asked; 4] = [
+static MOVED: [Asked; 4] = [
     Mkdir(0, "b"),
     Mkdir(3, "b"),
     Mkdir(0, "a"),
@@ -82,9 +82,9 @@ fn without_the_rename_rule_a_directory_stands_in_two_places(rt: HostRuntime) -> 
 }
 
 // A directory, in which one stands; both are removed.
-const ONE_IN_ONE: [Asked; 2] = [Mkdir(0, "b"), Mkdir(3, "a")];
+static ONE_IN_ONE: [Asked; 2] = [Mkdir(0, "b"), Mkdir(3, "a")];
 
-const REMOVED: [Asked; 2] = [Rmdir(3, "a"), Rmdir(0, "b")];
+static REMOVED: [Asked; 2] = [Rmdir(3, "a"), Rmdir(0, "b")];
 
 #[test]
 fn without_the_removal_rule_what_went_still_has_rows(rt: HostRuntime) -> Result<(), Fail> {
@@ -96,7 +96,7 @@ fn without_the_removal_rule_what_went_still_has_rows(rt: HostRuntime) -> Result<
 }
 
 // A directory, and one in it.
-const MADE: [Asked; 2] = [Mkdir(0, "b"), Mkdir(3, "b")];
+static MADE: [Asked; 2] = [Mkdir(0, "b"), Mkdir(3, "b")];
 
 #[test]
 fn without_the_birth_rule_what_nothing_names_has_rows(rt: HostRuntime) -> Result<(), Fail> {
@@ -109,9 +109,9 @@ fn without_the_birth_rule_what_nothing_names_has_rows(rt: HostRuntime) -> Result
 }
 
 // Directories 2 and 3, one in the other. One that is made in 3 moves to the root, and then 3 moves into it.
-const CHAIN: [Asked; 2] = [Mkdir(0, "c"), Mkdir(2, "c")];
+static CHAIN: [Asked; 2] = [Mkdir(0, "c"), Mkdir(2, "c")];
 
-const TWO_MOVES: [Asked; 3] = [
+static TWO_MOVES: [Asked; 3] = [
     Mkdir(3, "a"),
     Rename(3, "a", 0, "a"),
     Rename(2, "c", 4, "a"),

@@ -6,7 +6,7 @@ use std::process::Abort;
 use std::test::Fail;
 
 // Lines in the grammar, and what of it each shows.
-const INSIDE: [(&str, &str); 32] = [
+static INSIDE: [(&str, &str); 32] = [
     ("0 create /a", "each verb"),
     ("0 mkdir /a", "each verb"),
     ("0 link /a /b", "each verb"),
@@ -48,7 +48,7 @@ const INSIDE: [(&str, &str); 32] = [
 ];
 
 // Lines outside the grammar, and why.
-const OUTSIDE: [(&str, &str); 56] = [
+static OUTSIDE: [(&str, &str); 56] = [
     ("0 fsync /a", "an fsync of another node than the root"),
     ("x", "one word"),
     (" ", "two empty words"),
@@ -108,7 +108,7 @@ const OUTSIDE: [(&str, &str); 56] = [
 ];
 
 // More lines outside the grammar, by one argument.
-const ARGUMENTS: [(&str, &str); 9] = [
+static ARGUMENTS: [(&str, &str); 9] = [
     ("0 read /a 0 65537", "past the largest count"),
     ("0 read /a 0 01", "a leading zero"),
     ("0 read /a 0", "no count"),

@@ -160,9 +160,9 @@ fn renamed(alloc: Global, row: Row, new: Row) -> Result<Call, Fail>
 }
 
 // The calls that make the first trees: none, and directories in one another and beside.
-const NONE: [Asked; 0] = [];
+static NONE: [Asked; 0] = [];
 
-const FOUR: [Asked; 4] = [Mkdir(0, "a"), Mkdir(0, "b"), Mkdir(1, "a"), Mkdir(2, "a")];
+static FOUR: [Asked; 4] = [Mkdir(0, "a"), Mkdir(0, "b"), Mkdir(1, "a"), Mkdir(2, "a")];
 
 // A history that is drawn, from one of the first trees.
 fn drawn(alloc: Global, draw: &mut Draw) -> Result<Plot, Fail> {
@@ -202,17 +202,22 @@ fn try_cuts(
     Ok(())
 }
 
+// Tries cuts of histories that are drawn, and counts them.
+fn swept(rt: &impl Abort, alloc: Global, histories: u64) -> Result<Met, Fail> {
+    let mut draw = Draw { state: 1 };
+    let mut met = Met::new();
+    for _ in 0..histories {
+        let plot = drawn(alloc, &mut draw)?;
+        try_cuts(rt, alloc, &mut draw, &plot, &mut met)?;
+    }
+    Ok(met)
+}
+
 #[test]
 fn each_closed_cut_of_a_sweep_has_a_sound_tree_and_others_lack_it(
     rt: HostRuntime,
 ) -> Result<(), Fail> {
-    let alloc = rt.alloc();
-    let mut draw = Draw { state: 1 };
-    let mut met = Met::new();
-    for _ in 0..HISTORIES {
-        let plot = drawn(alloc, &mut draw)?;
-        try_cuts(&rt, alloc, &mut draw, &plot, &mut met)?;
-    }
+    let met = swept(&rt, rt.alloc(), HISTORIES)?;
     assert!(rt; met.closed > 0);
     assert!(rt; met.renames > 0);
     assert!(rt; met.removals > 0);

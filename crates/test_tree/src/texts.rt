@@ -203,6 +203,24 @@ fn node(number: u32, kind: Kind) -> Reply {
     }
 }
 
+// The entries of the calls that a worker makes, where these are the replies.
+fn answered(alloc: Global, worker: &mut Worker, replies: Vec<Reply>) -> Result<Vec<Entry>, Fail> {
+    let mut entries = Vec::new(alloc);
+    for reply in replies {
+        let call = worker.next_call()?;
+        let call = call.ok_or("no call is left")?;
+        worker.take(&reply);
+        entries.push(Entry {
+            stamp: Stamp(entries.len() as u64),
+            core: CoreId(3),
+            call,
+            reply,
+            ack: None,
+        })?;
+    }
+    Ok(entries)
+}
+
 // The text of the calls that worker 3 makes in the first phase of a script, where these are the
 // replies. It has to be at its end then.
 fn calls(
@@ -212,27 +230,15 @@ fn calls(
     replies: Vec<Reply>,
 ) -> Result<Vec<u8>, Fail> {
     let script = read(alloc, script)?;
-    let mut entries = Vec::new(alloc);
     match script.phases() {
         [] => panic!(rt; "no phase"),
         [phase, ..] => {
             let mut worker = Worker::new(3, phase);
-            for reply in replies {
-                let call = worker.next_call()?;
-                let call = call.ok_or("no call is left")?;
-                worker.take(&reply);
-                entries.push(Entry {
-                    stamp: Stamp(entries.len() as u64),
-                    core: CoreId(3),
-                    call,
-                    reply,
-                    ack: None,
-                })?;
-            }
+            let entries = answered(alloc, &mut worker, replies)?;
             assert!(rt; worker.next_call()?.is_none());
+            Ok(text(alloc, &History::from_entries(entries))?)
         }
     }
-    Ok(text(alloc, &History::from_entries(entries))?)
 }
 
 #[test]

@@ -11,10 +11,10 @@ use std::process::Abort;
 use std::test::Fail;
 
 // The file that many rows name.
-const FILE: [(Asked, &str); 1] = [(Create(0, "000000"), " create 0 000000 = node 64 file\n")];
+static FILE: [(Asked, &str); 1] = [(Create(0, "000000"), " create 0 000000 = node 64 file\n")];
 
 // Behind a full bucket of the root, in which each row names the file.
-const FULL: [(Asked, &str); 10] = [
+static FULL: [(Asked, &str); 10] = [
     (Link(64, 0, "gggggg"), " link 64 0 gggggg = error DirFull\n"),
     (Create(0, "gggggg"), " create 0 gggggg = error DirFull\n"),
     (Link(64, 0, "a"), " link 64 0 a = ok\n"),
@@ -34,7 +34,7 @@ const FULL: [(Asked, &str); 10] = [
 ];
 
 // Directories in which the file gets its names.
-const DIRECTORIES: [(Asked, &str); 16] = [
+static DIRECTORIES: [(Asked, &str); 16] = [
     (Mkdir(0, "A"), " mkdir 0 A = node 65 dir\n"),
     (Mkdir(0, "B"), " mkdir 0 B = node 66 dir\n"),
     (Mkdir(0, "C"), " mkdir 0 C = node 67 dir\n"),
@@ -54,7 +54,7 @@ const DIRECTORIES: [(Asked, &str); 16] = [
 ];
 
 // Behind 65,535 links of the file, 4,094 of them in the last directory.
-const LINKED: [(Asked, &str); 5] = [
+static LINKED: [(Asked, &str); 5] = [
     (Stat(64), " stat 64 = stat file 65535 0\n"),
     (Link(64, 80, "a"), " link 64 80 a = error TooManyLinks\n"),
     (Unlink(0, "000000"), " unlink 0 000000 = ok\n"),
@@ -111,11 +111,23 @@ fn a_bucket_is_full_at_4096_rows(rt: HostRuntime) -> Result<(), Fail> {
     trial.assert_all(&rt, &FULL)
 }
 
-// Links the file in fifteen directories by 4,096 names, and in the sixteenth by 4,094.
-fn link_in_all(trial: &mut Trial, rt: &impl Abort, alloc: Global) -> Result<(), Fail> {
-    for dir in 65..80u32 {
+// Links the file by 4,096 names in each directory from one number up to another.
+fn link_in_each(
+    trial: &mut Trial,
+    rt: &impl Abort,
+    alloc: Global,
+    from: u32,
+    to: u32,
+) -> Result<(), Fail> {
+    for dir in from..to {
         link_all(trial, rt, alloc, dir, 0, 4096)?;
     }
+    Ok(())
+}
+
+// Links the file in fifteen directories by 4,096 names, and in the sixteenth by 4,094.
+fn link_in_all(trial: &mut Trial, rt: &impl Abort, alloc: Global) -> Result<(), Fail> {
+    link_in_each(trial, rt, alloc, 65, 80)?;
     link_all(trial, rt, alloc, 80, 0, 4094)
 }
 
@@ -151,13 +163,42 @@ fn is_error(reply: &Reply, due: Code) -> bool {
     }
 }
 
+// Asserts that a core makes a file of this name, whose number is the due one.
+fn assert_made(
+    trial: &mut Trial,
+    rt: &impl Abort,
+    alloc: Global,
+    made: (u8, &str),
+    due: u32,
+) -> Result<(), Fail>
+    requires { made.0 < 2 }
+{
+    let reply = make_by(trial, alloc, made.0, made.1)?;
+    assert!(rt; is_node(&reply, due));
+    Ok(())
+}
+
+// Asserts that a core is refused a file of this name with the due code.
+fn assert_refused(
+    trial: &mut Trial,
+    rt: &impl Abort,
+    alloc: Global,
+    made: (u8, &str),
+    due: Code,
+) -> Result<(), Fail>
+    requires { made.0 < 2 }
+{
+    let reply = make_by(trial, alloc, made.0, made.1)?;
+    assert!(rt; is_error(&reply, due));
+    Ok(())
+}
+
 #[test]
 fn two_cores_number_their_own_nodes(rt: HostRuntime) -> Result<(), Fail> {
     let alloc = rt.alloc();
     let mut trial = root_alone(alloc, 1)?;
-    assert!(rt; is_node(&make_by(&mut trial, alloc, 0, "a")?, 64));
-    assert!(rt; is_error(&make_by(&mut trial, alloc, 0, "b")?, Code::NoNodes));
-    assert!(rt; is_error(&make_by(&mut trial, alloc, 1, "a")?, Code::Exists));
-    assert!(rt; is_node(&make_by(&mut trial, alloc, 1, "b")?, 65));
-    Ok(())
+    assert_made(&mut trial, &rt, alloc, (0, "a"), 64)?;
+    assert_refused(&mut trial, &rt, alloc, (0, "b"), Code::NoNodes)?;
+    assert_refused(&mut trial, &rt, alloc, (1, "a"), Code::Exists)?;
+    assert_made(&mut trial, &rt, alloc, (1, "b"), 65)
 }

@@ -9,7 +9,7 @@ use std::test::Fail;
 
 // A root with a file `f` of number 64, a directory `d` of number 65 with a file `x` of number 66 in it, and an
 // empty directory `e` of number 67. No node has the number 99.
-const SMALL: [(Asked, &str); 4] = [
+static SMALL: [(Asked, &str); 4] = [
     (Create(0, "f"), " create 0 f = node 64 file\n"),
     (Mkdir(0, "d"), " mkdir 0 d = node 65 dir\n"),
     (Create(65, "x"), " create 65 x = node 66 file\n"),
@@ -17,7 +17,7 @@ const SMALL: [(Asked, &str); 4] = [
 ];
 
 // Look, in the small tree.
-const LOOK: [(Asked, &str); 5] = [
+static LOOK: [(Asked, &str); 5] = [
     (Look(99, "f"), " look 99 f = error NoEntry\n"),
     (Look(64, "f"), " look 64 f = error NotDir\n"),
     (Look(65, "f"), " look 65 f = error NoEntry\n"),
@@ -26,7 +26,7 @@ const LOOK: [(Asked, &str); 5] = [
 ];
 
 // Making nodes, in the small tree, where a core makes eight.
-const MAKE: [(Asked, &str); 11] = [
+static MAKE: [(Asked, &str); 11] = [
     (Create(99, "f"), " create 99 f = error NoEntry\n"),
     (Create(64, "f"), " create 64 f = error NotDir\n"),
     (Mkdir(0, "f"), " mkdir 0 f = error Exists\n"),
@@ -41,7 +41,7 @@ const MAKE: [(Asked, &str); 11] = [
 ];
 
 // Links, in the small tree.
-const LINK: [(Asked, &str); 8] = [
+static LINK: [(Asked, &str); 8] = [
     (Link(99, 99, "f"), " link 99 99 f = error NoEntry\n"),
     (Link(65, 99, "f"), " link 65 99 f = error NotPermitted\n"),
     (Link(64, 99, "f"), " link 64 99 f = error NoEntry\n"),
@@ -53,7 +53,7 @@ const LINK: [(Asked, &str); 8] = [
 ];
 
 // Unlink, in the small tree.
-const UNLINK: [(Asked, &str); 7] = [
+static UNLINK: [(Asked, &str); 7] = [
     (Unlink(99, "f"), " unlink 99 f = error NoEntry\n"),
     (Unlink(64, "f"), " unlink 64 f = error NotDir\n"),
     (Unlink(65, "f"), " unlink 65 f = error NoEntry\n"),
@@ -64,7 +64,7 @@ const UNLINK: [(Asked, &str); 7] = [
 ];
 
 // Rmdir, in the small tree.
-const RMDIR: [(Asked, &str); 8] = [
+static RMDIR: [(Asked, &str); 8] = [
     (Rmdir(99, "d"), " rmdir 99 d = error NoEntry\n"),
     (Rmdir(64, "d"), " rmdir 64 d = error NotDir\n"),
     (Rmdir(65, "d"), " rmdir 65 d = error NoEntry\n"),
@@ -76,7 +76,7 @@ const RMDIR: [(Asked, &str); 8] = [
 ];
 
 // Renames, in the small tree.
-const RENAME: [(Asked, &str); 14] = [
+static RENAME: [(Asked, &str); 14] = [
     (
         Rename(99, "f", 64, "g"),
         " rename 99 f 64 g = error NoEntry\n",
@@ -109,7 +109,7 @@ const RENAME: [(Asked, &str); 14] = [
 ];
 
 // Bytes, in the small tree.
-const BYTES: [(Asked, &str); 12] = [
+static BYTES: [(Asked, &str); 12] = [
     (Write(99, 0, "b"), " write 99 0 62 = error NoEntry\n"),
     (Write(65, 0, "b"), " write 65 0 62 = error IsDir\n"),
     (
@@ -131,7 +131,7 @@ const BYTES: [(Asked, &str); 12] = [
 ];
 
 // Nodes, in the small tree.
-const NODES: [(Asked, &str); 10] = [
+static NODES: [(Asked, &str); 10] = [
     (Stat(99), " stat 99 = error NoEntry\n"),
     (Stat(0), " stat 0 = stat dir 4 3\n"),
     (Stat(66), " stat 66 = stat file 1 0\n"),
@@ -145,7 +145,7 @@ const NODES: [(Asked, &str); 10] = [
 ];
 
 // Two names of one file.
-const TWO_NAMES: [(Asked, &str); 7] = [
+static TWO_NAMES: [(Asked, &str); 7] = [
     (Create(0, "a"), " create 0 a = node 64 file\n"),
     (Look(0, "a"), " look 0 a = node 64 file\n"),
     (Link(64, 0, "b"), " link 64 0 b = ok\n"),
@@ -156,7 +156,7 @@ const TWO_NAMES: [(Asked, &str); 7] = [
 ];
 
 // A directory that would move below itself, and others that may move.
-const BELOW: [(Asked, &str); 12] = [
+static BELOW: [(Asked, &str); 12] = [
     (Mkdir(0, "a"), " mkdir 0 a = node 64 dir\n"),
     (Mkdir(64, "b"), " mkdir 64 b = node 65 dir\n"),
     (Mkdir(65, "b"), " mkdir 65 b = node 66 dir\n"),
@@ -184,7 +184,7 @@ const BELOW: [(Asked, &str); 12] = [
 ];
 
 // A directory that takes the place of an empty one, and not of one with rows.
-const ONTO_EMPTY: [(Asked, &str); 12] = [
+static ONTO_EMPTY: [(Asked, &str); 12] = [
     (Mkdir(0, "a"), " mkdir 0 a = node 64 dir\n"),
     (Mkdir(0, "b"), " mkdir 0 b = node 65 dir\n"),
     (Mkdir(0, "c"), " mkdir 0 c = node 66 dir\n"),
@@ -200,7 +200,7 @@ const ONTO_EMPTY: [(Asked, &str); 12] = [
 ];
 
 // Refusals by kind.
-const KINDS: [(Asked, &str); 11] = [
+static KINDS: [(Asked, &str); 11] = [
     (Create(0, "f"), " create 0 f = node 64 file\n"),
     (Mkdir(0, "d"), " mkdir 0 d = node 65 dir\n"),
     (Rmdir(0, "f"), " rmdir 0 f = error NotDir\n"),
@@ -215,7 +215,7 @@ const KINDS: [(Asked, &str); 11] = [
 ];
 
 // A file that takes the place of another.
-const ONTO_FILE: [(Asked, &str); 10] = [
+static ONTO_FILE: [(Asked, &str); 10] = [
     (Create(0, "f"), " create 0 f = node 64 file\n"),
     (Mkdir(0, "d"), " mkdir 0 d = node 65 dir\n"),
     (Create(65, "g"), " create 65 g = node 66 file\n"),
@@ -229,7 +229,7 @@ const ONTO_FILE: [(Asked, &str); 10] = [
 ];
 
 // Zeros in a gap and behind a cut.
-const GAPS: [(Asked, &str); 9] = [
+static GAPS: [(Asked, &str); 9] = [
     (Create(0, "f"), " create 0 f = node 64 file\n"),
     (Write(64, 3, "hi"), " write 64 3 6869 = ok\n"),
     (Read(64, 0, 10), " read 64 0 10 = bytes 0000006869\n"),
@@ -242,7 +242,7 @@ const GAPS: [(Asked, &str); 9] = [
 ];
 
 // Bytes put over others.
-const OVER: [(Asked, &str); 10] = [
+static OVER: [(Asked, &str); 10] = [
     (Create(0, "f"), " create 0 f = node 64 file\n"),
     (Write(64, 0, "abcdef"), " write 64 0 616263646566 = ok\n"),
     (Write(64, 2, "XY"), " write 64 2 5859 = ok\n"),
@@ -259,7 +259,7 @@ const OVER: [(Asked, &str); 10] = [
 ];
 
 // The largest file.
-const LARGEST: [(Asked, &str); 9] = [
+static LARGEST: [(Asked, &str); 9] = [
     (Create(0, "f"), " create 0 f = node 64 file\n"),
     (
         Trunc(64, 67551233),

@@ -6,7 +6,7 @@ use std::process::Abort;
 use std::test::Fail;
 
 // Calls up to the first commit, which becomes durable. It flushes 3, and the root, where 3 was made.
-const FIRST: [(Told, Due); 11] = [
+static FIRST: [(Told, Due); 11] = [
     (
         Told::Call(0, 0, Mkdir(0, "a"), Given::Directory(3)),
         Due::Taken,
@@ -37,7 +37,7 @@ fn tell_first(rt: &impl Abort, run: &mut Run) -> Result<(), Fail> {
 }
 
 // The root has the rows a, b and d now, and 3 has f.
-const AFTER_FIRST: [(u32, u64, bool); 9] = [
+static AFTER_FIRST: [(u32, u64, bool); 9] = [
     (0, 7, true),
     (1, 0, false),
     (2, 0, false),
@@ -55,7 +55,7 @@ fn assert_first(rt: &impl Abort, run: &Run) {
 
 // Two commits fly side by side, one of 11 and of 12, which ended in it, and one of 4, 3 and the root, with the directory that moved
 // from 4 to 3 and the file that both have lost. The second is opened, then the first fails, and the second is kept.
-const SECOND: [(Told, Due); 17] = [
+static SECOND: [(Told, Due); 17] = [
     (
         Told::Call(8, 0, Mkdir(4, "h"), Given::Directory(6)),
         Due::Taken,
@@ -101,7 +101,7 @@ fn tell_second(rt: &impl Abort, run: &mut Run) -> Result<(), Fail> {
 }
 
 // 3 has the row h of 6 now, and no row names 5; 11 stays as it was.
-const AFTER_SECOND: [(u32, u64, bool); 10] = [
+static AFTER_SECOND: [(u32, u64, bool); 10] = [
     (0, 14, true),
     (1, 0, false),
     (3, 14, true),

@@ -5,7 +5,7 @@ use std::process::Abort;
 use std::test::Fail;
 
 // Each reason to refuse a call, an opening or an end, and then the event as it is right.
-const CALLS: [(Told, Due); 15] = [
+static CALLS: [(Told, Due); 15] = [
     (
         Told::Call(1, 0, Mkdir(0, "a"), Given::Directory(3)),
         Due::NotNext(0),
@@ -43,7 +43,7 @@ fn tell_calls(rt: &impl Abort, run: &mut Run) -> Result<(), Fail> {
 }
 
 // 3 has its inode now. A commit of it and of its new children 4 and 11 flies; one of a child would flush 3 too, where it was made.
-const COMMITS: [(Told, Due); 12] = [
+static COMMITS: [(Told, Due); 12] = [
     (
         Told::Call(2, 1, Mkdir(3, "b"), Given::Directory(11)),
         Due::Taken,
@@ -69,7 +69,7 @@ fn tell_commits(rt: &impl Abort, run: &mut Run) -> Result<(), Fail> {
 }
 
 // A commit fails, and then the run ends.
-const ENDS: [(Told, Due); 14] = [
+static ENDS: [(Told, Due); 14] = [
     (Told::Fail(9), Due::NotFlying(9)),
     (Told::Fail(3), Due::Taken),
     (Told::Fail(2), Due::Taken),
@@ -91,7 +91,7 @@ fn tell_ends(rt: &impl Abort, run: &mut Run) -> Result<(), Fail> {
 }
 
 // The cut of 3 is that of the commit which the crash kept, and the row b of 11 stands at it.
-const AFTER_ENDS: [(u32, u64, bool); 5] = [
+static AFTER_ENDS: [(u32, u64, bool); 5] = [
     (0, 2, true),
     (3, 4, true),
     (4, 0, true),
@@ -103,14 +103,19 @@ fn assert_ends(rt: &impl Abort, run: &Run) {
     run.assert_nodes(rt, &AFTER_ENDS);
 }
 
+// Tells all events, one after another.
+fn tell_all(rt: &impl Abort, run: &mut Run) -> Result<(), Fail> {
+    tell_calls(rt, run)?;
+    tell_commits(rt, run)?;
+    tell_ends(rt, run)
+}
+
 #[test]
 fn each_event_is_refused_for_its_first_reason_and_taken_when_it_is_right(
     rt: HostRuntime,
 ) -> Result<(), Fail> {
     let mut run = begun(rt.alloc())?;
-    tell_calls(&rt, &mut run)?;
-    tell_commits(&rt, &mut run)?;
-    tell_ends(&rt, &mut run)?;
+    tell_all(&rt, &mut run)?;
     assert_ends(&rt, &run);
     Ok(())
 }
