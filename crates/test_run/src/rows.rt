@@ -12,7 +12,7 @@ use std::thread::Threads;
 // Scripts over a fresh disk with their texts, worked out by hand: two names of one file; a directory that
 // would move below itself; one that moves onto an empty one, and one that can't onto another; two
 // workers, twice; bytes put, cut and read; each kind of node with its refusals; an escaped name.
-const TEXTS: [(&str, &str); 8] = [
+static TEXTS: [(&str, &str); 8] = [
     (
         "0 create /a\n0 link /a /b\n0 rename /a /b\n0 list /\n0 stat /a\n",
         "0 0 create 0 a = node 64 file\n1 0 look 0 a = node 64 file\n2 0 link 64 0 b = ok\n3 0 rename 0 a 0 b = ok\n4 0 list 0 = list a b\n5 0 look 0 a = node 64 file\n6 0 stat 64 = stat file 2 0\n",
@@ -45,7 +45,7 @@ const TEXTS: [(&str, &str); 8] = [
 ];
 
 // Scripts that are refused, with the first line outside the grammar.
-const BAD_LINES: [(&str, u32); 7] = [
+static BAD_LINES: [(&str, u32); 7] = [
     ("0 mkdir /a%2Fb", 1),
     ("0 mkdir /", 1),
     ("0 mkdir /a/", 1),
@@ -56,7 +56,7 @@ const BAD_LINES: [(&str, u32); 7] = [
 ];
 
 // Words behind `run` that are no number of new nodes, with the place that is bad.
-const BAD_NODES: [(&str, u32); 6] = [
+static BAD_NODES: [(&str, u32); 6] = [
     ("0", 1),
     ("65537", 1),
     ("01", 1),
