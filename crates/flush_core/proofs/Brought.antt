@@ -15,7 +15,7 @@ use Rattle.flush_core.specs.Rules.{IsOneOf, IsChange, MovesDirectory, IsMove, Bi
 use Rattle.flush_core.specs.Closure.{every_entry, Flush, InSpan, HasNaming, Closure, itself, other_side, ended, ancestor, birth_place}
 use Rattle.flush_core.specs.Past.{IsPast, row_change_of, birth_of}
 use Rattle.flush_core.specs.NodeSets.{has_node}
-use Rattle.flush_core.specs.Engine.{Spans, IsNaming, Brings, IsWanted}
+use Rattle.flush_core.specs.Engine.{Spans, IsNaming, RequiresNode, IsRequired}
 use Rattle.flush_core.proofs.Listed.{from_map, to_map}
 
 -- one of those that are kept as above is kept in a list
@@ -65,7 +65,7 @@ module _ (first : TreeState) (history : List Entry) (past : Past) (is : IsPast f
     abbrev IsIn : ℕ → Type 0
     IsIn = Closure first history every_entry cut (has_node inodes) flush
 
-    brought : (own : OwnChange) (node : ℕ) → IsOneOf past.changes.items own → IsIn own.directory → Spans cut flush.stamp own → Brings own node → IsIn node
+    brought : (own : OwnChange) (node : ℕ) → IsOneOf past.changes.items own → IsIn own.directory → Spans cut flush.stamp own → RequiresNode own node → IsIn node
     brought own node one member spans (inl other) = other_side (row_change_of own) node member (in_span cut flush.stamp own one spans) other
     brought own node one member spans (inr (inl (ends, child))) = rw child at (ended (row_change_of own) member (in_span cut flush.stamp own one spans) ends)
     brought own node one member spans (inr (inr above)) =
@@ -74,13 +74,13 @@ module _ (first : TreeState) (history : List Entry) (past : Past) (is : IsPast f
         ancestor (row_change_of own) kept.0.items node member (in_span cut flush.stamp own one spans) (record { is_change = kept_change own one; moves = keeps.moves kept.0 kept.1 }) (keeps.stand kept.0 kept.1) kept.2
 
     -- what the members bring in is in the closure where they are
-    pub wanted_is_in : ((node : ℕ) → has_node members node ≡ true → IsIn node) → (node : ℕ) → IsWanted past cut inodes flush.stamp members node → IsIn node
-    wanted_is_in all node (inl (own, one, b)) = brought own node one (all own.directory b.member) b.spans b.brings
+    pub wanted_is_in : ((node : ℕ) → has_node members node ≡ true → IsIn node) → (node : ℕ) → IsRequired past cut inodes flush.stamp members node → IsIn node
+    wanted_is_in all node (inl (own, one, b)) = brought own node one (all own.directory b.member) b.spans b.requires_it
     wanted_is_in all node (inr (born, one, b)) = rw b.place at (birth_place (birth_of born) (all born.node b.member) (kept_birth born one) b.no_inode (naming_is cut born.node b.naming))
 
     -- members that bring in no others are the closure
-    module _ (own : has_node members flush.node ≡ true) (closed : (node : ℕ) → IsWanted past cut inodes flush.stamp members node → has_node members node ≡ true) where
-      by_change : (change : RowChange) (node : ℕ) → has_node members change.directory ≡ true → InSpan first history every_entry cut flush.stamp change → ((kept : OwnChange) → IsOneOf past.changes.items kept → row_change_of kept ≡ change → Brings kept node) → has_node members node ≡ true
+    module _ (own : has_node members flush.node ≡ true) (closed : (node : ℕ) → IsRequired past cut inodes flush.stamp members node → has_node members node ≡ true) where
+      by_change : (change : RowChange) (node : ℕ) → has_node members change.directory ≡ true → InSpan first history every_entry cut flush.stamp change → ((kept : OwnChange) → IsOneOf past.changes.items kept → row_change_of kept ≡ change → RequiresNode kept node) → has_node members node ≡ true
       by_change change node member span brings =
           let kept = change_kept change span.is_change in
           closed node (inl (
@@ -89,7 +89,7 @@ module _ (first : TreeState) (history : List Entry) (past : Past) (is : IsPast f
             record {
               member = subst (λ (c : RowChange). has_node members c.directory ≡ true) (sym kept.2) member;
               spans = spans_of cut flush.stamp kept.0 change kept.2 span;
-              brings = brings kept.0 kept.1 kept.2;
+              requires_it = brings kept.0 kept.1 kept.2;
             },
           ))
 
@@ -107,7 +107,7 @@ module _ (first : TreeState) (history : List Entry) (past : Past) (is : IsPast f
             },
           ))
 
-      those_above : (change : RowChange) (above : List ℕ) (node : ℕ) → IsMove first history change → Above (tree_after first (take change.stamp history)) change.directory above → IsOneOf above node → (kept : OwnChange) → IsOneOf past.changes.items kept → row_change_of kept ≡ change → Brings kept node
+      those_above : (change : RowChange) (above : List ℕ) (node : ℕ) → IsMove first history change → Above (tree_after first (take change.stamp history)) change.directory above → IsOneOf above node → (kept : OwnChange) → IsOneOf past.changes.items kept → row_change_of kept ≡ change → RequiresNode kept node
       those_above change above node move stand one kept in_past e =
           let found = (is.above kept in_past).all (subst (λ (c : RowChange). MovesDirectory (tree_after first (take c.stamp history)) c) (sym e) move.moves) above (subst (λ (c : RowChange). Above (tree_after first (take c.stamp history)) c.directory above) (sym e) stand) in
           inr (inr (rw found.1 (rw found.2 one)))

@@ -1,4 +1,4 @@
--- What the engine looks for in a past: the changes of a span, the nodes that members bring in, and the nodes that a change names.
+-- What the engine looks for in a past: the changes of a span, the nodes that members require, and the nodes that a change names.
 use Rattle.std.specs.Prelude.{◌≡◌, ◌⊎◌, ℕ, ◌<◌, ◌≤◌, ◌↔◌, true, false, List, [], Option, Some, None, max, if◌then◌else◌}
 use Rattle.std.specs.Option.{option_map_or}
 use Rattle.flush_core.specs.declared.past.OwnChange.{OwnChange}
@@ -27,44 +27,44 @@ IsNaming changes cut node = (change : OwnChange) × IsOneOf changes change × Na
 abbrev pub above_of : OwnChange → List ℕ
 above_of change = option_map_or (λ above. above.items) change.above []
 
--- A node that a change in a member's span brings in: the other directory, one that the change ends, or one of those above.
-abbrev pub Brings : OwnChange → ℕ → Type 0
-Brings change node = (change.other ≡ Some node) ⊎ ((change.ends ≡ true) × (change.child ≡ node)) ⊎ IsOneOf (above_of change) node
+-- A node that a change in a member's span requires, so that it has to be a member too: the other directory, one that the change ends, or one of those above.
+abbrev pub RequiresNode : OwnChange → ℕ → Type 0
+RequiresNode change node = (change.other ≡ Some node) ⊎ ((change.ends ≡ true) × (change.child ≡ node)) ⊎ IsOneOf (above_of change) node
 
--- A change brings a node in for the members.
-pub record BringsFor (cut : Cut) (stamp : ℕ) (members : NodeSet) (change : OwnChange) (node : ℕ) : Type 0 where
+-- A change requires a node for the members.
+pub record RequiresNodeFor (cut : Cut) (stamp : ℕ) (members : NodeSet) (change : OwnChange) (node : ℕ) : Type 0 where
   pub member : has_node members change.directory ≡ true
   pub spans : Spans cut stamp change
-  pub brings : Brings change node
+  pub requires_it : RequiresNode change node
 
--- One of some changes brings a node in for the members.
-abbrev pub IsBrought : List OwnChange → Cut → ℕ → NodeSet → ℕ → Type 0
-IsBrought changes cut stamp members node = (change : OwnChange) × IsOneOf changes change × BringsFor cut stamp members change node
+-- One of some changes requires a node for the members.
+abbrev pub IsRequiredByChange : List OwnChange → Cut → ℕ → NodeSet → ℕ → Type 0
+IsRequiredByChange changes cut stamp members node = (change : OwnChange) × IsOneOf changes change × RequiresNodeFor cut stamp members change node
 
--- A birth brings in the directory in which a member was made that has no inode and a naming that is not flushed.
-pub record Bears (changes : List OwnChange) (cut : Cut) (inodes members : NodeSet) (born : BornNode) (node : ℕ) : Type 0 where
+-- A birth requires the directory in which a member was made that has no inode and a naming that is not flushed.
+pub record RequiresBirthplace (changes : List OwnChange) (cut : Cut) (inodes members : NodeSet) (born : BornNode) (node : ℕ) : Type 0 where
   pub member : has_node members born.node ≡ true
   pub no_inode : has_node inodes born.node ≡ false
   pub naming : IsNaming changes cut born.node
   pub place : born.directory ≡ node
 
--- One of some births brings a node in for the members.
-abbrev pub IsBorne : List OwnChange → List BornNode → Cut → NodeSet → NodeSet → ℕ → Type 0
-IsBorne changes births cut inodes members node = (born : BornNode) × IsOneOf births born × Bears changes cut inodes members born node
+-- One of some births requires a node for the members.
+abbrev pub IsRequiredByBirth : List OwnChange → List BornNode → Cut → NodeSet → NodeSet → ℕ → Type 0
+IsRequiredByBirth changes births cut inodes members node = (born : BornNode) × IsOneOf births born × RequiresBirthplace changes cut inodes members born node
 
--- A node that the members bring in, by a change or by a birth.
-abbrev pub IsWanted : Past → Cut → NodeSet → ℕ → NodeSet → ℕ → Type 0
-IsWanted past cut inodes stamp members node =
-    IsBrought past.changes.items cut stamp members node ⊎ IsBorne past.changes.items past.births.items cut inodes members node
+-- A node that the members require, by a change or by a birth.
+abbrev pub IsRequired : Past → Cut → NodeSet → ℕ → NodeSet → ℕ → Type 0
+IsRequired past cut inodes stamp members node =
+    IsRequiredByChange past.changes.items cut stamp members node ⊎ IsRequiredByBirth past.changes.items past.births.items cut inodes members node
 
--- What a search for a wanted node that is not in a set gives.
+-- What a search for a required node that is not in a set gives.
 abbrev pub Finds : (ℕ → Type 0) → NodeSet → Option ℕ → Type 0
-Finds Wants set (Some node) = Wants node × (has_node set node ≡ false)
-Finds Wants set None = (node : ℕ) → Wants node → has_node set node ≡ true
+Finds Needs set (Some node) = Needs node × (has_node set node ≡ false)
+Finds Needs set None = (node : ℕ) → Needs node → has_node set node ≡ true
 
--- One of some elements brings a node in.
+-- One of some elements stands to a node as asked.
 abbrev pub OfSome : {X : Type 0} → List X → (X → ℕ → Type 0) → ℕ → Type 0
-OfSome {X} xs BringsIn node = (x : X) × IsOneOf xs x × BringsIn x node
+OfSome {X} xs Relates node = (x : X) × IsOneOf xs x × Relates x node
 
 -- A set has the nodes of another one and more.
 abbrev pub Joins : (ℕ → Type 0) → NodeSet → NodeSet → Type 0

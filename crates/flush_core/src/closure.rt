@@ -5,7 +5,7 @@ ghost use Rattle.sfs_tree.specs.declared.history.Entry.{Entry};
 ghost use Rattle.sfs_tree.specs.Tree.{TreeState};
 ghost use Rattle.flush_core.specs.Closure.{Flush};
 ghost use Rattle.flush_core.specs.Cut.{cut_of};
-ghost use Rattle.flush_core.specs.Engine.{Spans, IsNaming, Brings, BringsFor, IsBrought, Bears, IsBorne, IsWanted, Finds, OfSome, Joins, NamesFor};
+ghost use Rattle.flush_core.specs.Engine.{Spans, IsNaming, RequiresNode, RequiresNodeFor, IsRequiredByChange, RequiresBirthplace, IsRequiredByBirth, IsRequired, Finds, OfSome, Joins, NamesFor};
 ghost use Rattle.flush_core.specs.Members.{AreMembers, AreConcerned};
 ghost use Rattle.flush_core.specs.Past.{IsPast};
 ghost use Rattle.flush_core.specs.Rules.{IsOneOf};
@@ -46,7 +46,7 @@ fn wanted_node(
     stamp: u64,
     members: &NodeSet,
 ) -> Option<u32>
-    ensures { Finds (IsWanted past.now cut.now inodes.now stamp members.now) members.now result }
+    ensures { Finds (IsRequired past.now cut.now inodes.now stamp members.now) members.now result }
 {
     match brought_node(&past.changes, cut, stamp, members) {
         Some(node) => Some(node),
@@ -56,7 +56,7 @@ fn wanted_node(
 
 // Such a node that a change brings in.
 fn brought_node(changes: &[OwnChange], cut: &Cut, stamp: u64, members: &NodeSet) -> Option<u32>
-    ensures { Finds (IsBrought changes.now cut.now stamp members.now) members.now result }
+    ensures { Finds (IsRequiredByChange changes.now cut.now stamp members.now) members.now result }
 {
     for change in changes {
         if let Some(node) = brought_by(change, cut, stamp, members) {
@@ -68,7 +68,7 @@ fn brought_node(changes: &[OwnChange], cut: &Cut, stamp: u64, members: &NodeSet)
 
 // Such a node that this change brings in.
 fn brought_by(change: &OwnChange, cut: &Cut, stamp: u64, members: &NodeSet) -> Option<u32>
-    ensures { Finds (BringsFor cut.now stamp members.now change.now) members.now result }
+    ensures { Finds (RequiresNodeFor cut.now stamp members.now change.now) members.now result }
 {
     if members.has(change.directory) && spans(cut, stamp, change) {
         absent_of(change, members)
@@ -86,7 +86,7 @@ pub(crate) fn spans(cut: &Cut, stamp: u64, change: &OwnChange) -> bool
 
 // A node that is not a member, of those that a change brings in.
 fn absent_of(change: &OwnChange, members: &NodeSet) -> Option<u32>
-    ensures { Finds (Brings change.now) members.now result }
+    ensures { Finds (RequiresNode change.now) members.now result }
 {
     if let Some(other) = change.other {
         if !members.has(other) {
@@ -122,7 +122,7 @@ fn borne_node(
     inodes: &NodeSet,
     members: &NodeSet,
 ) -> Option<u32>
-    ensures { Finds (IsBorne changes.now births.now cut.now inodes.now members.now) members.now result }
+    ensures { Finds (IsRequiredByBirth changes.now births.now cut.now inodes.now members.now) members.now result }
 {
     for born in births {
         if let Some(node) = borne_by(born, changes, cut, inodes, members) {
@@ -140,7 +140,7 @@ fn borne_by(
     inodes: &NodeSet,
     members: &NodeSet,
 ) -> Option<u32>
-    ensures { Finds (Bears changes.now cut.now inodes.now members.now born.now) members.now result }
+    ensures { Finds (RequiresBirthplace changes.now cut.now inodes.now members.now born.now) members.now result }
 {
     if members.has(born.node)
         && !inodes.has(born.node)

@@ -1,5 +1,5 @@
 use Rattle.std.proofs.Common.{◌≡◌, true, ℕ}
-use Rattle.flush_core.specs.Engine.{BringsFor}
+use Rattle.flush_core.specs.Engine.{RequiresNodeFor}
 use Rattle.flush_core.specs.NodeSets.{has_node}
 use Rattle.flush_core.proofs.Listed.{one_at, more_hold, all_hold}
 use Rattle.flush_core.proofs.closure.brought_node.Goals as goal
@@ -10,8 +10,8 @@ returns-in-Some c =
 
 pub loop-change-preserved : goal.loop-change-preserved
 loop-change-preserved c =
-    more_hold (λ change. (node : ℕ) → BringsFor c.args.cut.now c.args.stamp c.args.members.now change node → has_node c.args.members.now node ≡ true) c.args.changes.now c.loop-change.change-index c.change-item.result c.change-item.result c.loop-change-test.true c.change-item.is c.loop-change.invariant c.in_default.ensures
+    more_hold (λ change. (node : ℕ) → RequiresNodeFor c.args.cut.now c.args.stamp c.args.members.now change node → has_node c.args.members.now node ≡ true) c.args.changes.now c.loop-change.change-index c.change-item.result c.change-item.result c.loop-change-test.true c.change-item.is c.loop-change.invariant c.in_default.ensures
 
 pub returns : goal.returns
 returns c = λ node brought.
-    all_hold (λ change. (node : ℕ) → BringsFor c.args.cut.now c.args.stamp c.args.members.now change node → has_node c.args.members.now node ≡ true) c.args.changes.now c.loop-change.change-index c.loop-change-test.false c.loop-change.invariant brought.0 brought.1 node brought.2
+    all_hold (λ change. (node : ℕ) → RequiresNodeFor c.args.cut.now c.args.stamp c.args.members.now change node → has_node c.args.members.now node ≡ true) c.args.changes.now c.loop-change.change-index c.loop-change-test.false c.loop-change.invariant brought.0 brought.1 node brought.2

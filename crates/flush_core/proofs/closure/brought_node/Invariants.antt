@@ -1,9 +1,9 @@
 use Rattle.std.proofs.Common.{◌≡◌, ℕ, true, take}
 use Rattle.flush_core.specs.declared.past.OwnChange.{OwnChange}
-use Rattle.flush_core.specs.Engine.{BringsFor}
+use Rattle.flush_core.specs.Engine.{RequiresNodeFor}
 use Rattle.flush_core.specs.NodeSets.{has_node}
 use Rattle.flush_core.specs.Rules.{IsOneOf}
 use Rattle.flush_core.proofs.closure.brought_node.Given as goal
 
 abbrev pub invariant-loop-change : goal.invariant-loop-change
-invariant-loop-change l = (change : OwnChange) → IsOneOf (take l.change-index l.changes) change → (node : ℕ) → BringsFor l.cut l.stamp l.members change node → has_node l.members node ≡ true
+invariant-loop-change l = (change : OwnChange) → IsOneOf (take l.change-index l.changes) change → (node : ℕ) → RequiresNodeFor l.cut l.stamp l.members change node → has_node l.members node ≡ true
