@@ -23,7 +23,7 @@ use Rattle.sfs_base.proofs.BasicTruth.{not_both}
 use Rattle.flush_core.proofs.Listed.{from_map, to_map}
 use Rattle.flush_core.proofs.Along.{tree_at, core_at, effect_at, makes_at, tree_at-after, sound_at, fits_at, change_of}
 use Rattle.flush_core.proofs.Lives.{live_own}
-use Rattle.flush_core.proofs.Brought.{kept_change, change_kept}
+use Rattle.flush_core.proofs.Required.{kept_change, change_kept}
 use Rattle.flush_core.proofs.Ways.{row_on_way, next_on_way}
 
 -- a rule is the first that is broken, where those before it hold

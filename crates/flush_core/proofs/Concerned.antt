@@ -11,7 +11,7 @@ use Rattle.flush_core.specs.Past.{IsPast, row_change_of}
 use Rattle.flush_core.specs.NodeSets.{has_node}
 use Rattle.flush_core.specs.Engine.{OfSome, Joins, NamesFor}
 use Rattle.flush_core.specs.Members.{AreMembers, AreConcerned}
-use Rattle.flush_core.proofs.Brought.{change_kept, in_span, spans_of}
+use Rattle.flush_core.proofs.Required.{change_kept, in_span, spans_of}
 
 module _ (first : TreeState) (history : List Entry) (past : Past) (is : IsPast first history past) (cut : Cut) (inodes members : NodeSet) (flush : Flush) (are : AreMembers first history cut inodes flush members) where
   names_for : (node : ℕ) → IsConcerned first history every_entry cut (has_node inodes) flush node → (has_node members node ≡ true) ⊎ OfSome past.changes.items (NamesFor cut flush.stamp members) node

@@ -24,7 +24,7 @@ pub mod Alike
 pub mod Prefixes
 pub mod Listed
 pub mod Marks
-pub mod Brought
+pub mod Required
 pub mod Counting
 pub mod Gathered
 pub mod Concerned

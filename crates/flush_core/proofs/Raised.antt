@@ -21,7 +21,7 @@ use Rattle.flush_core.specs.Inodes.{GetsInode, LosesInode, Settles}
 use Rattle.sfs_base.proofs.BasicTruth.{not_both}
 use Rattle.flush_core.proofs.Listed.{one_more, still_one, next_one}
 use Rattle.flush_core.proofs.Marks.{with_in, with_other}
-use Rattle.flush_core.proofs.Brought.{naming_is, is_naming}
+use Rattle.flush_core.proofs.Required.{naming_is, is_naming}
 
 -- a number is another one or not
 same_or_not : (x y : ℕ) → (y ≡ x) ⊎ (x ≢ y)

@@ -32,14 +32,14 @@ pub(crate) fn members_of(
 {
     let mut members = NodeSet::new(alloc);
     members.insert(node)?;
-    while let Some(wanted) = wanted_node(past, cut, inodes, stamp, &members) {
-        members.insert(wanted)?;
+    while let Some(required) = required_node(past, cut, inodes, stamp, &members) {
+        members.insert(required)?;
     }
     Ok(members)
 }
 
 // A node that the members bring in and that is not one of them.
-fn wanted_node(
+fn required_node(
     past: &Past,
     cut: &Cut,
     inodes: &NodeSet,
@@ -48,14 +48,14 @@ fn wanted_node(
 ) -> Option<u32>
     ensures { Finds (IsRequired past.now cut.now inodes.now stamp members.now) members.now result }
 {
-    match brought_node(&past.changes, cut, stamp, members) {
+    match node_of_change(&past.changes, cut, stamp, members) {
         Some(node) => Some(node),
-        None => borne_node(&past.births, &past.changes, cut, inodes, members),
+        None => node_of_birth(&past.births, &past.changes, cut, inodes, members),
     }
 }
 
 // Such a node that a change brings in.
-fn brought_node(changes: &[OwnChange], cut: &Cut, stamp: u64, members: &NodeSet) -> Option<u32>
+fn node_of_change(changes: &[OwnChange], cut: &Cut, stamp: u64, members: &NodeSet) -> Option<u32>
     ensures { Finds (IsRequiredByChange changes.now cut.now stamp members.now) members.now result }
 {
     for change in changes {
@@ -115,7 +115,7 @@ fn absent_among(nodes: &[u32], members: &NodeSet) -> Option<u32>
 }
 
 // A node that a birth brings in and that is not a member.
-fn borne_node(
+fn node_of_birth(
     births: &[BornNode],
     changes: &[OwnChange],
     cut: &Cut,

@@ -74,9 +74,9 @@ module _ (first : TreeState) (history : List Entry) (past : Past) (is : IsPast f
         ancestor (row_change_of own) kept.0.items node member (in_span cut flush.stamp own one spans) (record { is_change = kept_change own one; moves = keeps.moves kept.0 kept.1 }) (keeps.stand kept.0 kept.1) kept.2
 
     -- what the members bring in is in the closure where they are
-    pub wanted_is_in : ((node : ℕ) → has_node members node ≡ true → IsIn node) → (node : ℕ) → IsRequired past cut inodes flush.stamp members node → IsIn node
-    wanted_is_in all node (inl (own, one, b)) = brought own node one (all own.directory b.member) b.spans b.requires_it
-    wanted_is_in all node (inr (born, one, b)) = rw b.place at (birth_place (birth_of born) (all born.node b.member) (kept_birth born one) b.no_inode (naming_is cut born.node b.naming))
+    pub required_is_in : ((node : ℕ) → has_node members node ≡ true → IsIn node) → (node : ℕ) → IsRequired past cut inodes flush.stamp members node → IsIn node
+    required_is_in all node (inl (own, one, b)) = brought own node one (all own.directory b.member) b.spans b.requires_it
+    required_is_in all node (inr (born, one, b)) = rw b.place at (birth_place (birth_of born) (all born.node b.member) (kept_birth born one) b.no_inode (naming_is cut born.node b.naming))
 
     -- members that bring in no others are the closure
     module _ (own : has_node members flush.node ≡ true) (closed : (node : ℕ) → IsRequired past cut inodes flush.stamp members node → has_node members node ≡ true) where

@@ -3,7 +3,7 @@ use Rattle.flush_core.specs.Engine.{RequiresBirthplace}
 use Rattle.flush_core.specs.NodeSets.{has_node}
 use Rattle.flush_core.specs.declared.past.BornNode.{BornNode}
 use Rattle.flush_core.proofs.Listed.{one_at, more_hold, all_hold}
-use Rattle.flush_core.proofs.closure.borne_node.Goals as goal
+use Rattle.flush_core.proofs.closure.node_of_birth.Goals as goal
 
 no_birth : BornNode
 no_birth = record { stamp = 0; directory = 0; node = 0 }
