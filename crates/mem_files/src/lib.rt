@@ -1,8 +1,8 @@
 //! The bytes of a file in memory, in pages, with the stamp of the last change of each block.
 #![tactic(auto)]
 
-pub mod laws;
 mod file;
+pub mod laws;
 mod marks;
 mod page;
 mod pages;

@@ -12,7 +12,7 @@ use Rattle.script.specs.declared.commands.Line.{Line}
 use Rattle.script.specs.Walks.{Position, call_of, taken, position_after, next_call, commands_of}
 use Rattle.script.specs.Follows.{Makes, MakesAll, IsWholePhase, IsPartOfPhase, Follows, FollowsSoFar, core_entries, replies_of}
 use Rattle.script.proofs.FollowLemmas.{position_after-more, next_call-nothing, Makes-more, Follows-more, FollowsSoFar-part}
-use Rattle.scalefs_run.specs.Beyond.{HaveCores}
+use Rattle.scalefs_run.specs.WithoutCore.{HaveCores}
 use Rattle.scalefs_run.specs.Calls.{Called}
 use Rattle.scalefs_run.specs.Made.{Grown, ByWorker, ByWorkerWhole, AtWork, UpTo}
 

@@ -166,7 +166,7 @@ workers_read None = tt
 workers_read (Some asked) = tt
 
 script_command : (read : Result (List (List Line)) ℕ) → IsCommand (script_status read)
-script_command (Ok phases) = workers_command (Rattle.scalefs_run.specs.Beyond.beyond 2 phases)
+script_command (Ok phases) = workers_command (Rattle.scalefs_run.specs.WithoutCore.worker_without_core 2 phases)
 script_command (Err line) = tt
 
 -- what is due once the words are a command
@@ -233,7 +233,7 @@ served_unread words left script Source Sink written disk (TooLong Lines) nodes r
 
 -- the script was read, and run
 pub served_read : (words : List (List ℕ)) (left : Option (List ℕ)) (script : List ℕ) (phases : List (List Line)) (Source Sink : Type 0) (before after : Option (List ℕ)) (old new : View) (status : Status) (history : List Entry) (nodes share : ℕ) → nodes_of words ≡ Ok nodes → share ≡ share_in (Ok nodes) → IsOf left script → IsShort script → phases_of script ≡ Ok phases
-    → Served (workers_status (Rattle.scalefs_run.specs.Beyond.beyond 2 phases)) share phases ⊥ Sink before after old new status history → ServedScript words left Source Sink before after old new status history
+    → Served (workers_status (Rattle.scalefs_run.specs.WithoutCore.worker_without_core 2 phases)) share phases ⊥ Sink before after old new status history → ServedScript words left Source Sink before after old new status history
 served_read words left script phases Source Sink before after old new status history nodes share run shared is short read served = (
   script,
   is,

@@ -1,4 +1,4 @@
-pub mod Beyond
+pub mod WithoutCore
 pub mod Calls
 pub mod Crash
 pub mod First

@@ -16,7 +16,7 @@ use Rattle.script.specs.Faults.{MOST_BYTES, MOST_LINES, IsShort}
 use Rattle.script.specs.Texts.{history_text}
 use Rattle.scalefs_run.specs.declared.outcome.Status.{Status}
 use Rattle.scalefs_run.specs.declared.outcome.Status.TheVariants.{Done, BadWords, BadScript, ReadFault, WriteFault, DiskFault, NoMemory, TooManyWorkers, TooLong}
-use Rattle.scalefs_run.specs.Beyond.{beyond}
+use Rattle.scalefs_run.specs.WithoutCore.{worker_without_core}
 use Rattle.scalefs_run.specs.Words.{nodes_of, CORES}
 
 -- these are the bytes that were told, where they were
@@ -31,7 +31,7 @@ workers_status (Some asked) = TooManyWorkers asked CORES
 
 -- the status of a script that was read: that of its first bad line, if it has one
 abbrev pub script_status : Result (List (List Line)) ℕ → Status
-script_status (Ok phases) = workers_status (beyond CORES phases)
+script_status (Ok phases) = workers_status (worker_without_core CORES phases)
 script_status (Err line) = BadScript line
 
 -- the status of words that are no command

@@ -8,7 +8,7 @@ ghost use Rattle.area_pair.specs.Fault.{IsFault};
 ghost use Rattle.sfs_dev.specs.Steps.{IfTold};
 ghost use Rattle.area_pair.specs.Rows.{rows_of};
 ghost use Rattle.script.specs.Follows.{Follows, FollowsSoFar, IsWholePhase, IsPartOfPhase};
-ghost use Rattle.scalefs_run.specs.Beyond.{HaveCores};
+ghost use Rattle.scalefs_run.specs.WithoutCore.{HaveCores};
 ghost use Rattle.script.specs.Ready.{MayCall, LinesMayRun};
 ghost use Rattle.sfs_tree.specs.Sound.{IsSound};
 ghost use Rattle.sfs_tree.specs.Step.{IsReadable};

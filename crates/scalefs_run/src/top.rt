@@ -8,13 +8,13 @@ ghost use Rattle.script.specs.Ready.{LinesMayRun};
 ghost use Rattle.scalefs_run.specs.declared.outcome.Status.TheVariants.{Done as Fine};
 ghost use Rattle.scalefs_run.specs.Outcome.{IsOf, HasText, IsWriteStatus, HasReadFault, status_of_source, status_of_script, workers_status, reaches_disk};
 ghost use Rattle.scalefs_run.specs.Words.{CORES as CORE_COUNT, MOST_SHARE, nodes_of, share_of};
-ghost use Rattle.scalefs_run.specs.Beyond.{beyond, HaveCores};
+ghost use Rattle.scalefs_run.specs.WithoutCore.{worker_without_core, HaveCores};
 ghost use Rattle.scalefs_run.specs.Served.{Served, ServedScript};
 ghost use Rattle.scalefs_run.specs.Crash.{AcksRise, Survives};
 
-use crate::beyond::first_beyond;
 use crate::engine::{mount, serve};
 use crate::first::CORES;
+use crate::without_core::first_worker_without_core;
 use crate::words::nodes_of;
 use crate::{Outcome, Status};
 use area_pair::OpenFault;
@@ -136,7 +136,7 @@ fn serve_script<K: Sink, D: Disk>(
     requires large { 4 ≤ (D.view disk.old).size }
     requires share { share ≤ MOST_SHARE }
     requires ready { All LinesMayRun script.now }
-    ensures served { Served (workers_status (beyond CORE_COUNT script.now)) share script.now ⊥ (HasRisen (K.faults sink.old) (K.faults sink.new)) (K.written sink.old) (K.written sink.new)
+    ensures served { Served (workers_status (worker_without_core CORE_COUNT script.now)) share script.now ⊥ (HasRisen (K.faults sink.old) (K.faults sink.new)) (K.written sink.old) (K.written sink.new)
         (D.view disk.old) (D.view disk.new) result.0 result.1 }
     ensures survives { Survives share (D.view disk.old) (D.view disk.new) result.1 }
     ensures acks { AcksRise (D.view disk.old).now result.1 (D.view disk.new).now }
@@ -148,7 +148,7 @@ fn serve_script<K: Sink, D: Disk>(
         Err(OpenFault::DiskFailed) => return (Status::DiskFault, History::new(alloc)),
         Err(OpenFault::NoMemory) => return (Status::NoMemory, History::new(alloc)),
     };
-    if let Some(asked) = first_beyond(script.phases()) {
+    if let Some(asked) = first_worker_without_core(script.phases()) {
         let status = Status::TooManyWorkers {
             asked: u32::from(asked),
             have: u32::from(CORES),

@@ -1,2 +1,1 @@
 -- Both of two tests.
-

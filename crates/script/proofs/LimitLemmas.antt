@@ -195,26 +195,26 @@ line_of-calls (worker ∷ verb ∷ words) =
     omega (arith, zipped, made)
 
 -- how many calls what a line is makes at most
-abbrev meaning_calls : Option LineKind → ℕ
-meaning_calls (Some (Does line)) = most_calls line.command
-meaning_calls (Some Skipped) = 0
-meaning_calls (Some Ends) = 0
-meaning_calls None = 0
+abbrev kind_calls : Option LineKind → ℕ
+kind_calls (Some (Does line)) = most_calls line.command
+kind_calls (Some Skipped) = 0
+kind_calls (Some Ends) = 0
+kind_calls None = 0
 
-does_calls : (line : Option Line) → meaning_calls (option_map Does line) ≡ line_calls line
+does_calls : (line : Option Line) → kind_calls (option_map Does line) ≡ line_calls line
 does_calls (Some line) = refl
 does_calls None = refl
 
-kind_of_line-calls : (line : List ℕ) → meaning_calls (kind_of_line line) ≤ length line
+kind_of_line-calls : (line : List ℕ) → kind_calls (kind_of_line line) ≤ length line
 kind_of_line-calls [] = omega arith
 kind_of_line-calls (b ∷ bs) =
     let made = line_of-calls (words (b ∷ bs)) in
     let all = parts_total 32 (b ∷ bs) in
     let same = does_calls (line_in (words (b ∷ bs))) in
-    let within : meaning_calls (option_map Does (line_in (words (b ∷ bs)))) ≤ suc (length bs) = omega (arith, made, all, same) in
-    elim (nat_eq b 35) as (λ t. meaning_calls (cond t (Some Skipped) (cond (bytes_eq (b ∷ bs) (codes "---")) (Some Ends) (option_map Does (line_in (words (b ∷ bs)))))) ≤ suc (length bs)) [
+    let within : kind_calls (option_map Does (line_in (words (b ∷ bs)))) ≤ suc (length bs) = omega (arith, made, all, same) in
+    elim (nat_eq b 35) as (λ t. kind_calls (cond t (Some Skipped) (cond (bytes_eq (b ∷ bs) (codes "---")) (Some Ends) (option_map Does (line_in (words (b ∷ bs)))))) ≤ suc (length bs)) [
       | true ↦ omega arith
-      | false ↦ elim (bytes_eq (b ∷ bs) (codes "---")) as (λ t. meaning_calls (cond t (Some Ends) (option_map Does (line_in (words (b ∷ bs))))) ≤ suc (length bs)) [ true ↦ omega arith | false ↦ within ]
+      | false ↦ elim (bytes_eq (b ∷ bs) (codes "---")) as (λ t. kind_calls (cond t (Some Ends) (option_map Does (line_in (words (b ∷ bs))))) ≤ suc (length bs)) [ true ↦ omega arith | false ↦ within ]
     ]
 
 -- how many calls phases make at most, where there are some
@@ -226,9 +226,9 @@ longer_calls : (line : Line) (phases : List (List Line)) → calls_of_phases (fi
 longer_calls line [] = omega (arith, sum_by-cons calls_of_lines (line ∷ []) [], sum_by-cons (λ line. most_calls line.command) line [])
 longer_calls line (phase ∷ phases) = omega (arith, sum_by-cons calls_of_lines (line ∷ phase) phases, sum_by-cons (λ line. most_calls line.command) line phase, sum_by-cons calls_of_lines phase phases)
 
-with_line-calls : (number : ℕ) (meaning : Option LineKind) (later : Result (List (List Line)) ℕ) → read_calls (with_line number meaning later) ≤ meaning_calls meaning + read_calls later
+with_line-calls : (number : ℕ) (line_kind : Option LineKind) (later : Result (List (List Line)) ℕ) → read_calls (with_line number line_kind later) ≤ kind_calls line_kind + read_calls later
 with_line-calls number None later = omega arith
-with_line-calls number (Some meaning) (Err line) = omega arith
+with_line-calls number (Some line_kind) (Err line) = omega arith
 with_line-calls number (Some Skipped) (Ok phases) = omega arith
 with_line-calls number (Some Ends) (Ok phases) = omega (arith, sum_by-cons calls_of_lines [] phases)
 with_line-calls number (Some (Does line)) (Ok phases) = omega (arith, longer_calls line phases)

@@ -17,7 +17,7 @@ use Rattle.script.specs.Commands.{command_of, command_with, verb_of, worker_of, 
 use Rattle.script.specs.Words.{number_up_to, is_number, value_of}
 use Rattle.script.specs.Paths.{path_of}
 use Rattle.script.specs.Lines.{lines, words}
-use Rattle.script.specs.Phases.{phases_of, phases_from, with_line, with_meaning, first_phase_longer}
+use Rattle.script.specs.Phases.{phases_of, phases_from, with_line, with_line_kind, first_phase_longer}
 use Rattle.script.specs.Walks.{WalkState, First, Second, Last, Done, first_walk, second_walk, on_first, on_second, begun, after, Position, go_on, started, taken, commands_of}
 use Rattle.script.specs.Ready.{MayRun, EndsWell, IsReady, PositionReady, LinesMayRun}
 use Rattle.sfs_base.proofs.BasicTruth.{and_second}
@@ -162,22 +162,22 @@ line_may (worker ∷ []) = tt
 line_may (worker ∷ verb ∷ words) = with_may (worker_of worker) (command_with (verb_of verb) words) (verb_may (verb_of verb) words)
 
 -- what a line is leads to a command that may run
-abbrev MeaningMay : Option LineKind → Type 0
-MeaningMay (Some (Does line)) = MayRun line.command
-MeaningMay (Some Skipped) = Unit {0}
-MeaningMay (Some Ends) = Unit {0}
-MeaningMay None = Unit {0}
+abbrev KindMay : Option LineKind → Type 0
+KindMay (Some (Does line)) = MayRun line.command
+KindMay (Some Skipped) = Unit {0}
+KindMay (Some Ends) = Unit {0}
+KindMay None = Unit {0}
 
-does_may : (found : Option Line) → LineMay found → MeaningMay (option_map Does found)
+does_may : (found : Option Line) → LineMay found → KindMay (option_map Does found)
 does_may (Some line) may = may
 does_may None may = tt
 
-meaning_may : (line : List ℕ) → MeaningMay (kind_of_line line)
-meaning_may [] = tt
-meaning_may (byte ∷ bytes) =
-    elim (nat_eq byte 35) as (λ t. MeaningMay (cond t (Some Skipped) (cond (bytes_eq (byte ∷ bytes) (codes "---")) (Some Ends) (option_map Does (line_in (words (byte ∷ bytes))))))) [
+kind_may : (line : List ℕ) → KindMay (kind_of_line line)
+kind_may [] = tt
+kind_may (byte ∷ bytes) =
+    elim (nat_eq byte 35) as (λ t. KindMay (cond t (Some Skipped) (cond (bytes_eq (byte ∷ bytes) (codes "---")) (Some Ends) (option_map Does (line_in (words (byte ∷ bytes))))))) [
       | true ↦ tt
-      | false ↦ elim (bytes_eq (byte ∷ bytes) (codes "---")) as (λ t. MeaningMay (cond t (Some Ends) (option_map Does (line_in (words (byte ∷ bytes)))))) [
+      | false ↦ elim (bytes_eq (byte ∷ bytes) (codes "---")) as (λ t. KindMay (cond t (Some Ends) (option_map Does (line_in (words (byte ∷ bytes)))))) [
         | true ↦ tt
         | false ↦ does_may (line_in (words (byte ∷ bytes))) (line_may (words (byte ∷ bytes)))
       ]
@@ -187,7 +187,7 @@ longer_may : (line : Line) (phases : List (List Line)) → MayRun line.command �
 longer_may line [] may all = ((may, tt), tt)
 longer_may line (phase ∷ phases) may all = ((may, all.0), all.1)
 
-added_may : (meaning : LineKind) (phases : List (List Line)) → MeaningMay (Some meaning) → AllByRecursion LinesMayRun phases → AllByRecursion LinesMayRun (with_meaning meaning phases)
+added_may : (line_kind : LineKind) (phases : List (List Line)) → KindMay (Some line_kind) → AllByRecursion LinesMayRun phases → AllByRecursion LinesMayRun (with_line_kind line_kind phases)
 added_may Skipped phases may all = all
 added_may Ends phases may all = (tt, all)
 added_may (Does line) phases may all = longer_may line phases may all
@@ -197,14 +197,14 @@ abbrev ReadMay : Result (List (List Line)) ℕ → Type 0
 ReadMay (Ok phases) = AllByRecursion LinesMayRun phases
 ReadMay (Err line) = Unit {0}
 
-with_line_may : (number : ℕ) (meaning : Option LineKind) (behind : Result (List (List Line)) ℕ) → MeaningMay meaning → ReadMay behind → ReadMay (with_line number meaning behind)
+with_line_may : (number : ℕ) (line_kind : Option LineKind) (behind : Result (List (List Line)) ℕ) → KindMay line_kind → ReadMay behind → ReadMay (with_line number line_kind behind)
 with_line_may number None behind may all = tt
-with_line_may number (Some meaning) (Ok phases) may all = added_may meaning phases may all
-with_line_may number (Some meaning) (Err later) may all = tt
+with_line_may number (Some line_kind) (Ok phases) may all = added_may line_kind phases may all
+with_line_may number (Some line_kind) (Err later) may all = tt
 
 from_may : (number : ℕ) (ls : List (List ℕ)) → ReadMay (phases_from number ls)
 from_may number [] = (tt, tt)
-from_may number (line ∷ later) = with_line_may number (kind_of_line line) (phases_from (Rattle.std.proofs.Common.suc number) later) (meaning_may line) (from_may (Rattle.std.proofs.Common.suc number) later)
+from_may number (line ∷ later) = with_line_may number (kind_of_line line) (phases_from (Rattle.std.proofs.Common.suc number) later) (kind_may line) (from_may (Rattle.std.proofs.Common.suc number) later)
 
 -- Every command of a script that is read is within its bounds.
 pub phases_may : (text : List ℕ) (phases : List (List Line)) → phases_of text ≡ Ok phases → AllByRecursion LinesMayRun phases

@@ -12,16 +12,16 @@ first_phase_longer line [] = (line ∷ []) ∷ []
 first_phase_longer line (phase ∷ phases) = (line ∷ phase) ∷ phases
 
 -- a line's effect on the phases behind it
-abbrev pub with_meaning : LineKind → List (List Line) → List (List Line)
-with_meaning Skipped phases = phases
-with_meaning Ends phases = [] ∷ phases
-with_meaning (Does line) phases = first_phase_longer line phases
+abbrev pub with_line_kind : LineKind → List (List Line) → List (List Line)
+with_line_kind Skipped phases = phases
+with_line_kind Ends phases = [] ∷ phases
+with_line_kind (Does line) phases = first_phase_longer line phases
 
 -- a line with the phases behind it, or the line's number where it is outside the grammar
 abbrev pub with_line : ℕ → Option LineKind → Result (List (List Line)) ℕ → Result (List (List Line)) ℕ
 with_line number None behind = Err number
-with_line number (Some meaning) (Ok phases) = Ok (with_meaning meaning phases)
-with_line number (Some meaning) (Err later) = Err later
+with_line number (Some kind) (Ok phases) = Ok (with_line_kind kind phases)
+with_line number (Some kind) (Err later) = Err later
 
 -- the phases of these lines, the first of which has this number, or the number of the first line outside the grammar
 abbrev pub phases_from : ℕ → List (List ℕ) → Result (List (List Line)) ℕ

@@ -13,8 +13,8 @@ ghost use Rattle.script.specs.Lines.{lines};
 ghost use Rattle.script.specs.Phases.{phases_of};
 ghost use Rattle.script.specs.Faults.{HasFault, IsShort, MOST_LINES as LINES};
 
-use crate::reading::phases_so_far::PhasesSoFar;
 use crate::reading::line_kind::kind_of_line;
+use crate::reading::phases_so_far::PhasesSoFar;
 use crate::reading::split::first_line;
 use crate::{Script, ScriptFault};
 use sfs_base::Measure;
@@ -65,17 +65,17 @@ fn read_lines(alloc: Global, text: &[u8]) -> Result<Script, ScriptFault>
     ensures ok { IfOk result (λ script. phases_of text.now ≡ Ok script) }
     ensures err { IfErr result (HasFault text.now) }
 {
-    let mut draft = PhasesSoFar::new(alloc);
+    let mut so_far = PhasesSoFar::new(alloc);
     let mut rest = text;
     let mut number = 0u32;
     while !rest.is_empty() {
         let (line, behind) = first_line(rest);
         number += 1;
         match kind_of_line(alloc, line)? {
-            Some(meaning) => draft.add(meaning)?,
+            Some(line_kind) => so_far.add(line_kind)?,
             None => return Err(ScriptFault::BadLine { line: number }),
         }
         rest = behind;
     }
-    Ok(draft.end()?)
+    Ok(so_far.end()?)
 }

@@ -2,10 +2,10 @@ ghost use Rattle.std.specs.Prelude.{◌≡◌, IfOk};
 ghost use Rattle.script.specs.Lines.{words};
 ghost use Rattle.script.specs.Commands.{one, flushed_path, command_of, line_in, kind_of_line};
 
+use crate::reading::literals::number_up_to;
 use crate::reading::operands::{link, path, place, read, rename, trunc, write};
 use crate::reading::split::first_part;
 use crate::reading::verbs::{Verb, verb_of};
-use crate::reading::literals::number_up_to;
 use crate::{Command, Line};
 use sfs_base::{NoMemory, Path};
 use std::alloc::Global;
@@ -23,7 +23,7 @@ pub enum LineKind {
 
 // What a line is, where it is in the grammar.
 pub fn kind_of_line(alloc: Global, line: &[u8]) -> Result<Option<LineKind>, NoMemory>
-    ensures { IfOk result (λ meaning. meaning ≡ kind_of_line line.now) }
+    ensures { IfOk result (λ line_kind. line_kind ≡ kind_of_line line.now) }
 {
     if line.is_empty() || line[0] == b'#' {
         return Ok(Some(LineKind::Skipped));

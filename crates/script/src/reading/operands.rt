@@ -5,9 +5,9 @@ ghost use Rattle.script.specs.Paths.{path_of, name_path_of};
 ghost use Rattle.script.specs.Commands.{one, command_of};
 
 use crate::reading::exact_words::{one_word, three_words, two_words};
+use crate::reading::literals::{hex_bytes, number_up_to};
 use crate::reading::paths::{name_path_of, path_of};
 use crate::reading::verbs::Verb;
-use crate::reading::literals::{hex_bytes, number_up_to};
 use crate::{Command, NamePath};
 use sfs_base::{NoMemory, Path};
 use std::alloc::Global;

@@ -23,7 +23,7 @@ impl Model for PhasesSoFar {
 
     ghost Value = { List (List Line) × List Line };
 
-    ghost view = { λ draft. (draft.phases.items, draft.lines.items) };
+    ghost view = { λ so_far. (so_far.phases.items, so_far.lines.items) };
 }
 
 impl PhasesSoFar {
@@ -39,10 +39,10 @@ impl PhasesSoFar {
     }
 
     // Takes the next line, by what it is.
-    pub fn add(&mut self, meaning: LineKind) -> Result<(), NoMemory>
-        ensures { OnOk result (self.new ≡ with_next meaning self.old) }
+    pub fn add(&mut self, line_kind: LineKind) -> Result<(), NoMemory>
+        ensures { OnOk result (self.new ≡ with_next line_kind self.old) }
     {
-        match meaning {
+        match line_kind {
             LineKind::Skipped => {}
             LineKind::Ends => {
                 let lines = mem::replace(&mut self.lines, Vec::new(self.alloc));

@@ -9,7 +9,7 @@ use Rattle.scalefs_run.specs.declared.outcome.Status.TheVariants.{Done, DiskFaul
 use Rattle.script.specs.declared.commands.Line.{Line}
 use Rattle.script.specs.Follows.{Follows, FollowsSoFar}
 use Rattle.std.specs.List.{All}
-use Rattle.scalefs_run.specs.Beyond.{beyond, HaveCores}
+use Rattle.scalefs_run.specs.WithoutCore.{worker_without_core, HaveCores}
 use Rattle.scalefs_run.proofs.Within.{all_within}
 use Rattle.scalefs_run.specs.Outcome.{HasText, workers_status}
 use Rattle.scalefs_run.specs.Crash.{AcksRise, Survives}
@@ -27,8 +27,8 @@ returns-in-Err-DiskFailed-clause-served g c =
     let sink = c.args.sink.now in
     let phases = c.args.script.now in
     let rose : HasRisen old.faults new.faults = subst (λ (f : OpenFault). IsFault f old.faults new.faults) c.in-Err-DiskFailed.field-0-is c.in-Err-DiskFailed.ensures.cause in
-    subst (λ (h : List Entry). Served (workers_status (beyond 2 phases)) c.args.share phases ⊥ (HasRisen (g.K.Sink.faults sink) (g.K.Sink.faults sink)) (g.K.Sink.written sink) (g.K.Sink.written sink) old new DiskFault h) (sym c.new.ensures)
-    (served_none (workers_status (beyond 2 phases)) c.args.share phases ⊥ _ (g.K.Sink.written sink) (g.K.Sink.written sink) old new DiskFault (rose, workers_read (beyond 2 phases)) refl refl refl)
+    subst (λ (h : List Entry). Served (workers_status (worker_without_core 2 phases)) c.args.share phases ⊥ (HasRisen (g.K.Sink.faults sink) (g.K.Sink.faults sink)) (g.K.Sink.written sink) (g.K.Sink.written sink) old new DiskFault h) (sym c.new.ensures)
+    (served_none (workers_status (worker_without_core 2 phases)) c.args.share phases ⊥ _ (g.K.Sink.written sink) (g.K.Sink.written sink) old new DiskFault (rose, workers_read (worker_without_core 2 phases)) refl refl refl)
 
 pub returns-in-Err-NoMemory-clause-served : goal.returns-in-Err-NoMemory-clause-served
 returns-in-Err-NoMemory-clause-served g c =
@@ -37,8 +37,8 @@ returns-in-Err-NoMemory-clause-served g c =
     let new = view c.mount.new.disk in
     let sink = c.args.sink.now in
     let phases = c.args.script.now in
-    subst (λ (h : List Entry). Served (workers_status (beyond 2 phases)) c.args.share phases ⊥ (HasRisen (g.K.Sink.faults sink) (g.K.Sink.faults sink)) (g.K.Sink.written sink) (g.K.Sink.written sink) old new NoMemory h) (sym c.new-in-Err-NoMemory.ensures)
-    (served_none (workers_status (beyond 2 phases)) c.args.share phases ⊥ _ (g.K.Sink.written sink) (g.K.Sink.written sink) old new NoMemory (workers_command (beyond 2 phases)) (none_so_far phases) refl refl)
+    subst (λ (h : List Entry). Served (workers_status (worker_without_core 2 phases)) c.args.share phases ⊥ (HasRisen (g.K.Sink.faults sink) (g.K.Sink.faults sink)) (g.K.Sink.written sink) (g.K.Sink.written sink) old new NoMemory h) (sym c.new-in-Err-NoMemory.ensures)
+    (served_none (workers_status (worker_without_core 2 phases)) c.args.share phases ⊥ _ (g.K.Sink.written sink) (g.K.Sink.written sink) old new NoMemory (workers_command (worker_without_core 2 phases)) (none_so_far phases) refl refl)
 
 pub returns-clause-served : goal.returns-clause-served
 returns-clause-served g c =
@@ -50,7 +50,7 @@ returns-clause-served g c =
     let new = view c.serve-served.new.disk in
     let share = c.args.share in
     let phases = c.args.script.now in
-    let none : beyond 2 phases ≡ None = ap (beyond 2) (sym c.phases.ensures) ∙ sym c.first_beyond.ensures ∙ c.in_default.is in
+    let none : worker_without_core 2 phases ≡ None = ap (worker_without_core 2) (sym c.phases.ensures) ∙ sym c.first_worker_without_core.ensures ∙ c.in_default.is in
     let was = c.args.sink.now in
     let is = c.match-served.sink in
     let status = c.match-served.status in
@@ -111,11 +111,11 @@ returns-in-Some-clause-served g c =
     let new = view c.mount.new.disk in
     let sink = c.args.sink.now in
     let phases = c.args.script.now in
-    let found : beyond 2 phases ≡ Some c.in-Some.asked = ap (beyond 2) (sym c.phases.ensures) ∙ sym c.first_beyond.ensures ∙ c.in-Some.is in
-    let due : workers_status (beyond 2 phases) ≡ TooManyWorkers c.from.result c.from-in-Some.result =
+    let found : worker_without_core 2 phases ≡ Some c.in-Some.asked = ap (worker_without_core 2) (sym c.phases.ensures) ∙ sym c.first_worker_without_core.ensures ∙ c.in-Some.is in
+    let due : workers_status (worker_without_core 2 phases) ≡ TooManyWorkers c.from.result c.from-in-Some.result =
     ap workers_status found ∙ ap (λ n. TooManyWorkers n 2) (sym c.from.ensures) ∙ ap (TooManyWorkers c.from.result) (sym c.from-in-Some.ensures) in
-    subst (λ (h : List Entry). Served (workers_status (beyond 2 phases)) c.args.share phases ⊥ (HasRisen (g.K.Sink.faults sink) (g.K.Sink.faults sink)) (g.K.Sink.written sink) (g.K.Sink.written sink) old new (TooManyWorkers c.from.result c.from-in-Some.result) h) (sym c.new-in-Some.ensures)
-    (served_none (workers_status (beyond 2 phases)) c.args.share phases ⊥ _ (g.K.Sink.written sink) (g.K.Sink.written sink) old new (TooManyWorkers c.from.result c.from-in-Some.result) due refl refl refl)
+    subst (λ (h : List Entry). Served (workers_status (worker_without_core 2 phases)) c.args.share phases ⊥ (HasRisen (g.K.Sink.faults sink) (g.K.Sink.faults sink)) (g.K.Sink.written sink) (g.K.Sink.written sink) old new (TooManyWorkers c.from.result c.from-in-Some.result) h) (sym c.new-in-Some.ensures)
+    (served_none (workers_status (worker_without_core 2 phases)) c.args.share phases ⊥ _ (g.K.Sink.written sink) (g.K.Sink.written sink) old new (TooManyWorkers c.from.result c.from-in-Some.result) due refl refl refl)
 
 pub returns-in-Some-clause-survives : goal.returns-in-Some-clause-survives
 returns-in-Some-clause-survives g c =
@@ -125,5 +125,5 @@ returns-in-Some-clause-survives g c =
 
 pub serve-served-requires-clause-within : goal.serve-served-requires-clause-within
 serve-served-requires-clause-within g c κs within =
-    let none : beyond 2 c.args.script.now ≡ None = ap (beyond 2) (sym c.phases.ensures) ∙ sym c.first_beyond.ensures ∙ c.in_default.is in
+    let none : worker_without_core 2 c.args.script.now ≡ None = ap (worker_without_core 2) (sym c.phases.ensures) ∙ sym c.first_worker_without_core.ensures ∙ c.in_default.is in
     subst (λ (p : List (List Line)). All (HaveCores 2) p) (sym c.phases-2.ensures) (all_within 2 c.args.script.now none)

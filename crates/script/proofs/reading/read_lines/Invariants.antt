@@ -6,7 +6,7 @@ use Rattle.script.proofs.reading.read_lines.Given as goal
 
 abbrev pub invariant-loop-rest : goal.invariant-loop-rest
 invariant-loop-rest l = record {
-  read : phases_of l.text ≡ behind l.draft (phases_from (l.number + 1) (lines l.rest));
+  read : phases_of l.text ≡ behind l.so_far (phases_from (l.number + 1) (lines l.rest));
   few : l.number + length l.rest ≤ length l.text;
 }
 

@@ -5,13 +5,13 @@ use Rattle.std.specs.List.{find, AllByRecursion}
 use Rattle.script.specs.declared.commands.Line.{Line}
 
 -- the worker of the first line of a phase that has no core, where there are so many
-abbrev pub beyond_in : ℕ → List Line → Option ℕ
-beyond_in cores phase = option_map (λ line. line.worker) (find (λ line. nat_le cores line.worker) phase)
+abbrev pub worker_without_core_in : ℕ → List Line → Option ℕ
+worker_without_core_in cores phase = option_map (λ line. line.worker) (find (λ line. nat_le cores line.worker) phase)
 
 -- the worker of the first line of a script that has no core
-abbrev pub beyond : ℕ → List (List Line) → Option ℕ
-beyond cores [] = None
-beyond cores (phase ∷ phases) = option_or (beyond_in cores phase) (beyond cores phases)
+abbrev pub worker_without_core : ℕ → List (List Line) → Option ℕ
+worker_without_core cores [] = None
+worker_without_core cores (phase ∷ phases) = option_or (worker_without_core_in cores phase) (worker_without_core cores phases)
 
 -- each line's worker has a core
 abbrev pub HaveCores : ℕ → List Line → Type 0
