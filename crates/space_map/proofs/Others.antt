@@ -1,11 +1,12 @@
 -- A grant that ends, or that is given back, leaves other grants.
-use Rattle.std.proofs.Common.{◌≡◌, ℕ, Bool, true, false, cond, ◌||◌, nat_eq, subst, List, [], ◌∷◌, Option, Some, option_map, refl, sym, ap, ◌∙◌}
+use Rattle.std.proofs.Common.{slice_index_or, ◌≡◌, ℕ, Bool, true, false, cond, ◌||◌, nat_eq, subst, List, [], ◌∷◌, Option, Some, option_map, refl, sym, ap, ◌∙◌}
 use Rattle.std.specs.List.{AllByRecursion}
 use Rattle.std.proofs.lemmas.List.Elements.{recursion_from_All}
 use Rattle.std.proofs.lemmas.Bool.{eqb-true}
 use Rattle.space_map.specs.declared.status.Status.{Status}
 use Rattle.space_map.specs.declared.status.Status.TheVariants.{Free, Taken, Granted}
-use Rattle.space_map.specs.Pool.{Pool, status_of, is_listed, released, Grants}
+use Rattle.space_map.specs.Pool.{Pool, status_of, is_listed, released, BecomeAll, Grants}
+use Rattle.space_map.specs.Space.{AllGranted}
 use Rattle.space_map.specs.Laws.{EndsLeaveOthers, ReturnsLeaveOthers, GrantsAreApart}
 
 -- what was granted is not released
@@ -32,7 +33,7 @@ listed_passes P (first ∷ rest) number all listed =
       | false ↦ λ t e. listed_passes P rest number all.1 e
     ] refl listed
 
-free_now : (pool : Pool) (count : ℕ) (numbers : List ℕ) (new : Pool) (number : ℕ) → Grants pool count numbers new → is_listed numbers number ≡ true → status_of pool number ≡ Some Free
+pub free_now : (pool : Pool) (count : ℕ) (numbers : List ℕ) (new : Pool) (number : ℕ) → Grants pool count numbers new → is_listed numbers number ≡ true → status_of pool number ≡ Some Free
 free_now pool count numbers new number grants listed = listed_passes (λ n. status_of pool n ≡ Some Free) numbers number (recursion_from_All (λ n. status_of pool n ≡ Some Free) numbers grants.free) listed
 
 pub grants_are_apart : GrantsAreApart
@@ -47,3 +48,15 @@ grants_are_apart old mid new count other_count numbers others number first secon
           absurd (let never : Some Granted ≡ Some Free = sym granted ∙ free in cc)
       | false ↦ λ t. refl
     ] refl
+
+-- What was granted before a grant stays granted when that one is made and given back.
+pub others_stay_granted : (old mid new : Pool) (count : ℕ) (numbers kept : List ℕ) → Grants old count numbers mid → BecomeAll Free numbers mid new → AllGranted old kept → AllGranted new kept
+others_stay_granted old mid new count numbers kept grants gives all = λ k d within.
+    let n : ℕ = slice_index_or kept k d in
+    let apart : is_listed numbers n ≡ false = elim (is_listed numbers n) as (λ b. is_listed numbers n ≡ b → b ≡ false) [
+      | true ↦ λ listed. absurd (let never : Some Granted ≡ Some Free = sym (all k d within) ∙ free_now old count numbers mid n grants listed in cc)
+      | false ↦ λ _. refl
+    ] refl in
+    let still : status_of mid n ≡ Some Granted =
+    grants.granted n ∙ ap (λ b. cond b (option_map (λ _. Granted) (status_of old n)) (status_of old n)) apart ∙ all k d within in
+    returns_leave_others numbers mid new n gives apart still

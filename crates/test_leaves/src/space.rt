@@ -95,17 +95,34 @@ fn a_grant_ends_and_what_was_given_up_is_free(rt: HostRuntime) -> Result<(), Fai
     Ok(())
 }
 
+// Another grant of one inode and one block, of which these are due, beside a grant that is kept. It is
+// given back, and the kept one stays granted.
+fn grant_beside(rt: &impl Abort, map: &mut SpaceMap, kept: &Grant, inodes: &[u32], blocks: &[u32])
+    ensures inodes { AllGranted map.old.inodes kept.now.inodes → AllGranted map.new.inodes kept.now.inodes }
+    ensures blocks { AllGranted map.old.blocks kept.now.blocks → AllGranted map.new.blocks kept.now.blocks }
+{
+    match map.reserve(Need {
+        inodes: 1,
+        blocks: 1,
+    }) {
+        Ok(grant) => {
+            assert_granted(rt, &grant, inodes, blocks);
+            map.give_back(grant);
+        }
+        Err(_) => panic!(rt; "refused"),
+    }
+}
+
 #[test]
 fn two_grants_are_apart_and_end_apart(rt: HostRuntime) -> Result<(), Fail> {
     let mut map = map(rt.alloc())?;
     let kept = reserve(&rt, &mut map, 1, 1);
-    let ended = reserve(&rt, &mut map, 1, 1);
     assert_granted(&rt, &kept, &[1], &[4]);
-    assert_granted(&rt, &ended, &[2], &[6]);
-    map.give_back(ended);
-    let after = reserve(&rt, &mut map, 2, 2);
-    assert_granted(&rt, &after, &[2, 3], &[6, 8]);
-    map.give_back(after);
+    grant_beside(&rt, &mut map, &kept, &[2], &[6]);
+    grant_beside(&rt, &mut map, &kept, &[2], &[6]);
     map.give_back(kept);
+    let again = reserve(&rt, &mut map, 1, 1);
+    assert_granted(&rt, &again, &[1], &[4]);
+    map.give_back(again);
     Ok(())
 }
