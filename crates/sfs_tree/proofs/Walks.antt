@@ -1,5 +1,5 @@
 -- The walk up from a directory meets the directories above it.
-use Rattle.std.proofs.Common.{◌≡◌, ◌≢◌, ℕ, zero, suc, ◌<◌, ◌≤◌, true, false, cond, ◌||◌, List, [], ◌∷◌, length, Option, Some, None, option_map, inl, inr, refl, sym, ap, ap₂, subst, ◌∙◌, arith, nat_eq}
+use Rattle.std.proofs.Common.{◌≡◌, ◌≢◌, ℕ, zero, suc, ◌<◌, ◌≤◌, Bool, true, false, cond, ◌||◌, List, [], ◌∷◌, length, Option, Some, None, option_map, inl, inr, refl, sym, ap, ap₂, subst, ◌∙◌, arith, nat_eq}
 use borrow.Author.Tests.{eqb-true, eqb-false}
 use Rattle.std.specs.List as lists
 use Rattle.std.specs.FinMap.{entries, len, len-entries}
@@ -93,6 +93,18 @@ chain_within es x (h ∷ l) chain =
     one_more : {a b n : ℕ} → n ≡ suc b → a ≤ b → suc a ≤ n
     one_more e le = omega arith
 
+-- and it is shorter than they are many where a further number is named that the chain lacks
+chain_below : (es : List (Key × ℕ)) (x : ℕ) (l : List ℕ) (c g : ℕ) → holder_in es c ≡ Some g → Lacks (x ∷ l) c → Chain (holder_in es) x l → length l < length es
+chain_below [] x [] c g named lacks chain = cc
+chain_below (e ∷ es) x [] c g named lacks chain = omega arith
+chain_below es x (h ∷ l) c g named lacks chain =
+    one_more (one_fewer x h es chain.0)
+    (chain_below (without x es) h l c g (ap (option_map (λ (row : Key × ℕ). row.0.0)) (others_found x c es (λ same. lacks.0 (sym same))) ∙ named) lacks.1
+    (chain_without x es h l chain.1 (no_loop (holder_in es) x (suc (length l)) (λ k other. same_length (holder_in es) x (h ∷ l) k chain other) h l chain.1 (less_next (length l)))))
+  where
+    one_more : {a b n : ℕ} → n ≡ suc b → a < b → suc a < n
+    one_more e lt = omega arith
+
 -- a walk of as many steps meets the chain
 walk_meets : (tree : TreeState) (steps x : ℕ) (l : List ℕ) → Chain (holder_of tree) x l → length l ≤ steps → walk_up steps tree x ≡ l
 walk_meets tree zero x [] chain le = refl
@@ -133,6 +145,39 @@ module _ (tree : TreeState) (s : IsSound tree) where
       lacks : (l : List ℕ) → lists.list_any (λ a. nat_eq a directory) l ≡ false → Lacks l directory
       lacks [] e = tt
       lacks (a ∷ l) e = (eqb-false _ _ (or_first _ _ e), lacks l (or_second _ _ e))
+
+  -- those above are directories, so a node that is none is not among them
+  lacks_other : {node : ℕ} {above : List ℕ} (other : ℕ) → Above tree node above → is_directory tree node ≡ true → is_directory tree other ≡ false → Lacks (node ∷ above) other
+  lacks_other other at_root kind none = (λ same. differ (subst (λ x. is_directory tree x ≡ true) same kind) none, tt)
+    where
+      differ : {b : Bool} → b ≡ true → b ≡ false → ⊥
+      differ is not_so = cc
+  lacks_other other (below node holder name above row rest) kind none =
+      (λ same. differ (subst (λ x. is_directory tree x ≡ true) same kind) none, lacks_other other rest (s.holds holder name node row).0 none)
+    where
+      differ : {b : Bool} → b ≡ true → b ≡ false → ⊥
+      differ is not_so = cc
+
+  -- above a directory that has a row there are fewer than there are rows
+  pub fewer_above : {node : ℕ} {above : List ℕ} (name : List ℕ) (child : ℕ) → Above tree node above → is_directory tree node ≡ true → row_of tree node name ≡ Some child
+      → length above < len tree.rows
+  fewer_above {node} {above} name child way kind row =
+      elim (is_directory tree child) as (λ b. is_directory tree child ≡ b → length above < len tree.rows) [
+        | true ↦ λ directory. counted (chain_within (entries tree.rows) child (node ∷ above) (above_chain (below child node name above row way) directory))
+        | false ↦ λ file. shorter (named child row) (lacks_other child way kind file)
+      ] refl
+    where
+      counted : suc (length above) ≤ length (entries tree.rows) → length above < len tree.rows
+      counted le = subst (λ n. length above < n) (sym (len-entries tree.rows)) le
+
+      named : (x : ℕ) → row_of tree node name ≡ Some x → (g : ℕ) × (holder_of tree x ≡ Some g)
+      named x is = elim (holder_found tree x) [
+        | inl f ↦ (f.0, f.1)
+        | inr none ↦ absurd (none.1 (record { directory = node; name = name; row = is }))
+      ]
+
+      shorter : (g : ℕ) × (holder_of tree child ≡ Some g) → Lacks (node ∷ above) child → length above < len tree.rows
+      shorter g lacks = subst (λ n. length above < n) (sym (len-entries tree.rows)) (chain_below (entries tree.rows) node above child g.0 g.1 lacks (above_chain way kind))
 
   list_lacks : (l : List ℕ) (directory : ℕ) → Lacks l directory → lists.list_any (λ a. nat_eq a directory) l ≡ false
   list_lacks [] directory lacks = refl
