@@ -6,7 +6,7 @@ use Rattle.sfs_tree.proofs.Joined.{key_cmp_total, key_cmp-IsAntisymmetric, count
 use Rattle.sfs_tree.proofs.Counting.{count-remove, count_none, stayed, get_other-remove}
 use Rattle.sfs_base.proofs.BasicTruth.{not_both}
 use Rattle.sfs_base.proofs.BasicOptions.{none_some}
-use Rattle.image_tree.proofs.Basics.{found_cases, found_first, found_behind, found_apart}
+use Rattle.sfs_tree.proofs.Found.{found_cases, found_first, found_behind, found_apart}
 use Rattle.sfs_base.proofs.BasicNumbers.{zero_plus}
 
 -- Entries that pass a test stand one to one with the rows of a map that pass another: each has its row, each row is an entry's, and no

@@ -16,7 +16,7 @@ use Rattle.sfs_tree.proofs.Names.{get-names_where}
 use Rattle.image_tree.specs.Renamed.{Numbering, IsMet, root, named, IsRenamed}
 use Rattle.image_tree.specs.Stands.{inode_under}
 use Rattle.image_tree.specs.Laws.{RenamedTreesHaveOneShape}
-use Rattle.image_tree.proofs.Basics.{each_entry}
+use Rattle.sfs_tree.proofs.Found.{each_entry}
 use Rattle.image_tree.proofs.Renaming.{under_is, met_number, number_same, len_renamed, directory_renamed, kind_renamed, links_renamed, bytes_renamed, sound_renamed}
 
 -- entries with their values changed

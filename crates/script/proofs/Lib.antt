@@ -10,4 +10,5 @@ pub mod PathLemmas
 pub mod PhaseLemmas
 pub mod ReadyLemmas
 pub mod TextLemmas
+pub mod TreeWalkLemmas
 pub mod WalkLemmas

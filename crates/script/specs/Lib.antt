@@ -9,6 +9,8 @@ pub mod Phases
 pub mod Places
 pub mod Ready
 pub mod Texts
+pub mod TreeTexts
+pub mod TreeWalk
 pub mod Walks
 pub mod Words
 pub mod Workers

@@ -15,3 +15,4 @@ pub use reading::literals::number_up_to;
 pub use reading::{LONGEST_SCRIPT, MOST_LINES, read};
 pub use working::worker::Worker;
 pub use writing::text;
+pub use writing::tree::tree_text;

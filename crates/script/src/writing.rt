@@ -1,6 +1,7 @@
 // A history as text.
 mod arguments;
 mod fixed_words;
+pub mod tree;
 
 ghost use Rattle.std.specs.Prelude.{◌≡◌, ◌++◌, IfOk, OnOk, string_bytes};
 ghost use Rattle.script.specs.Texts.{call_text, reply_text, entry_text, history_text};

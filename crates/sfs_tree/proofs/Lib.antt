@@ -7,6 +7,7 @@ pub mod Counting
 pub mod FileBytes
 pub mod FileHistories
 pub mod Fitting
+pub mod Found
 pub mod Founded
 pub mod Histories
 pub mod Holders
