@@ -1,0 +1,2 @@
+pub mod JustMade
+pub mod Undisturbed

@@ -1,0 +1,23 @@
+/// Why a disk was not made.
+#[derive(Clone, Copy, Debug, PartialEq, Eq)]
+pub enum MkfsFault {
+    /// A device call failed.
+    DiskFailed,
+    NoMemory,
+}
+
+/// Why a disk was not recovered.
+#[derive(Clone, Copy, Debug, PartialEq, Eq)]
+pub enum RecoverFault {
+    /// A device call failed.
+    DiskFailed,
+    /// The superblock is wrong: `at` is the byte of the first wrong field, or of the first byte behind
+    /// the fields that is not zero.
+    BadSuper { at: u32 },
+    /// An open journal slot is wrong: the first by core, then slot, then byte, `at` being counted from
+    /// the slot's begin.
+    BadJournal { core: u8, slot: u8, at: u32 },
+    /// The least rule that an inode breaks, and the least inode that breaks it.
+    BadImage { inode: u32, rule: u8 },
+    NoMemory,
+}

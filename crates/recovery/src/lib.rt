@@ -1,0 +1,9 @@
+//! Making a disk, and recovering it: what an image settles, and how its slots are closed.
+#![tactic(auto)]
+
+mod fault;
+mod making;
+mod places;
+
+pub use fault::{MkfsFault, RecoverFault};
+pub use making::mkfs;
