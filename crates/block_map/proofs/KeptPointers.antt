@@ -5,13 +5,13 @@ use Rattle.std.specs.List.{find, range_with_len, cons_option}
 use Rattle.std.specs.Option.{option_map_or}
 use Rattle.std.proofs.lemmas.Bool.{cases_Bool, cases_lt, cond-true, cond-false, le-ltb, lt-ltb, eqb-true, eq-eqb, ne_eqb}
 use Rattle.sfs_base.proofs.BasicOptions.{none_some, some_same}
-use Rattle.sfs_image.specs.Inode.{Table, table_of, entry_of, pointers_of}
+use Rattle.sfs_image.specs.Inode.{Inode, Table, table_of, entry_of, pointers_of}
 use Rattle.sfs_image.specs.Part.{Part, inode_in, part_of, pointer_at, block_pointer, IsGathered}
 use Rattle.sfs_image.specs.Seen.{FILE_BLOCKS, PLACES}
 use Rattle.sfs_image.specs.Bytes.{zeros}
 use Rattle.sfs_image.proofs.PartLaws.{table_is_read, hole_is_read, pointer_of_table}
 use Rattle.sfs_image.proofs.InodeLaws.{pointers_of-zeros}
-use Rattle.block_map.specs.Kept.{kept_table, kept_tables, kept_of, block_kept, pointer_kept}
+use Rattle.block_map.specs.Kept.{table_kept, tables_kept, kept_tables, kept_of, block_kept, pointer_kept}
 
 -- what a function gives of a number is at that place
 abbrev pub PutsAtPlace : (ℕ → Option Table) → Type 0
@@ -56,58 +56,69 @@ found_at f puts k a (suc n) low high =
           first_found f puts k a rest same (found_none f puts k (a + 1) n (omega arith)) ∙ ap f same)
     ]
 
--- an indirect block that is kept has its place
-kept_at_place : (part : Part) → PutsAtPlace (kept_table part)
-kept_at_place part k table is =
-    elim (cases_Bool (eqb (slice_index (inode_in part).indirect k) 0)) [
-      | inl hole ↦ (let none = cond-true (eqb (slice_index (inode_in part).indirect k) 0) _ _ hole in absurd (none_some (sym none ∙ is)))
-      | inr there ↦ (let some = cond-false (eqb (slice_index (inode_in part).indirect k) 0) _ _ there in sym (ap (λ (t : Table). t.place) (some_same (sym some ∙ is))))
-    ]
+-- each indirect block without a pointer reads as zeros
+abbrev pub HaveHoles : Inode → List (List ℕ) → Type 0
+HaveHoles inode blocks = (k : ℕ) → k < 16 → slice_index inode.indirect k ≡ 0 → slice_index_or blocks k [] ≡ zeros 4096
 
 -- the pointer at an entry of an indirect block, or of none
 abbrev pub entry_kept : ℕ → Option Table → ℕ
 entry_kept entry found = option_map_or (λ table. slice_index table.pointers entry) found 0
 
--- an indirect block without a pointer reads as zeros
-hole_reads : (store : ℕ → List ℕ) (part : Part) → IsGathered store part → (k : ℕ) → k < 16 → slice_index (inode_in part).indirect k ≡ 0 →
-    slice_index_or part.tables k [] ≡ zeros 4096
-hole_reads store part is k small hole =
-    let P : Part → Type 0 = λ p. slice_index_or p.tables k [] ≡ zeros 4096 in
-    subst P is (table_is_read store part.raw k small ∙ hole_is_read store (pointer_at (part_of store part.raw) (FILE_BLOCKS + k)) (pointer_of_table (part_of store part.raw) k ∙ raw_same))
-  where
-    raw_same : slice_index (inode_in (part_of store part.raw)).indirect k ≡ 0
-    raw_same = ap (λ (p : Part). slice_index (inode_in p).indirect k) is ∙ hole
+module _ (inode : Inode) (blocks : List (List ℕ)) where
+  -- an indirect block that is kept has its place
+  kept_at_place : PutsAtPlace (table_kept inode blocks)
+  kept_at_place k table is =
+      elim (cases_Bool (eqb (slice_index inode.indirect k) 0)) [
+        | inl hole ↦ (let none = cond-true (eqb (slice_index inode.indirect k) 0) _ _ hole in absurd (none_some (sym none ∙ is)))
+        | inr there ↦ (let some = cond-false (eqb (slice_index inode.indirect k) 0) _ _ there in sym (ap (λ (t : Table). t.place) (some_same (sym some ∙ is))))
+      ]
 
--- the pointer that an entry of what is kept of an indirect block has is that in the block
-entry_is : (store : ℕ → List ℕ) (part : Part) → IsGathered store part → (k entry : ℕ) → k < 16 →
-    entry_kept entry (kept_table part k) ≡ slice_index (pointers_of (slice_index_or part.tables k [])) entry
-entry_is store part is k entry small =
-    let pointer = slice_index (inode_in part).indirect k in
-    elim (cases_Bool (eqb pointer 0)) [
-      | inl hole ↦ ap (entry_kept entry) (cond-true (eqb pointer 0) _ _ hole)
-          ∙ sym (ap (λ (block : List ℕ). slice_index (pointers_of block) entry) (hole_reads store part is k small (eqb-true pointer 0 hole)) ∙ pointers_of-zeros entry)
-      | inr there ↦ ap (entry_kept entry) (cond-false (eqb pointer 0) _ _ there)
-    ]
+  -- what is kept of the indirect block of a place is found there
+  pub table_found : (k : ℕ) → k < 16 → find (is_at k) (tables_kept inode blocks) ≡ table_kept inode blocks k
+  unfolding tables_kept
+  table_found k small = found_at (table_kept inode blocks) kept_at_place k 0 16 (omega arith) (omega arith)
 
-pub kept_block : (store : ℕ → List ℕ) (part : Part) → IsGathered store part → (n : ℕ) → n < FILE_BLOCKS →
-    block_kept (inode_in part) (kept_tables part) n ≡ block_pointer (inode_in part) part.tables n
-unfolding kept_tables
-kept_block store part is n within =
-    elim (cases_lt n 108) [
-      | inl near ↦ cond-true (ltb n 108) _ _ (lt-ltb n 108 near) ∙ sym (cond-true (ltb n 108) _ _ (lt-ltb n 108 near))
-      | inr far ↦ (let small : table_of n < 16 = omega arith in
-          cond-false (ltb n 108) _ _ (le-ltb n 108 far)
-          ∙ ap (entry_kept (entry_of n)) (found_at (kept_table part) (kept_at_place part) (table_of n) 0 16 (omega arith) (omega arith))
-          ∙ entry_is store part is (table_of n) (entry_of n) small
-          ∙ sym (cond-false (ltb n 108) _ _ (le-ltb n 108 far)))
-    ]
+  module _ (holes : HaveHoles inode blocks) where
+    -- the pointer that an entry of what is kept of an indirect block has is that in the block
+    entry_is : (k entry : ℕ) → k < 16 → entry_kept entry (table_kept inode blocks k) ≡ slice_index (pointers_of (slice_index_or blocks k [])) entry
+    entry_is k entry small =
+        let pointer = slice_index inode.indirect k in
+        elim (cases_Bool (eqb pointer 0)) [
+          | inl hole ↦ ap (entry_kept entry) (cond-true (eqb pointer 0) _ _ hole)
+              ∙ sym (ap (λ (block : List ℕ). slice_index (pointers_of block) entry) (holes k small (eqb-true pointer 0 hole)) ∙ pointers_of-zeros entry)
+          | inr there ↦ ap (entry_kept entry) (cond-false (eqb pointer 0) _ _ there)
+        ]
 
-pub kept_pointer : (store : ℕ → List ℕ) (part : Part) → IsGathered store part → (place : ℕ) → place < PLACES →
-    pointer_kept (kept_of part).inode (kept_of part).tables place ≡ pointer_at part place
-kept_pointer store part is place within =
+    -- the pointer of a file's block, by what is kept, is that in the blocks
+    pub kept_block : (n : ℕ) → n < FILE_BLOCKS → block_kept inode (tables_kept inode blocks) n ≡ block_pointer inode blocks n
+    kept_block n within =
+        elim (cases_lt n 108) [
+          | inl near ↦ cond-true (ltb n 108) _ _ (lt-ltb n 108 near) ∙ sym (cond-true (ltb n 108) _ _ (lt-ltb n 108 near))
+          | inr far ↦ (let small : table_of n < 16 = omega arith in
+              cond-false (ltb n 108) _ _ (le-ltb n 108 far)
+              ∙ ap (entry_kept (entry_of n)) (table_found (table_of n) small)
+              ∙ entry_is (table_of n) (entry_of n) small
+              ∙ sym (cond-false (ltb n 108) _ _ (le-ltb n 108 far)))
+        ]
+
+-- the pointer at each place of a part whose holes read as zeros, by what is kept, is the part's
+pub kept_place : (part : Part) → HaveHoles (inode_in part) part.tables → (place : ℕ) →
+    pointer_kept (inode_in part) (kept_tables part) place ≡ pointer_at part place
+kept_place part holes place =
     elim (cases_lt place FILE_BLOCKS) [
-      | inl block ↦ cond-true (ltb place FILE_BLOCKS) _ _ (lt-ltb place FILE_BLOCKS block) ∙ kept_block store part is place block
+      | inl block ↦ cond-true (ltb place FILE_BLOCKS) _ _ (lt-ltb place FILE_BLOCKS block) ∙ kept_block (inode_in part) part.tables holes place block
           ∙ sym (cond-true (ltb place FILE_BLOCKS) _ _ (lt-ltb place FILE_BLOCKS block))
       | inr table ↦ cond-false (ltb place FILE_BLOCKS) _ _ (le-ltb place FILE_BLOCKS table)
           ∙ sym (cond-false (ltb place FILE_BLOCKS) _ _ (le-ltb place FILE_BLOCKS table))
     ]
+
+-- the holes of a gathered part read as zeros
+gathered_holes : (store : ℕ → List ℕ) (part : Part) → IsGathered store part → HaveHoles (inode_in part) part.tables
+gathered_holes store part is =
+    let here : HaveHoles (inode_in (part_of store part.raw)) (part_of store part.raw).tables =
+    λ k small hole. table_is_read store part.raw k small ∙ hole_is_read store (pointer_at (part_of store part.raw) (FILE_BLOCKS + k)) (pointer_of_table (part_of store part.raw) k ∙ hole) in
+    subst (λ (p : Part). HaveHoles (inode_in p) p.tables) is here
+
+pub kept_pointer : (store : ℕ → List ℕ) (part : Part) → IsGathered store part → (place : ℕ) → place < PLACES →
+    pointer_kept (kept_of part).inode (kept_of part).tables place ≡ pointer_at part place
+kept_pointer store part is place within = kept_place part (gathered_holes store part is) place

@@ -15,14 +15,18 @@ pub record Kept : Type 0 where
   pub tables : List Table
   pub slots : List (List (Option Row))
 
--- the indirect block of a place in a part, where there is a pointer to it
-abbrev pub kept_table : Part → ℕ → Option Table
-kept_table part k =
-    if slice_index (inode_in part).indirect k == 0 then None else Some (record { place = k; pointers = pointers_of (slice_index_or part.tables k []) })
+-- what is kept of the indirect block of a place, where the record's inode has a pointer to it; the blocks are those of the 16 places
+abbrev pub table_kept : Inode → List (List ℕ) → ℕ → Option Table
+table_kept inode blocks k =
+    if slice_index inode.indirect k == 0 then None else Some (record { place = k; pointers = pointers_of (slice_index_or blocks k []) })
+
+-- what is kept of the indirect blocks, by their places
+unfoldable pub tables_kept : Inode → List (List ℕ) → List Table
+tables_kept inode blocks = filter_map (table_kept inode blocks) (range_with_len 0 16)
 
 -- the indirect blocks of a part that have a pointer, by their places
-unfoldable pub kept_tables : Part → List Table
-kept_tables part = filter_map (kept_table part) (range_with_len 0 16)
+abbrev pub kept_tables : Part → List Table
+kept_tables part = tables_kept (inode_in part) part.tables
 
 -- the slots of a part's directory, block by block; of a file none
 abbrev pub kept_slots : Part → List (List (Option Row))
