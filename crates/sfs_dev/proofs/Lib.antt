@@ -1,3 +1,5 @@
+mod Draws
+mod Drawing
 pub mod Held
 pub mod Runs
 pub mod Torn

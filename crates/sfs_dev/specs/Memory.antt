@@ -1,6 +1,6 @@
 -- A disk in memory as contracts see it.
-use Rattle.std.specs.Prelude.{◌≡◌, ℕ, ◌+◌, ◌-◌, ◌*◌, ◌≤◌, min, List, [], ◌∷◌, ◌++◌, length, reverse, Some, vec_len, vec_capacity, Result, OnOk, OnErr, IsOk, ◌<◌}
-use Rattle.sfs_dev.specs.Disk.{View, SameImages, images}
+use Rattle.std.specs.Prelude.{◌≡◌, ℕ, ◌+◌, ◌-◌, ◌*◌, ◌≤◌, min, List, [], ◌∷◌, ◌++◌, length, reverse, Some, vec_len, vec_capacity, Result, Err, OnOk, OnErr, IsOk, ◌<◌, ◌^◌}
+use Rattle.sfs_dev.specs.Disk.{View, SameImages, IsDeviceCall, images}
 use Rattle.sfs_dev.specs.Log.{left_at}
 use Rattle.sfs_dev.specs.declared.call.Act.{Act}
 use Rattle.sfs_dev.specs.declared.call.Call.{Call}
@@ -67,6 +67,12 @@ pub record Skips (old new : Memory) : Type 0 where
   pub left : SameImages (images (memory_view old)) (images (memory_view new))
   pub calls : calls_of new ≡ calls_of old
   pub written : written_of new ≡ written_of old
+
+-- A device call failed and did nothing else: it stands in no list, and is counted once as a call and once as a fault.
+pub record FailsAlone (old new : Memory) : Type 0 where
+  pub call : IsDeviceCall {V = Unit {0}} {E = Unit {0}} (memory_view old) (memory_view new) (Err tt)
+  pub skips : Skips old new
+  pub fault : (memory_view new).faults ≡ min ((memory_view old).faults + 1) (2 ^ 64 - 1)
 
 -- The room in the list is lowered by one call at most, and by so many bytes at most.
 pub record Spends (bytes : ℕ) (old new : Memory) : Type 0 where

@@ -3,6 +3,7 @@
 
 mod call;
 mod disk;
+mod left;
 mod memory;
 mod steps;
 

@@ -3,6 +3,7 @@ ghost use Rattle.std.specs.Prelude.{length, ◌+◌, ◌-◌, ◌^◌, ◌<◌, 
 ghost use Rattle.sfs_dev.specs.Log.{newest_moment, acts_of, fits};
 ghost use Rattle.sfs_dev.specs.Ranges.{put};
 
+use crate::left::{draw, pending, undo};
 use crate::{Act, Call, Disk};
 use sfs_base::{Failed, NoMemory};
 use std::alloc::Global;
@@ -28,12 +29,14 @@ pub struct Memory {
     ghost whole: { length bytes.items ≡ 4096 * blocks },
     ghost moments_bounded: { newest_moment (reverse calls.items) ≤ moment },
     ghost logged: { fits (4096 * blocks) (acts_of (reverse calls.items)) (length replaced.items) ≡ true },
+    ghost written_as_replaced: { length written.items ≡ length replaced.items },
     ghost moment_fits: { moment < 2 ^ 64 },
     ghost faults_fit: { faults < 2 ^ 64 },
 }
 
 impl Memory {
-    ghost use Rattle.sfs_dev.specs.Memory.{memory_view, calls_of, written_of, spare_calls, spare_bytes, IsFresh, IsWholeBlocks, SameDisk};
+    ghost use Rattle.sfs_dev.specs.Left.{image_left, IsLeftAfter};
+    ghost use Rattle.sfs_dev.specs.Memory.{memory_view, calls_of, written_of, spare_calls, spare_bytes, IsFresh, IsWholeBlocks, SameDisk, FailsAlone};
 
     /// A disk of so many blocks, at most 262,144, of zeros.
     pub fn new(alloc: Global, blocks: u32) -> Result<Memory, NoMemory>
@@ -87,6 +90,40 @@ impl Memory {
         self.written.reserve(bytes as usize)?;
         self.replaced.reserve(bytes as usize)?;
         Ok(())
+    }
+
+    /// A disk that holds what a crash may leave once the first `calls` calls of the list were made,
+    /// or all of them where there are fewer, with nothing pending. What was written since the last
+    /// sync among them is drawn: for each write, the first one first, x becomes
+    /// (1664525 * x + 1013904223) mod 2^32, from x = `pick` on, and by floor(x / 65536) mod 3 its range
+    /// has 0 its old bytes, 1 its new bytes, 2 the first half of them, rounded down, and then bytes 165.
+    pub fn left(&self, alloc: Global, calls: u64, pick: u32) -> Result<Memory, NoMemory>
+        ensures drawn { IfOk result (λ left. IsFresh left (image_left calls pick self.now)) }
+        ensures left { IsLeftAfter calls self.now (image_left calls pick self.now) }
+    {
+        let made = self.calls.len().min(calls as usize);
+        let (first, _) = self.calls.split_at(made);
+        let settled = made - pending(first);
+        let (_, waiting) = first.split_at(settled);
+        let (_, undone) = self.calls.split_at(settled);
+        let mut bytes = Vec::from_slice(alloc, &self.bytes)?;
+        let (_, written) = self
+            .written
+            .split_at(undo(undone, &self.replaced, &mut bytes));
+        draw(waiting, written, &mut bytes, pick);
+        Ok(Memory::fresh(alloc, self.blocks, bytes))
+    }
+
+    /// A device call that fails, for a disk over this one: it is counted, and so is the fault. What a
+    /// read gives, what a crash may leave at each moment, and the list stay. It takes no memory.
+    pub fn fail(&mut self) -> Failed
+        ensures call { FailsAlone self.old self.new }
+        ensures calls { spare_calls self.new ≡ spare_calls self.old }
+        ensures bytes { spare_bytes self.new ≡ spare_bytes self.old }
+    {
+        raise(&mut self.moment);
+        raise(&mut self.faults);
+        Failed
     }
 
     /// What a read gives.

@@ -26,7 +26,7 @@ number_of_four bytes =
     omega arith
 
 -- in numbers that ascend strictly each is at least its place
-place_below : (xs : List ℕ) (k : ℕ) → IsStrictlyIncreasing xs → k < length xs → k ≤ slice_index xs k
+pub place_below : (xs : List ℕ) (k : ℕ) → IsStrictlyIncreasing xs → k < length xs → k ≤ slice_index xs k
 place_below xs zero ascend h = omega arith
 place_below xs (suc k) ascend h =
     let before = place_below xs k ascend (omega arith) in
@@ -35,7 +35,7 @@ place_below xs (suc k) ascend h =
     omega arith
 
 -- so there are no more of them than of the numbers below what is above each
-few_below : (n bound : ℕ) (at : ℕ → ℕ) → ((k : ℕ) → k < n → k ≤ at k) → ((k : ℕ) → k < n → at k < bound) → n ≤ bound
+pub few_below : (n bound : ℕ) (at : ℕ → ℕ) → ((k : ℕ) → k < n → k ≤ at k) → ((k : ℕ) → k < n → at k < bound) → n ≤ bound
 few_below zero bound at low high = omega arith
 few_below (suc n) bound at low high = let a = low n (omega arith) in let b = high n (omega arith) in omega arith
 

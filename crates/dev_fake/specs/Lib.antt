@@ -1,0 +1,3 @@
+pub mod Calls
+pub mod FailAt
+pub mod Fuse
