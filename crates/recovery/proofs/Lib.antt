@@ -1,2 +1,4 @@
 pub mod JustMade
+pub mod OpenRead
+pub mod ReadRuns
 pub mod Undisturbed

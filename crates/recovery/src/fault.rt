@@ -1,3 +1,9 @@
+ghost use Rattle.std.specs.Prelude.{◌≡◌};
+ghost use Rattle.recovery.specs.declared.fault.RecoverFault.TheVariants.{DiskFailed as Faulty, NoMemory as WantsMemory};
+
+use sfs_base::{Failed, NoMemory};
+use std::alloc::AllocError;
+
 /// Why a disk was not made.
 #[derive(Clone, Copy, Debug, PartialEq, Eq)]
 pub enum MkfsFault {
@@ -20,4 +26,28 @@ pub enum RecoverFault {
     /// The least rule that an inode breaks, and the least inode that breaks it.
     BadImage { inode: u32, rule: u8 },
     NoMemory,
+}
+
+impl From<Failed> for RecoverFault {
+    ghost from_gives = { λ _ fault. fault ≡ Faulty };
+
+    fn from(_: Failed) -> Self {
+        RecoverFault::DiskFailed
+    }
+}
+
+impl From<NoMemory> for RecoverFault {
+    ghost from_gives = { λ _ fault. fault ≡ WantsMemory };
+
+    fn from(_: NoMemory) -> Self {
+        RecoverFault::NoMemory
+    }
+}
+
+impl From<AllocError> for RecoverFault {
+    ghost from_gives = { λ _ fault. fault ≡ WantsMemory };
+
+    fn from(_: AllocError) -> Self {
+        RecoverFault::NoMemory
+    }
 }

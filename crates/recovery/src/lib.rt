@@ -2,6 +2,7 @@
 #![tactic(auto)]
 
 mod fault;
+mod journals;
 mod making;
 mod places;
 
