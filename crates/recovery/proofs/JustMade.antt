@@ -59,9 +59,9 @@ shut_next layout k content within below j less =
 
     cases : (j k : ℕ) → j < suc k → (j < k) ⊎ (j ≡ k)
     cases j k lt = elim (nat_lt j k) as (λ b. nat_lt j k ≡ b → (j < k) ⊎ (j ≡ k)) [
-        | true ↦ λ t. inl (ltb-true j k t)
-        | false ↦ λ f. inr (no_other j k lt (ltb-false j k f))
-      ] refl
+      | true ↦ λ t. inl (ltb-true j k t)
+      | false ↦ λ f. inr (no_other j k lt (ltb-false j k f))
+    ] refl
       where
         no_other : (j k : ℕ) → j < suc k → k ≤ j → j ≡ k
         no_other j k lt le = omega arith
@@ -140,7 +140,7 @@ just_made layout size content root block n are root_is block_is shut = record {
   fits = subst (λ s. IsLayout s layout) (size_is (length new) size (same_size ∙ are.long)) are.fits;
   super = ap (λ k. part 0 k new) (sym are.block_long) ∙ part-put 0 block mid super_within ∙ block_is;
   shut = λ k less.
-    shut_kept layout k 0 block mid super_within (inr (block_before k)) (shut_kept layout k T table content table_within (inl (before_table k less)) (shut k less));
+      shut_kept layout k 0 block mid super_within (inr (block_before k)) (shut_kept layout k T table content table_within (inl (before_table k less)) (shut k less));
   root = kept_record T (place_zero T refl) ∙ front_read T n root mid are.root_long table_there ∙ root_is;
   free = λ i less other. kept_record (table_byte layout i) (behind_all i) ∙ record_zeros layout n mid i mid_lies are.rest_long less other (rest_read T n root mid are.root_long table_there);
 }

@@ -1,4 +1,6 @@
 pub mod JustMade
+pub mod Newests
 pub mod OpenRead
 pub mod ReadRuns
+pub mod SettledRead
 pub mod Undisturbed

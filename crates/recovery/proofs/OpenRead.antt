@@ -22,7 +22,7 @@ use Rattle.sfs_dev.specs.Disk.{Gives}
 use Rattle.recovery.specs.declared.journals.OpenSlot.{OpenSlot}
 use Rattle.recovery.specs.declared.fault.RecoverFault.{RecoverFault}
 use Rattle.recovery.specs.declared.fault.RecoverFault.TheVariants.{DiskFailed, BadSuper, BadJournal, BadImage, NoMemory}
-use Rattle.recovery.specs.Open.{is_open, IsOpenSlot, HasSlot, FindsSlot, IsWrongSlot, IsSlotRefusal, IsBadJournal, IsJournalRefusal, AreOpen}
+use Rattle.recovery.specs.Open.{is_open, IsOpenSlot, IsGoodSlot, IsGoodIfSome, HasSlot, FindsSlot, IsWrongSlot, IsSlotRefusal, IsBadJournal, IsJournalRefusal, AreOpen}
 
 -- the superblock that was read is the image's
 pub super_read : (size : ℕ) (image block : List ℕ) → length image ≡ 4096 * size → block ≡ part 0 4096 image → super_fault size block ≡ super_fault_of image
@@ -94,7 +94,7 @@ body_stamps : (layout : Layout) (image : List ℕ) (ks : List ℕ) → map (λ (
 body_stamps layout image [] = refl
 body_stamps layout image (k ∷ ks) =
     elim (is_open layout image k) as (λ b. map (λ (body : Body). body.stamp) (cond b (body_in layout.inodes (journal_slot layout image k) ∷ []) [] ++ flat_map (λ k. open_body layout.inodes (journal_slot layout image k)) ks)
-        ≡ map (λ k. (head_of (part 0 4096 (journal_slot layout image k))).stamp) (cond b (k ∷ filter (is_open layout image) ks) (filter (is_open layout image) ks))) [
+    ≡ map (λ k. (head_of (part 0 4096 (journal_slot layout image k))).stamp) (cond b (k ∷ filter (is_open layout image) ks) (filter (is_open layout image) ks))) [
       | true ↦ ap (λ (s : List ℕ). (head_of (part 0 4096 (journal_slot layout image k))).stamp ∷ s) (body_stamps layout image ks)
       | false ↦ body_stamps layout image ks
     ]
@@ -128,10 +128,10 @@ next_open layout image stamps k found slot are stamps_is finds = record {
       ∙ sym (filter-append (is_open layout image) (range_with_len 0 k) (k ∷ [])) ∙ ap (filter (is_open layout image)) (sym (range_more 0 k ∙ ap (λ m. range_with_len 0 k ++ m ∷ []) (zero_plus k)));
   each = all_more found slot are.each finds;
   sound = λ j less. elim (cases j k less) [
-      | inl lt ↦ are.sound j lt
-      | inr same ↦ ap (slot_fault_of layout image) same ∙ ap (option_map (λ at. record { core = k / layout.slots; slot = k % layout.slots; at = at }))
-          (ap (λ s. journal_fault layout.inodes s (journal_slot layout image k)) (sym (stamps_is ∙ stamps_are layout image k found are)) ∙ slot_sound layout image stamps k slot finds)
-    ];
+    | inl lt ↦ are.sound j lt
+    | inr same ↦ ap (slot_fault_of layout image) same ∙ ap (option_map (λ at. record { core = k / layout.slots; slot = k % layout.slots; at = at }))
+        (ap (λ s. journal_fault layout.inodes s (journal_slot layout image k)) (sym (stamps_is ∙ stamps_are layout image k found are)) ∙ slot_sound layout image stamps k slot finds)
+  ];
 }
   where
     cases : (j k : ℕ) → j < k + 1 → (j < k) ⊎ (j ≡ k)
@@ -239,3 +239,9 @@ slots_refused layout image stamps k found (BadSuper at) are stamps_is less wrong
 slots_refused layout image stamps k found (BadImage inode rule) are stamps_is less wrong = absurd wrong
 slots_refused layout image stamps k found DiskFailed are stamps_is less wrong = tt
 slots_refused layout image stamps k found NoMemory are stamps_is less wrong = tt
+
+pub all_good : (layout : Layout) (found : List OpenSlot) (slot : Option OpenSlot) → AllByRecursion (IsGoodSlot layout) found → IsGoodIfSome layout slot
+    → AllByRecursion (IsGoodSlot layout) (found ++ option_to_list slot)
+all_good layout [] None all good = tt
+all_good layout [] (Some one) all good = (good, tt)
+all_good layout (first ∷ found) slot all good = (all.0, all_good layout found slot all.1 good)

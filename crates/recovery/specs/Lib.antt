@@ -1,3 +1,4 @@
 pub mod Cause
 pub mod Mkfs
 pub mod Open
+pub mod Settling

@@ -1,9 +1,9 @@
 -- The superblock and the open journal slots of an image as they are read.
-use Rattle.std.specs.Prelude.{◌≡◌, ℕ, ◌/◌, ◌%◌, ◌<◌, Bool, true, false, List, map, Option, None, Some}
+use Rattle.std.specs.Prelude.{◌≡◌, ℕ, ◌/◌, ◌%◌, ◌<◌, ◌≤◌, length, Bool, true, false, List, map, Option, None, Some}
 use Rattle.std.specs.List.{range_with_len, filter, AllByRecursion}
 use Rattle.sfs_image.specs.Bytes.{part}
-use Rattle.sfs_image.specs.Journal.{head_of, numbers_of, journal_fault}
-use Rattle.sfs_image.specs.Settled.{journal_slot, super_fault_of, journal_fault_of, slot_fault_of}
+use Rattle.sfs_image.specs.Journal.{head_of, numbers_of, numbers_fault, journal_fault}
+use Rattle.sfs_image.specs.Settled.{journal_slot, slot_count, super_fault_of, journal_fault_of, slot_fault_of}
 use Rattle.sfs_image.specs.Super.{Layout}
 use Rattle.recovery.specs.declared.journals.OpenSlot.{OpenSlot}
 use Rattle.recovery.specs.declared.fault.RecoverFault.{RecoverFault}
@@ -12,6 +12,18 @@ use Rattle.recovery.specs.declared.fault.RecoverFault.TheVariants.{DiskFailed, B
 -- whether a slot's gate is open in an image
 abbrev pub is_open : Layout → List ℕ → ℕ → Bool
 is_open layout image k = (head_of (part 0 4096 (journal_slot layout image k))).gate
+
+-- What holds of an open slot that was read, whatever the disk tells: it is one of the disk's, and its inode numbers ascend below the
+-- number of inodes.
+pub record IsGoodSlot (layout : Layout) (one : OpenSlot) : Type 0 where
+  pub within : one.number < slot_count layout
+  pub few : length one.numbers.items ≤ layout.inodes
+  pub numbers : numbers_fault layout.inodes one.numbers.items ≡ None
+
+-- none, or such a slot
+abbrev pub IsGoodIfSome : Layout → Option OpenSlot → Type 0
+IsGoodIfSome layout None = Unit {0}
+IsGoodIfSome layout (Some one) = IsGoodSlot layout one
 
 -- What was read of an open slot of an image: its commit stamp and its inode numbers.
 pub record IsOpenSlot (layout : Layout) (image : List ℕ) (one : OpenSlot) : Type 0 where

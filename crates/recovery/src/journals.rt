@@ -1,5 +1,6 @@
 // The superblock and the journals of a disk: which slots are open, and what stands in them.
 ghost use Rattle.std.specs.Prelude.{◌≡◌, ◌+◌, ◌*◌, ◌<◌, ◌≤◌, ◌++◌, option_map, None, vec_len, IfOk, IfErr, OnOk};
+ghost use Rattle.std.specs.List.{AllByRecursion};
 ghost use Rattle.std.specs.Option.{option_to_list};
 ghost use Rattle.sfs_dev.specs.Steps.{IfTold};
 ghost use Rattle.sfs_image.specs.Bytes.{part, u32s_at};
@@ -7,7 +8,7 @@ ghost use Rattle.sfs_image.specs.Journal.{head_of};
 ghost use Rattle.sfs_image.specs.Settled.{journal_slot, slot_count, layout_of, super_fault_of};
 ghost use Rattle.sfs_image.specs.Super.{InRange, IsLayout};
 ghost use Rattle.recovery.specs.Cause.{OnlyReads};
-ghost use Rattle.recovery.specs.Open.{AreOpen, FindsSlot, IsBadJournal, IsPlain, IsSuperRefusal, IsSlotRefusal, IsJournalRefusal};
+ghost use Rattle.recovery.specs.Open.{AreOpen, FindsSlot, IsGoodSlot, IsGoodIfSome, IsBadJournal, IsPlain, IsSuperRefusal, IsSlotRefusal, IsJournalRefusal};
 
 use crate::fault::RecoverFault;
 use crate::places::{BLOCK, slot_byte, slot_count};
@@ -53,6 +54,7 @@ pub fn read_open<D: Disk>(
 ) -> Result<Vec<OpenSlot>, RecoverFault>
     requires layout { IsLayout (D.view disk.old).size layout.now }
     ensures ok { IfTold (D.view disk.old).content (λ image. IfOk result (λ found. AreOpen layout.now image (slot_count layout.now) found.items)) }
+    ensures good { IfOk result (λ found. AllByRecursion (IsGoodSlot layout.now) found.items) }
     ensures err { IfTold (D.view disk.old).content (λ image. IfErr result (IsJournalRefusal layout.now image)) }
     ensures reads { OnlyReads (D.view disk.old) (D.view disk.new) result }
 {
@@ -92,6 +94,7 @@ fn read_slot<D: Disk>(
     requires layout { IsLayout (D.view disk.old).size layout.now }
     requires number { number < slot_count layout.now }
     ensures ok { IfTold (D.view disk.old).content (λ image. IfOk result (FindsSlot layout.now image stamps.now number)) }
+    ensures good { IfOk result (IsGoodIfSome layout.now) }
     ensures err { IfTold (D.view disk.old).content (λ image. IfErr result (IsSlotRefusal layout.now image stamps.now number)) }
     ensures reads { OnlyReads (D.view disk.old) (D.view disk.new) result }
 {

@@ -4,7 +4,10 @@
 mod fault;
 mod journals;
 mod making;
+mod newest;
 mod places;
+mod settled;
 
 pub use fault::{MkfsFault, RecoverFault};
 pub use making::mkfs;
+pub use settled::{Settled, read_settled};

@@ -15,7 +15,7 @@ returns-in-Ok-clause-ok g c = λ image told.
     let laws = g.met.D.Disk g.world.𝓛 g.world.𝓜 g.world.𝓡 ((λ s x. x), (λ x. x), (λ x. x), λ x. x) in
     let block = block_given _ image 0 4096 c.read_at.new.into told c.read_at.auto.into c.in_ok-read_at.ensures.ok in
     let judged = ap (λ n. super_fault n c.read_at.new.into) (c.len-2.ensures.size ∙ c.in_ok-read_at.ensures.call.size)
-      ∙ super_read (g.D.Disk.view c.args.disk.now).size image c.read_at.new.into (laws.whole c.args.disk.now image told) block in
+    ∙ super_read (g.D.Disk.view c.args.disk.now).size image c.read_at.new.into (laws.whole c.args.disk.now image told) block in
     (sym judged ∙ c.in-Ok.ensures.ok.0, c.in-Ok.ensures.ok.1 ∙ ap super_of block)
 
 pub returns-in-Err-clause-err : goal.returns-in-Err-clause-err
@@ -23,7 +23,7 @@ returns-in-Err-clause-err g c = λ image told.
     let laws = g.met.D.Disk g.world.𝓛 g.world.𝓜 g.world.𝓡 ((λ s x. x), (λ x. x), (λ x. x), λ x. x) in
     let block = block_given _ image 0 4096 c.read_at.new.into told c.read_at.auto.into c.in_ok-read_at.ensures.ok in
     let judged = ap (λ n. super_fault n c.read_at.new.into) (c.len-2.ensures.size ∙ c.in_ok-read_at.ensures.call.size)
-      ∙ super_read (g.D.Disk.view c.args.disk.now).size image c.read_at.new.into (laws.whole c.args.disk.now image told) block in
+    ∙ super_read (g.D.Disk.view c.args.disk.now).size image c.read_at.new.into (laws.whole c.args.disk.now image told) block in
     sym judged ∙ c.in-Err.ensures.err
 
 pub returns-in-Ok-clause-reads : goal.returns-in-Ok-clause-reads

@@ -1,11 +1,12 @@
 -- Slot after slot: what was found are the open ones, and the first wrong one is refused.
 use Rattle.std.proofs.Common.{◌≡◌, ◌+◌, ◌∙◌, ◌++◌, ◌<◌, ℕ, List, Option, map, option_map, ap, arith, sym, subst}
+use Rattle.std.specs.List.{AllByRecursion}
 use Rattle.std.specs.Option.{option_to_list}
 use Rattle.sfs_image.specs.Settled.{slot_count}
 use Rattle.sfs_image.specs.Super.{IsLayout}
 use Rattle.recovery.specs.declared.journals.OpenSlot.{OpenSlot}
-use Rattle.recovery.specs.Open.{AreOpen, IsJournalRefusal}
-use Rattle.recovery.proofs.OpenRead.{next_open, slots_refused, stamps_more}
+use Rattle.recovery.specs.Open.{AreOpen, IsGoodSlot, IsJournalRefusal}
+use Rattle.recovery.proofs.OpenRead.{next_open, slots_refused, stamps_more, all_good}
 use Rattle.recovery.proofs.ReadRuns.{read_more, passed_on}
 use Rattle.recovery.proofs.journals.read_open.Goals as goal
 
@@ -22,11 +23,12 @@ loop-number-preserved g c =
       end = invariant.end;
       run = read_more old mid (g.D.Disk.view c.read_slot.new.disk) _ invariant.run c.in_ok-slot.ensures.reads;
       stamps = c.in_ok-add_slot.ensures.stamps ∙ stamps_more c.loop-number.stamps.items c.loop-number.found.items c.in_ok-slot.slot invariant.stamps
-        ∙ ap (map (λ (one : OpenSlot). one.stamp)) (sym c.in_ok-add_slot.ensures.found);
+          ∙ ap (map (λ (one : OpenSlot). one.stamp)) (sym c.in_ok-add_slot.ensures.found);
+      good = subst (λ (found : List OpenSlot). AllByRecursion (IsGoodSlot c.args.layout.now) found) (sym c.in_ok-add_slot.ensures.found) (all_good c.args.layout.now c.loop-number.found.items c.in_ok-slot.slot invariant.good c.in_ok-slot.ensures.good);
       found = λ image told.
-        subst (λ (found : List OpenSlot). AreOpen c.args.layout.now image (c.loop-number.number + 1) found) (sym c.in_ok-add_slot.ensures.found)
-        (next_open c.args.layout.now image c.deref.result.now c.loop-number.number c.loop-number.found.items c.in_ok-slot.slot (invariant.found image told) stamps
-        (c.in_ok-slot.ensures.ok image (invariant.run.unwritten.content ∙ told)));
+          subst (λ (found : List OpenSlot). AreOpen c.args.layout.now image (c.loop-number.number + 1) found) (sym c.in_ok-add_slot.ensures.found)
+          (next_open c.args.layout.now image c.deref.result.now c.loop-number.number c.loop-number.found.items c.in_ok-slot.slot (invariant.found image told) stamps
+          (c.in_ok-slot.ensures.ok image (invariant.run.unwritten.content ∙ told)));
     }
 
 pub returns-in_err-slot-clause-err : goal.returns-in_err-slot-clause-err

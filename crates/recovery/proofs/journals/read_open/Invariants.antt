@@ -1,8 +1,9 @@
 use Rattle.std.proofs.Common.{◌≡◌, map}
+use Rattle.std.specs.List.{AllByRecursion}
 use Rattle.sfs_dev.specs.Steps.{IfTold}
 use Rattle.sfs_image.specs.Settled.{slot_count}
 use Rattle.recovery.specs.declared.journals.OpenSlot.{OpenSlot}
-use Rattle.recovery.specs.Open.{AreOpen}
+use Rattle.recovery.specs.Open.{AreOpen, IsGoodSlot}
 use Rattle.recovery.proofs.ReadRuns.{ReadSoFar}
 use Rattle.recovery.proofs.journals.read_open.Given as goal
 
@@ -11,5 +12,6 @@ invariant-loop-number g l = let view = g.D.Disk.view in record {
   end : l.number-end ≡ slot_count l.layout;
   run : ReadSoFar (view l.fn.disk) (view l.disk);
   stamps : l.stamps.items ≡ map (λ (one : OpenSlot). one.stamp) l.found.items;
+  good : AllByRecursion (IsGoodSlot l.layout) l.found.items;
   found : IfTold (view l.fn.disk).content (λ image. AreOpen l.layout image l.number l.found.items);
 }

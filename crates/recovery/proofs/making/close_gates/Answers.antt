@@ -19,12 +19,12 @@ loop-number-preserved g c =
     let there : k < slot_count layout = subst (λ n. k < n) invariant.end c.loop-number-test.true in
     let fits : IsLayout old.size layout = subst (λ n. IsLayout n layout) (sym invariant.so_far.advances.size) c.requires.layout in
     let within : (content : List ℕ) → old.content ≡ Some content → slot_byte layout k + 1 ≤ length content =
-      λ content told. subst (λ n. slot_byte layout k + 1 ≤ n) (sym (laws.whole c.loop-number.disk content told)) (gate_within layout old.size k fits there) in
+    λ content told. subst (λ n. slot_byte layout k + 1 ≤ n) (sym (laws.whole c.loop-number.disk content told)) (gate_within layout old.size k fits there) in
     record {
       end = invariant.end;
       so_far = undisturbed-call (view c.args.disk.now) old (view c.write_at.new.self) _ (laws.now_fits c.loop-number.disk) invariant.so_far c.in_ok-write_at.ensures.call;
       shut = λ content told j less.
-        let t = told_put c.slot_byte.result _ old.content (view c.write_at.new.self).content content c.in_ok-write_at.ensures.ok told in
-        subst (λ (content : List ℕ). IsShut (journal_slot layout content j)) (sym (t.2 ∙ ap (λ at. put at (0 ∷ []) t.0) c.slot_byte.ensures))
-        (shut_next layout k t.0 (within t.0 t.1) (invariant.shut t.0 t.1) j (subst (λ n. j < n) (add-one k) less));
+          let t = told_put c.slot_byte.result _ old.content (view c.write_at.new.self).content content c.in_ok-write_at.ensures.ok told in
+          subst (λ (content : List ℕ). IsShut (journal_slot layout content j)) (sym (t.2 ∙ ap (λ at. put at (0 ∷ []) t.0) c.slot_byte.ensures))
+          (shut_next layout k t.0 (within t.0 t.1) (invariant.shut t.0 t.1) j (subst (λ n. j < n) (add-one k) less));
     }

@@ -49,17 +49,17 @@ returns-clause-ran g c =
 pub returns-clause-made : goal.returns-clause-made
 returns-clause-made g c = record {
   made = λ content told.
-    let laws = g.met.D.Disk g.world.𝓛 g.world.𝓜 g.world.𝓡 ((λ s x. x), (λ x. x), (λ x. x), λ x. x) in
-    let view = g.D.Disk.view in
-    let layout = c.args.layout.now in
-    let block = c.encode.new.block in
-    let shut = view c.close_gates.new.disk in
-    let second = told_put 0 block (view c.write_at.new.self).content (view c.write_at-2.new.self).content content c.in_ok-write_at-2.ensures.ok (sym c.sync.ensures.content ∙ told) in
-    let first = told_put c.table_byte.result c.args.table.now shut.content (view c.write_at.new.self).content second.0 c.in_ok-write_at.ensures.ok second.1 in
-    let long = laws.whole c.close_gates.new.disk first.0 first.1 in
-    let fits = subst (λ n. IsLayout n layout) (sym c.in_ok-close_gates.ensures.ran.advances.size) c.requires.layout in
-    subst (λ (content : List ℕ). IsJustMade layout content)
-    (sym (second.2 ∙ ap (put 0 block) (first.2 ∙ ap (λ at. put at c.args.table.now first.0) c.table_byte.ensures)))
-    (made_by_puts layout shut.size first.0 c.args.table.now block fits long c.requires.table c.encode.ensures.spelled (c.in_ok-close_gates.ensures.shut first.0 first.1));
+      let laws = g.met.D.Disk g.world.𝓛 g.world.𝓜 g.world.𝓡 ((λ s x. x), (λ x. x), (λ x. x), λ x. x) in
+      let view = g.D.Disk.view in
+      let layout = c.args.layout.now in
+      let block = c.encode.new.block in
+      let shut = view c.close_gates.new.disk in
+      let second = told_put 0 block (view c.write_at.new.self).content (view c.write_at-2.new.self).content content c.in_ok-write_at-2.ensures.ok (sym c.sync.ensures.content ∙ told) in
+      let first = told_put c.table_byte.result c.args.table.now shut.content (view c.write_at.new.self).content second.0 c.in_ok-write_at.ensures.ok second.1 in
+      let long = laws.whole c.close_gates.new.disk first.0 first.1 in
+      let fits = subst (λ n. IsLayout n layout) (sym c.in_ok-close_gates.ensures.ran.advances.size) c.requires.layout in
+      subst (λ (content : List ℕ). IsJustMade layout content)
+      (sym (second.2 ∙ ap (put 0 block) (first.2 ∙ ap (λ at. put at c.args.table.now first.0) c.table_byte.ensures)))
+      (made_by_puts layout shut.size first.0 c.args.table.now block fits long c.requires.table c.encode.ensures.spelled (c.in_ok-close_gates.ensures.shut first.0 first.1));
   calm = c.in_ok-sync.ensures.ok;
 }

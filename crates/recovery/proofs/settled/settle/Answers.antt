@@ -1,0 +1,32 @@
+-- The slots are gone through from the last one on: what was put before comes behind.
+use Rattle.std.proofs.Common.{◌≡◌, ◌-◌, ◌<◌, ◌≤◌, ◌∙◌, ℕ, suc, length, refl, sym, arith}
+use Rattle.recovery.specs.Open.{IsOpenSlot, IsGoodSlot}
+use Rattle.recovery.specs.Settling.{best_of, bodies_read}
+use Rattle.recovery.proofs.ReadRuns.{none_read, read_more}
+use Rattle.recovery.proofs.SettledRead.{slot_settled, none_settled, found_has}
+use Rattle.recovery.proofs.settled.settle.Goals as goal
+
+pub loop-left-preserved : goal.loop-left-preserved
+loop-left-preserved g c =
+    let layout = c.args.layout.now in
+    let invariant = c.loop-left.invariant in
+    let old = g.D.Disk.view c.args.disk.now in
+    let less : c.loop-left.left - 1 < length c.args.found.now = within c.loop-left.left (length c.args.found.now) c.loop-left-test.true invariant.within in
+    record {
+      within = earlier c.loop-left.left (length c.args.found.now) invariant.within;
+      run = read_more old (g.D.Disk.view c.loop-left.disk) (g.D.Disk.view c.put_slot.new.disk) _ invariant.run c.in_ok-put_slot.ensures.reads;
+      counts = c.in_ok-put_slot.ensures.counts;
+      settled = λ image told slots begins.
+          slot_settled layout image c.args.found.now c.loop-left.left (c.loop-left.left - 1) c.index-found-left.result c.put_slot.new.newest (next c.loop-left.left c.loop-left-test.true) c.index-found-left.is less
+          (c.in_ok-put_slot.ensures.ok image (invariant.run.unwritten.content ∙ told) (found_has (IsOpenSlot layout image) c.args.found.now (c.loop-left.left - 1) c.index-found-left.result slots less c.index-found-left.is)
+          _ _ (invariant.settled image told slots begins));
+    }
+  where
+    within : (n m : ℕ) → 0 < n → n ≤ m → n - 1 < m
+    within n m some le = omega arith
+
+    earlier : (n m : ℕ) → n ≤ m → n - 1 ≤ m
+    earlier n m le = omega arith
+
+    next : (n : ℕ) → 0 < n → n ≡ suc (n - 1)
+    next n some = omega arith
