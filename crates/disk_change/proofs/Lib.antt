@@ -1,1 +1,4 @@
+pub mod Blocks
+pub mod Directories
 pub mod Keyed
+pub mod Names

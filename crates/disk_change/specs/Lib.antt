@@ -1,3 +1,4 @@
+pub mod Directory
 pub mod Lists
 pub mod Nodes
 pub mod OldKept

@@ -1,9 +1,12 @@
 //! What a commit writes: from net changes to the records and blocks of a transaction.
 #![tactic(auto)]
 
+mod block;
+mod directory;
 mod directory_net;
 mod enter;
 mod files;
+mod kinds;
 mod net_list;
 mod old;
 mod pages;
