@@ -7,9 +7,11 @@ mod directory_net;
 mod enter;
 mod files;
 mod kinds;
+mod links;
 mod net_list;
 mod old;
 mod pages;
+mod rewritten;
 
 pub use directory_net::DirectoryNet;
 pub use enter::{Enter, EnterList};
