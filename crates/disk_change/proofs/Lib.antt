@@ -1,1 +1,5 @@
+pub mod Blocks
+pub mod Counted
+pub mod Directories
 pub mod Keyed
+pub mod Names

@@ -1,12 +1,17 @@
 //! What a commit writes: from net changes to the records and blocks of a transaction.
 #![tactic(auto)]
 
+mod block;
+mod directory;
 mod directory_net;
 mod enter;
 mod files;
+mod kinds;
+mod links;
 mod net_list;
 mod old;
 mod pages;
+mod rewritten;
 
 pub use directory_net::DirectoryNet;
 pub use enter::{Enter, EnterList};

@@ -1,4 +1,4 @@
-ghost use Rattle.std.specs.Prelude.{◌≡◌, ◌<◌, None, IfOk, IfErr, replicate, slice_index_or, slice_set};
+ghost use Rattle.std.specs.Prelude.{◌≡◌, ◌<◌, length, None, IfOk, IfErr, replicate, slice_index_or, slice_set};
 ghost use Rattle.std.specs.Option.{option_copied};
 ghost use Rattle.fmt_slots.specs.Fault.{Names};
 ghost use Rattle.sfs_image.specs.SlotBlock.{slot_in, fault_in, slots_of, slots_fault, slots_bytes, AreSlots};
@@ -42,6 +42,14 @@ impl SlotBlock {
             slots.push(None)?;
         }
         Ok(SlotBlock { slots })
+    }
+
+    /// How many slots there are: 15 in each block.
+    pub fn len(&self) -> usize
+        ensures count { result ≡ length self.now }
+        ensures slots { result ≡ 15 }
+    {
+        self.slots.len()
     }
 
     /// The row in the slot of a place, from 0 to 14, or none where it is empty.

@@ -1,0 +1,72 @@
+-- The blocks of a directory after a net, block by block.
+use Rattle.std.proofs.Common.{◌≡◌, ℕ, zero, suc, ◌+◌, ◌*◌, ◌<◌, Bool, true, false, List, [], ◌∷◌, ◌++◌, length, get_or, take, drop, map, replicate, filter_map, reverse, Option, Some, None, refl, sym, ap, ◌∙◌, arith, add-one}
+use Rattle.std.specs.Prelude.{option_to_list}
+use Rattle.std.specs.List.{range_with_len, cons_option}
+use Rattle.std.proofs.lemmas.List.{append_assoc, append-nil, take_more, reverse-append}
+use Rattle.std.proofs.lemmas.List.Elements.{filter_map-append}
+use Rattle.sfs_image.specs.Slot.{Row}
+use Rattle.absorb.specs.declared.nets.NetRow.{NetRow}
+use Rattle.disk_change.specs.Directory.{block_moved, fill_front, rows_left, is_touched, blocks_filled, rows_behind, blocks_touched, block_added, empty_block}
+
+-- what a function gives of one item more comes last
+pub filter_map_more : {X Y : Type 0} (f : X → Option Y) (xs : List X) (i : ℕ) (d : X) → i < length xs → filter_map f (take (i + 1) xs) ≡ filter_map f (take i xs) ++ option_to_list (f (get_or xs i d))
+filter_map_more f xs i d within = ap (filter_map f) (take_more xs i d within) ∙ filter_map-append f (take i xs) (get_or xs i d ∷ []) ∙ ap (λ rest. filter_map f (take i xs) ++ rest) (alone (f (get_or xs i d)))
+  where
+    alone : {Y : Type 0} (o : Option Y) → cons_option o [] ≡ option_to_list o
+    alone None = refl
+    alone (Some y) = refl
+
+module _ (directories : List ℕ) (net : List NetRow) where
+  -- one block more takes what the others leave
+  pub filled_more : (blocks : List (List (Option Row))) (block : List (Option Row)) (rows : List Row)
+      → blocks_filled directories net (blocks ++ block ∷ []) rows ≡ blocks_filled directories net blocks rows ++ fill_front (block_moved directories net block) (rows_behind directories net blocks rows) ∷ []
+  filled_more [] block rows = refl
+  filled_more (first ∷ blocks) block rows = ap (λ rest. fill_front (block_moved directories net first) rows ∷ rest) (filled_more blocks block _)
+
+  pub behind_more : (blocks : List (List (Option Row))) (block : List (Option Row)) (rows : List Row)
+      → rows_behind directories net (blocks ++ block ∷ []) rows ≡ rows_left (block_moved directories net block) (rows_behind directories net blocks rows)
+  behind_more [] block rows = refl
+  behind_more (first ∷ blocks) block rows = behind_more blocks block _
+
+  pub touched_more : (blocks : List (List (Option Row))) (block : List (Option Row)) (rows : List Row)
+      → blocks_touched directories net (blocks ++ block ∷ []) rows ≡ blocks_touched directories net blocks rows ++ is_touched directories net block (rows_behind directories net blocks rows) ∷ []
+  touched_more [] block rows = refl
+  touched_more (first ∷ blocks) block rows = ap (λ rest. is_touched directories net first rows ∷ rest) (touched_more blocks block _)
+
+-- one more of the same
+pub replicate_more : {X : Type 0} (n : ℕ) (x : X) → replicate (n + 1) x ≡ replicate n x ++ x ∷ []
+replicate_more n x = ap (λ m. replicate m x) (one_suc n) ∙ by_count n
+  where
+    one_suc : (n : ℕ) → n + 1 ≡ suc n
+    one_suc n = omega arith
+
+    by_count : (n : ℕ) → replicate (suc n) x ≡ replicate n x ++ x ∷ []
+    by_count zero = refl
+    by_count (suc n) = ap (λ rest. x ∷ rest) (by_count n)
+
+drop_none : {X : Type 0} (n : ℕ) → drop {A = X} n [] ≡ []
+drop_none zero = refl
+drop_none (suc n) = refl
+
+pub drop_twice : {X : Type 0} (a b : ℕ) (xs : List X) → drop a (drop b xs) ≡ drop (b + a) xs
+drop_twice a zero xs = ap (λ n. drop n xs) (zero_more a)
+  where
+    zero_more : (a : ℕ) → a ≡ 0 + a
+    zero_more a = omega arith
+drop_twice a (suc b) [] = drop_none a ∙ sym (drop_none (suc b + a))
+drop_twice a (suc b) (x ∷ xs) = drop_twice a b xs ∙ ap (λ n. drop n (x ∷ xs)) (more b a)
+  where
+    more : (b a : ℕ) → suc (b + a) ≡ suc b + a
+    more b a = omega arith
+
+-- a block of empty slots takes 15 rows
+pub left_of_empty : (rows : List Row) → rows_left empty_block rows ≡ drop 15 rows
+left_of_empty rows = refl
+
+pub reverse_twice : {X : Type 0} (xs : List X) → reverse (reverse xs) ≡ xs
+reverse_twice [] = refl
+reverse_twice (x ∷ xs) = ap reverse (reverse-append (x ∷ []) xs) ∙ reverse-append (reverse xs) (x ∷ []) ∙ ap (λ rest. x ∷ rest) (reverse_twice xs)
+
+pub map_itself : {X : Type 0} (xs : List X) → map (λ y. y) xs ≡ xs
+map_itself [] = refl
+map_itself (x ∷ xs) = ap (λ rest. x ∷ rest) (map_itself xs)

@@ -1,0 +1,41 @@
+-- What a commit makes of one node, before it has numbers and fresh blocks.
+use Rattle.std.specs.Prelude.{ℕ, ◌*◌, ◌==◌, ◌≤◌, ◌&&◌, ◌||◌, not, nat_le, nat_lt, suc, Bool, true, false, is_none, List, [], ◌∷◌, length, map, take, replicate, filter_map, slice_index_or, Option, Some, None, option_map, if◌then◌else◌}
+use Rattle.std.specs.List.{list_all, range_with_len}
+use Rattle.std.specs.Option.{option_map_or}
+use Rattle.sfs_base.specs.declared.numbers.Kind.{Kind}
+use Rattle.sfs_base.specs.declared.numbers.Kind.TheVariants.{File, Directory}
+use Rattle.sfs_tree.specs.Tree.{is_directory_kind}
+use Rattle.sfs_image.specs.Bytes.{nonzero_in}
+use Rattle.sfs_image.specs.Inode.{Inode, Table}
+use Rattle.sfs_image.specs.Seen.{FILE_BLOCKS}
+use Rattle.sfs_image.specs.Slot.{Row, kind_byte}
+use Rattle.image_tree.specs.Stands.{BLOCK_BYTES}
+use Rattle.block_map.specs.declared.changed.ChangedBlock.{ChangedBlock}
+use Rattle.disk_change.specs.declared.pages.Page.{Page}
+
+-- whether a block has no row
+abbrev pub has_no_row : List (Option Row) → Bool
+has_no_row block = list_all is_none block
+
+-- how many blocks there are up to the last one that has a row
+abbrev pub end_of : List (List (Option Row)) → ℕ
+end_of [] = 0
+end_of (block ∷ blocks) = if has_no_row block && end_of blocks == 0 then 0 else suc (end_of blocks)
+
+-- what is said of block n of a directory: it is rewritten where it changes, or where it is there behind the last one with a row
+abbrev pub block_said : (ℕ → ℕ) → List (List (Option Row)) → List Bool → ℕ → Option ChangedBlock
+block_said pointers blocks touched n =
+    if nat_lt n FILE_BLOCKS && (slice_index_or touched n false || (nat_le (end_of blocks) n && not (pointers n == 0)))
+    then Some (record { block = n; is_zero = has_no_row (slice_index_or blocks n []) }) else None
+
+-- the blocks of a directory that are rewritten
+abbrev pub directory_changed : (ℕ → ℕ) → List (List (Option Row)) → List Bool → List ChangedBlock
+directory_changed pointers blocks touched = filter_map (block_said pointers blocks touched) (range_with_len 0 (length blocks))
+
+-- what is said of a page: it is rewritten, and all zeros or not
+abbrev pub page_said : Page → ChangedBlock
+page_said page = record { block = page.block; is_zero = is_none (nonzero_in 0 BLOCK_BYTES page.bytes) }
+
+-- the blocks of a file that are rewritten
+abbrev pub file_changed : List Page → List ChangedBlock
+file_changed pages = map page_said pages
