@@ -1,0 +1,6 @@
+mod Apart
+mod Kept
+mod Packing
+mod Places
+mod Spans
+mod Steps
