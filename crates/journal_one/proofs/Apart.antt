@@ -1,15 +1,13 @@
 -- The pieces of a commit lie apart from one another and from the gate.
-use Rattle.std.proofs.Common.{◌≡◌, ◌≢◌, ℕ, zero, suc, ◌+◌, ◌-◌, ◌*◌, ◌<◌, ◌≤◌, ◌⊎◌, List, [], ◌∷◌, map, length, get_or, refl, sym, ◌∙◌, ap, subst, arith, inl, inr}
+use Rattle.std.proofs.Common.{◌≡◌, ◌≢◌, ℕ, zero, suc, ◌-◌, ◌*◌, ◌<◌, ◌≤◌, map, length, get_or, refl, sym, ap, subst, arith, inl, inr}
 use Rattle.std.proofs.lemmas.Bool.{cases_lt, cases_order}
 use Rattle.std.proofs.lemmas.List.{length-map, get_or-map}
 use Rattle.std.proofs.lemmas.List.Kept.{AllPairs-from_increasing}
-use Rattle.sfs_image.specs.ImageWrites.{LiesApart}
-use Rattle.sfs_image.specs.Journal.{Entry, number_byte, record_byte, records_start}
-use Rattle.sfs_image.specs.Settled.{slot_byte, table_byte}
-use Rattle.sfs_image.specs.Super.{slot_blocks, table_start, data_start}
+use Rattle.sfs_image.specs.Journal.{Entry}
+use Rattle.sfs_image.specs.Super.{data_start}
 use Rattle.sfs_dev.specs.Ranges.{Apart}
-use Rattle.journal_one.specs.Job.{Place, Job, Piece, fresh_piece, numbers_piece, records_piece, head_piece, body_piece, fill_count, fill_piece, table_piece, gate_piece, no_block, no_entry, IsJob, HaveOwnBlocks}
-use Rattle.journal_one.proofs.Places.{LiesInSlot, body_lies, slot_ends, fresh_is, body_is, in_data, entry_long, record_ends, length-numbers, length-records, length-head, last_number}
+use Rattle.journal_one.specs.Job.{Job, Piece, numbers_piece, records_piece, head_piece, body_piece, fill_count, fill_piece, table_piece, gate_piece, no_block, no_entry, IsJob, HaveOwnBlocks}
+use Rattle.journal_one.proofs.Places.{body_lies, slot_ends, fresh_is, body_is, in_data, entry_long, record_ends, length-numbers, length-head, last_number}
 
 -- two pieces share no byte
 abbrev pub AreApart : Piece → Piece → Type 0

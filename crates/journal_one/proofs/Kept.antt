@@ -1,20 +1,19 @@
 -- What is known of bytes goes on through writes elsewhere and through a sync.
-use Rattle.std.proofs.Common.{◌≡◌, ◌≢◌, ℕ, ◌+◌, ◌*◌, ◌<◌, ◌≤◌, Bool, true, eqb, List, [], ◌∷◌, length, Option, Some, None, Result, Ok, Err, take, drop, slice_index, refl, sym, ◌∙◌, ap, subst, arith}
-use Rattle.std.specs.Prelude.{option_map, OnOk, OnErr}
+use Rattle.std.proofs.Common.{◌≡◌, ℕ, ◌+◌, ◌*◌, ◌≤◌, eqb, List, length, Option, Some, None, Result, Ok, Err, slice_index, refl, sym, ◌∙◌, ap, subst, arith}
+use Rattle.std.specs.Prelude.{option_map}
 use Rattle.std.proofs.lemmas.List.{get_or-take}
 use Rattle.sfs_image.specs.Bytes.{part}
-use Rattle.sfs_image.specs.ImageOf.{IsShut}
 use Rattle.sfs_image.specs.Journal.{head_of}
 use Rattle.sfs_image.specs.Settled.{journal_slot, slot_byte}
 use Rattle.sfs_image.specs.Super.{slot_blocks}
 use Rattle.sfs_image.proofs.FrameLaws.{part-part, gate_byte}
-use Rattle.sfs_dev.specs.Ranges.{put, SameOutside, Apart}
+use Rattle.sfs_dev.specs.Ranges.{put, SameOutside}
 use Rattle.sfs_dev.specs.RangeLaws.{SameOutside-put, part_apart, part-put}
-use Rattle.sfs_dev.specs.Disk.{View, Torn, TornTold, SameImages, OnlyTold, images}
+use Rattle.sfs_dev.specs.Disk.{View, Torn, OnlyTold, images}
 use Rattle.sfs_dev.proofs.Held.{told_before}
 use Rattle.journal_one.specs.Calls.{IsWrite, IsSync, IsCalm}
 use Rattle.journal_one.specs.Job.{Place, Piece, gate_piece}
-use Rattle.journal_one.specs.Known.{Reads, Leaves, StandsIn, IsShutIn, IsOpenIn}
+use Rattle.journal_one.specs.Known.{Reads, Leaves, StandsIn}
 use Rattle.journal_one.proofs.Apart.{AreApart}
 
 -- what a law says of every disk: what a read gives has the disk's size, and is one of the images

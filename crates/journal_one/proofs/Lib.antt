@@ -1,6 +1,7 @@
-mod Apart
-mod Kept
-mod Packing
-mod Places
-mod Spans
-mod Steps
+pub mod Apart
+pub mod Bodies
+pub mod Kept
+pub mod Packing
+pub mod Places
+pub mod Spans
+pub mod Steps

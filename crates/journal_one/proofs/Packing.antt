@@ -11,7 +11,7 @@ use Rattle.sfs_image.specs.Journal.{Entry}
 use Rattle.fmt_journal.specs.declared.tx.TxBlock.{TxBlock}
 use Rattle.fmt_journal.specs.declared.tx.TxRecord.{TxRecord}
 use Rattle.journal_one.specs.Job.{no_entry, no_block}
-use Rattle.journal_one.specs.Packed.{Contents, entry_of, block_of, inode_of_entry, bytes_of_entry, IsPacked}
+use Rattle.journal_one.specs.Packed.{entry_of, block_of, inode_of_entry, bytes_of_entry, IsPacked}
 
 -- an entry has its 512 bytes
 abbrev pub IsLong : Entry → Type 0

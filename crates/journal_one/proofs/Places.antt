@@ -1,24 +1,18 @@
 -- Where the pieces of a commit lie, and that they lie apart.
-use Rattle.std.proofs.Common.{◌≡◌, ◌≢◌, ℕ, zero, suc, ◌+◌, ◌-◌, ◌*◌, ◌/◌, ◌^◌, ◌<◌, ◌≤◌, Bool, true, false, ltb, All, List, [], ◌∷◌, ◌++◌, map, length, get_or, replicate, refl, sym, ◌∙◌, ap, subst, arith, cond, inl, inr}
-use Rattle.std.specs.List.{flat_map}
-use Rattle.std.specs.List.Sorted.{IsStrictlyIncreasing}
-use Rattle.std.proofs.lemmas.Bool.{cases_lt, cases_order, lt-ltb, le-ltb}
+use Rattle.std.proofs.Common.{◌≡◌, ℕ, zero, suc, ◌+◌, ◌-◌, ◌*◌, ◌<◌, ◌≤◌, Bool, true, false, ltb, List, ◌++◌, map, length, get_or, replicate, refl, sym, ◌∙◌, ap, subst, arith, cond}
+use Rattle.std.proofs.lemmas.Bool.{lt-ltb, le-ltb}
 use Rattle.std.proofs.lemmas.List.{length-map, get_or-map, length-append}
 use Rattle.std.proofs.lemmas.List.Elements.{All-get_or}
-use Rattle.sfs_image.specs.Bytes.{zeros, u32_bytes, u32s_bytes, u64_bytes}
-use Rattle.sfs_image.specs.ImageOf.{FreshBlock}
-use Rattle.sfs_image.specs.ImageWrites.{LiesApart}
+use Rattle.sfs_image.specs.Bytes.{zeros, u32_bytes, u64_bytes}
 use Rattle.sfs_image.specs.Journal.{Entry, AreEntries, number_byte, record_byte, records_start}
-use Rattle.sfs_image.specs.Laws.{IsDivided}
-use Rattle.sfs_image.specs.Settled.{slot_byte, slot_count, table_byte}
-use Rattle.sfs_image.specs.Super.{Layout, IsLayout, slot_blocks, table_start, data_start}
+use Rattle.sfs_image.specs.Settled.{slot_byte, table_byte}
+use Rattle.sfs_image.specs.Super.{Layout, slot_blocks, table_start, data_start}
 use Rattle.sfs_image.proofs.BytesLaws.{length-zeros}
 use Rattle.sfs_image.proofs.EntriesLaws.{place_below, few_below}
-use Rattle.sfs_image.proofs.KeptLaws.{records_apart}
 use Rattle.sfs_image.proofs.LayoutLaws.{divided}
 use Rattle.sfs_image.proofs.PiecesLaws.{length-pieces}
 use borrow.Rule.Slice.PartMut.{put_mid}
-use Rattle.journal_one.specs.Job.{Place, Job, Piece, fresh_piece, numbers_piece, records_piece, head_piece, body_piece, fill_count, fill_piece, table_piece, no_block, no_entry, IsPlace, IsJob, LiesInData, HaveOwnBlocks}
+use Rattle.journal_one.specs.Job.{Place, Job, Piece, fresh_piece, numbers_piece, records_piece, head_piece, body_piece, fill_piece, table_piece, no_block, no_entry, IsJob, LiesInData}
 
 -- the bytes of a piece lie within a slot, from a byte on that is behind its gate
 pub record LiesInSlot (place : Place) (piece : Piece) : Type 0 where

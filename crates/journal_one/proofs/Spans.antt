@@ -1,15 +1,15 @@
 -- Several device calls in a row that write some bytes and nothing else.
-use Rattle.std.proofs.Common.{◌≡◌, ℕ, ◌+◌, ◌*◌, ◌^◌, ◌<◌, ◌≤◌, List, length, Option, Some, Result, Ok, Err, refl, sym, ◌∙◌, ap, subst, arith, inl, inr, option_map, IsSome}
+use Rattle.std.proofs.Common.{◌≡◌, ℕ, ◌^◌, ◌<◌, List, length, Option, Some, Result, Ok, Err, ◌∙◌, ap, subst, arith, inl, inr, option_map}
 use Rattle.std.proofs.lemmas.Bool.{cases_lt}
-use Rattle.sfs_dev.specs.Ranges.{put, SameOutside}
+use Rattle.sfs_dev.specs.Ranges.{put}
 use Rattle.sfs_dev.specs.RangeLaws.{SameOutside-refl, SameOutside-trans}
-use Rattle.sfs_dev.specs.Disk.{View, Torn, TornTold, Elapses, IsDeviceCall, images}
+use Rattle.sfs_dev.specs.Disk.{View, Torn, TornTold, IsDeviceCall, images}
 use Rattle.sfs_dev.specs.Run.{Advances, CountsOn}
 use Rattle.sfs_dev.specs.Steps.{TearsOnly, TornSince}
 use Rattle.sfs_dev.proofs.Runs.{GoesOn-refl, GoesOn-call, GoesOn-trans}
 use Rattle.journal_one.specs.Calls.{IsWrite, IsSync}
 use Rattle.journal_one.specs.Job.{Piece}
-use Rattle.journal_one.proofs.Kept.{IsLawful, Rests, Touches, synced_rests}
+use Rattle.journal_one.proofs.Kept.{IsLawful, synced_rests}
 
 -- The calls between two moments: they advance the disk, and each image of each moment differs from one before them in these bytes alone.
 pub record Span (at n : ℕ) (old new : View) : Type 0 where

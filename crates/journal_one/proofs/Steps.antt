@@ -1,15 +1,13 @@
 -- What each step of a commit makes of what is known of the slot.
-use Rattle.std.proofs.Common.{◌≡◌, ◌≢◌, ℕ, ◌+◌, ◌*◌, ◌<◌, ◌≤◌, true, false, List, length, Result, Ok, Err, refl, sym, ◌∙◌, ap, subst, arith, inl, inr, option_map, get_or}
-use Rattle.std.specs.Prelude.{OnErr, OnOk}
-use Rattle.std.proofs.lemmas.Bool.{cases_lt, cases_eq}
-use Rattle.sfs_dev.specs.Ranges.{put, SameOutside}
+use Rattle.std.proofs.Common.{◌≡◌, ℕ, ◌+◌, ◌<◌, true, false, length, Result, Ok, Err, refl, sym, ◌∙◌, subst, arith, inl, inr}
+use Rattle.std.specs.Prelude.{OnErr}
+use Rattle.std.proofs.lemmas.Bool.{cases_lt}
 use Rattle.sfs_dev.specs.Disk.{View}
-use Rattle.journal_one.specs.Calls.{IsWrite, IsSync, IsCalm}
+use Rattle.journal_one.specs.Calls.{IsCalm}
 use Rattle.journal_one.specs.Job.{Place, Job, Piece, fill_count, fill_piece, table_piece, gate_piece, IsJob}
-use Rattle.journal_one.specs.Known.{Reads, Leaves, StandsIn, IsShutIn, IsOpenIn, AreWritten, AreOnDisk, AreFilled, IsIdle, IsFilling, IsFilled, IsSealed, IsOpened, IsDurable, IsPlaced, IsCopied, IsClosing, IsClosed, IsBetween}
+use Rattle.journal_one.specs.Known.{Reads, Leaves, StandsIn, IsShutIn, IsOpenIn, AreWritten, AreOnDisk, AreFilled, IsFilling, IsFilled, IsSealed, IsOpened, IsDurable, IsPlaced, IsCopied, IsClosing, IsClosed, IsBetween}
 use Rattle.journal_one.proofs.Apart.{AreApart, apart_from_gate, table_from_gate, table_from_fill, tables_apart, fills_apart, AreApart-swap}
-use Rattle.journal_one.proofs.Places.{entry_long, record_ends}
-use Rattle.journal_one.proofs.Kept.{IsLawful, Touches, Rests, written_touches, written_stands, leaves_kept, reads_kept, leaves_rest, reads_rest, reads_from_leaves, leaves_from_reads, stands_kept, gate_stays, gate_put}
+use Rattle.journal_one.proofs.Kept.{Touches, Rests, leaves_kept, reads_kept, leaves_rest, reads_rest, leaves_from_reads, stands_kept, gate_stays, gate_put}
 
 -- on a fault, what is so in any case
 pub on_err : {V E : Type 0} (result : Result V E) (P : Type 0) → P → OnErr result P

@@ -1,5 +1,5 @@
 -- What one device call of a commit does to the disk, exactly.
-use Rattle.std.specs.Prelude.{◌≡◌, ℕ, List, length, Option, option_map, Result, OnOk, OnErr, IfErr}
+use Rattle.std.specs.Prelude.{◌≡◌, length, option_map, Result, OnOk, OnErr, IfErr}
 use Rattle.sfs_dev.specs.Ranges.{put}
 use Rattle.sfs_dev.specs.Disk.{View, Torn, TornTold, SameImages, OnlyTold, IsDeviceCall, images}
 use Rattle.journal_one.specs.Job.{Piece}

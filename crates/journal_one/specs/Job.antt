@@ -1,5 +1,5 @@
 -- What a commit through one journal slot writes, and where.
-use Rattle.std.specs.Prelude.{◌≡◌, ℕ, zero, suc, ◌+◌, ◌-◌, ◌*◌, ◌<◌, ◌≤◌, ◌^◌, nat_lt, All, List, [], ◌∷◌, ◌++◌, map, length, slice_get, slice_index_or, Some, if◌then◌else◌}
+use Rattle.std.specs.Prelude.{◌≡◌, ℕ, zero, suc, ◌+◌, ◌-◌, ◌*◌, ◌<◌, ◌≤◌, ◌^◌, nat_lt, All, List, [], ◌∷◌, ◌++◌, map, length, slice_index_or, if◌then◌else◌}
 use Rattle.std.specs.List.{flat_map}
 use Rattle.sfs_image.specs.Bytes.{zeros, u32_bytes, u32s_bytes, u64_bytes}
 use Rattle.sfs_image.specs.ImageOf.{FreshBlock}

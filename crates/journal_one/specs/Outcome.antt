@@ -1,6 +1,5 @@
 -- What a write of many leads to.
-use Rattle.std.specs.Prelude.{◌≡◌, ℕ, ◌+◌, ◌<◌}
-use Rattle.journal_one.specs.Job.{Job}
+use Rattle.std.specs.Prelude.{◌≡◌, ◌<◌}
 use Rattle.journal_one.specs.Stage.{Stage, left_to_fill, left_to_place, next_stage}
 use Rattle.journal_one.specs.declared.slot.Fill.{Fill}
 use Rattle.journal_one.specs.declared.slot.Fill.TheVariants.{More, Done}

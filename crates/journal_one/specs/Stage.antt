@@ -1,5 +1,5 @@
 -- How far a commit has come whose writes go out one by one.
-use Rattle.std.specs.Prelude.{◌≡◌, ℕ, ◌+◌, ◌-◌, ◌<◌, length}
+use Rattle.std.specs.Prelude.{ℕ, ◌+◌, ◌-◌, length}
 use Rattle.journal_one.specs.Job.{Job, fill_count}
 
 -- a commit, and how many of its writes were made

@@ -1,6 +1,5 @@
 -- What the states of a slot hold, as contracts see it.
-use Rattle.std.specs.Prelude.{◌≡◌, ℕ, ◌+◌, ◌-◌, ◌<◌, length}
-use Rattle.journal_one.specs.Job.{Place, Job, fill_count}
+use Rattle.journal_one.specs.Job.{Place, Job}
 use Rattle.journal_one.specs.declared.work.Spot.{Spot}
 use Rattle.journal_one.specs.declared.work.Work.{Work}
 

@@ -29,8 +29,8 @@ pub(crate) fn put<D: Disk>(disk: &mut D, at: u64, bytes: &[u8]) -> Result<(), Do
     }
 }
 
-/// Syncs: one device call.
-pub(crate) fn sync<D: Disk>(disk: &mut D) -> Result<(), Doubt>
+/// Waits until all that was written is on the disk: one device call.
+pub fn sync<D: Disk>(disk: &mut D) -> Result<(), Doubt>
     ensures sync { IsSync (D.view disk.old) (D.view disk.new) result }
     ensures faults { IfErr result (λ doubt. doubt.faults ≡ (D.view disk.new).faults) }
 {

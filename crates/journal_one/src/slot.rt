@@ -18,7 +18,7 @@ ghost use Rattle.sfs_image.specs.ImageOf.{FreshBlock};
 ghost use Rattle.sfs_image.specs.Journal.{Entry};
 ghost use Rattle.sfs_image.specs.Super.{IsLayout};
 ghost use Rattle.journal_one.specs.Calls.{IsWrite, IsSync, IsCalm, HasDoubt};
-ghost use Rattle.journal_one.specs.Job.{LiesInData, gate_piece, fill_count, fill_piece, table_piece};
+ghost use Rattle.journal_one.specs.Job.{IsJob, LiesInData, gate_piece, fill_count, fill_piece, table_piece};
 ghost use Rattle.journal_one.specs.Work.{job_of};
 ghost use Rattle.journal_one.specs.Known.{Leaves, IsShutIn, IsIdle, IsFilling, IsFilled, IsSealed, IsOpened, IsDurable, IsPlaced, IsCopied, IsClosing, IsClosed, IsBetween, AreFilled};
 ghost use Rattle.sfs_dev.specs.Run.{Advances};
@@ -221,6 +221,7 @@ impl Idle {
         requires in_data { All (LiesInData self.layout) packed.fresh }
         ensures job { result.job ≡ record { place = self; stamp = stamp; entries = packed.entries; fresh = packed.fresh } }
         ensures done { result.done ≡ 0 }
+        ensures sound { IsJob result.job }
     {
         let Idle { spot } = self;
         Filling {
@@ -236,6 +237,7 @@ impl Filling {
         requires large { self.job.place.layout.blocks ≤ (D.view disk.old).size }
         ensures ok { IfOk result (FillsOn self) }
         ensures write { IsWrite (fill_piece self.job self.done) (D.view disk.old) (D.view disk.new) result }
+        ensures whole { self.done < length self.job.fresh → length (fill_piece self.job self.done).bytes ≡ 4096 }
         ensures faults { IfErr result (λ doubt. doubt.faults ≡ (D.view disk.new).faults) }
         ensures written { OnOk result (IsFilling self.job self.done (D.view disk.old) → IsFilling self.job (self.done + 1) (D.view disk.new)) }
         ensures err { OnErr result (IsFilling self.job self.done (D.view disk.old) → IsFilling self.job self.done (D.view disk.new)) }

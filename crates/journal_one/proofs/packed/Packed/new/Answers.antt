@@ -1,6 +1,5 @@
-use Rattle.std.proofs.Common.{◌≡◌, ◌≤◌, arith, length, take, sym, subst, List}
+use Rattle.std.proofs.Common.{◌≡◌, ◌≤◌, arith, length, take, subst, List}
 use Rattle.fmt_journal.specs.declared.tx.TxRecord.{TxRecord}
-use Rattle.journal_one.specs.Packed.{IsPacked, contents_of}
 use Rattle.journal_one.proofs.Packing.{Packing, packing_next, packed_all}
 use Rattle.journal_one.proofs.packed.Packed.new.Goals as goal
 

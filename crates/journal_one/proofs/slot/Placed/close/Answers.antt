@@ -1,7 +1,6 @@
 -- What the three calls of a close do, at each exit.
-use Rattle.std.proofs.Common.{◌≡◌, ℕ, ◌<◌, refl, ap, subst, sym}
-use Rattle.sfs_dev.specs.Disk.{View}
-use Rattle.journal_one.specs.Job.{Job, IsJob, gate_piece}
+use Rattle.std.proofs.Common.{◌≡◌, refl, ap, subst}
+use Rattle.journal_one.specs.Job.{Job, gate_piece}
 use Rattle.journal_one.specs.Known.{IsPlaced, IsCopied, IsClosing, IsClosed, IsBetween}
 use Rattle.journal_one.specs.Work.{job_of}
 use Rattle.journal_one.proofs.Kept.{IsLawful, synced_rests}

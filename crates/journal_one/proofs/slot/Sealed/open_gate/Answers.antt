@@ -1,13 +1,10 @@
-use Rattle.std.proofs.Common.{◌≡◌, ℕ, ◌+◌, ◌*◌, ◌<◌, ◌≤◌, length, Ok, Err, subst, sym, ap, arith, ◌∙◌}
-use Rattle.std.specs.Prelude.{OnErr}
-use Rattle.journal_one.specs.Job.{Place, Piece, Job, gate_piece, fill_piece, table_piece, IsJob}
-use Rattle.journal_one.specs.Stage.{Stage}
+use Rattle.std.proofs.Common.{◌≤◌, Ok, subst, sym, arith}
+use Rattle.journal_one.specs.Job.{Job, gate_piece}
 use Rattle.journal_one.specs.Calls.{IsWrite}
 use Rattle.journal_one.specs.declared.doubt.Doubt.{Doubt}
 use Rattle.journal_one.specs.Known.{AreFilled, IsOpened, IsSealed}
 use Rattle.journal_one.specs.Work.{job_of}
-use Rattle.sfs_dev.specs.Disk.{View}
-use Rattle.journal_one.proofs.Kept.{IsLawful, Touches, written_touches, written_stands, write_ok}
+use Rattle.journal_one.proofs.Kept.{IsLawful, written_touches, written_stands, write_ok}
 use Rattle.journal_one.proofs.Steps.{on_err, opened_then, opening_doubted}
 use Rattle.journal_one.proofs.slot.Sealed.open_gate.Goals as goal
 

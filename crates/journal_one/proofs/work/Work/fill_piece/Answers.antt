@@ -1,10 +1,10 @@
-use Rattle.std.proofs.Common.{◌≡◌, ◌<◌, arith, length, ap, sym, ◌∙◌}
+use Rattle.std.proofs.Common.{◌<◌, arith, length, ap}
 use Rattle.std.proofs.lemmas.List.{length-map}
 use Rattle.sfs_image.specs.ImageOf.{FreshBlock}
 use Rattle.journal_one.specs.Packed.{block_of}
 use Rattle.journal_one.specs.Work.{job_of}
-use Rattle.journal_one.proofs.Packing.{block_at, no_tx_block}
-use Rattle.journal_one.proofs.Places.{fresh_within, in_data}
+use Rattle.journal_one.proofs.Packing.{block_at}
+use Rattle.journal_one.proofs.Places.{in_data}
 use Rattle.journal_one.proofs.work.Work.fill_piece.Goals as goal
 
 pub returns-then-number-fresh-clause-within : goal.returns-then-number-fresh-clause-within

@@ -1,4 +1,4 @@
-use Rattle.std.proofs.Common.{◌≡◌, ℕ, ◌+◌, ◌*◌, arith, length, ap, subst}
+use Rattle.std.proofs.Common.{arith, length, ap}
 use Rattle.sfs_image.specs.Journal.{Entry}
 use Rattle.journal_one.specs.Work.{job_of}
 use Rattle.journal_one.proofs.Packing.{record_at}
