@@ -1,0 +1,7 @@
+ghost use Rattle.std.specs.Prelude.{◌≡◌};
+
+pub fn trial(x: u8) -> u8
+    ensures { result ≡ x }
+{
+    x
+}
