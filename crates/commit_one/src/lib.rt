@@ -3,4 +3,4 @@
 
 mod commit;
 
-pub use commit::trial;
+pub use commit::{fill, make_durable, place};

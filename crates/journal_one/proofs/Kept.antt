@@ -32,7 +32,7 @@ pub record Rests (old new : View) : Type 0 where
   pub left : (content : List ℕ) → new.content ≡ Some content → (image : List ℕ) → images new image → images old image
 
 -- what was put stands there
-put_told : (piece : Piece) (old new : Option (List ℕ)) (content : List ℕ) → new ≡ option_map (put piece.at piece.bytes) old → new ≡ Some content
+pub put_told : (piece : Piece) (old new : Option (List ℕ)) (content : List ℕ) → new ≡ option_map (put piece.at piece.bytes) old → new ≡ Some content
     → (was : List ℕ) × (old ≡ Some was) × (content ≡ put piece.at piece.bytes was)
 put_told piece (Some was) new content is told =
     let both : Some content ≡ Some (put piece.at piece.bytes was) = sym told ∙ is in
