@@ -184,6 +184,13 @@ module _ (job : Job) (is : IsJob job) where
   closing_between old new rests knows =
       between_copied new (on_disk_rest (fill_count job) (fill_piece job) old new rests knows.filled) (on_disk_rest (length job.entries) (table_piece job) old new rests knows.copied)
 
+  pub closing_rests : (old new : View) → Rests old new → IsClosing job old → IsClosing job new
+  closing_rests old new rests knows = record {
+    shut = reads_rest old new (IsShutIn job.place) rests knows.shut;
+    filled = on_disk_rest (fill_count job) (fill_piece job) old new rests knows.filled;
+    copied = on_disk_rest (length job.entries) (table_piece job) old new rests knows.copied;
+  }
+
   pub closed_then : (old new : View) → Rests old new → IsCalm new → IsClosing job old → IsClosed job new
   closed_then old new rests calm knows = record {
     idle = leaves_from_reads new (IsShutIn job.place) calm (reads_rest old new (IsShutIn job.place) rests knows.shut);

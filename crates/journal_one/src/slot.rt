@@ -17,18 +17,16 @@ ghost use Rattle.std.specs.Prelude.{◌≡◌, ◌+◌, ◌-◌, ◌*◌, ◌<�
 ghost use Rattle.sfs_image.specs.ImageOf.{FreshBlock};
 ghost use Rattle.sfs_image.specs.Journal.{Entry};
 ghost use Rattle.sfs_image.specs.Super.{IsLayout};
-ghost use Rattle.journal_one.specs.Calls.{IsWrite, IsSync, IsCalm, HasDoubt};
+ghost use Rattle.journal_one.specs.Calls.{IsWrite, IsSync, IsCalm};
 ghost use Rattle.journal_one.specs.Job.{IsJob, LiesInData, gate_piece, fill_count, fill_piece, table_piece};
-ghost use Rattle.journal_one.specs.Work.{job_of};
-ghost use Rattle.journal_one.specs.Known.{Leaves, IsShutIn, IsIdle, IsFilling, IsFilled, IsSealed, IsOpened, IsDurable, IsPlaced, IsCopied, IsClosing, IsClosed, IsBetween, AreFilled};
-ghost use Rattle.sfs_dev.specs.Run.{Advances};
-ghost use Rattle.sfs_dev.specs.Steps.{TearsOnly};
+ghost use Rattle.journal_one.specs.Work.{place_of, job_of};
+ghost use Rattle.journal_one.specs.Known.{Leaves, IsShutIn, IsIdle, IsFilling, IsFilled, IsSealed, IsOpened, IsDurable, IsPlaced, AreFilled};
 ghost use Rattle.journal_one.specs.Stage.{next_stage, left_to_fill, left_to_place};
 ghost use Rattle.journal_one.specs.Outcome.{FillsOn, PlacesOn};
 
 use crate::doubt::sync;
 use crate::work::{Spot, Work};
-use crate::{Doubt, Packed};
+use crate::{Doubt, Packed, Placed};
 use fmt_super::Layout;
 use sfs_dev::Disk;
 use std::marker::Model;
@@ -154,52 +152,14 @@ pub enum Put {
     Done { placed: Placed },
 }
 
-/// A slot whose records were placed in the table, by writes that may be pending.
-pub struct Placed {
-    work: Work,
-}
-
-impl Model for Placed {
-    ghost use Rattle.journal_one.specs.Job.{Job};
-
-    ghost Value = { Job };
-
-    ghost use Rattle.journal_one.specs.Work.{job_of};
-
-    ghost view = { λ placed. job_of placed.work };
-}
-
-/// A slot whose records are on the disk in the table too.
-pub struct Copied {
-    work: Work,
-}
-
-impl Model for Copied {
-    ghost use Rattle.journal_one.specs.Job.{Job};
-
-    ghost Value = { Job };
-
-    ghost use Rattle.journal_one.specs.Work.{job_of};
-
-    ghost view = { λ copied. job_of copied.work };
-}
-
-/// A slot whose gate was closed, by a write that may be pending.
-pub struct Closing {
-    work: Work,
-}
-
-impl Model for Closing {
-    ghost use Rattle.journal_one.specs.Job.{Job};
-
-    ghost Value = { Job };
-
-    ghost use Rattle.journal_one.specs.Work.{job_of};
-
-    ghost view = { λ closing. job_of closing.work };
-}
-
 impl Idle {
+    // The slot that begins here.
+    pub(crate) fn of(spot: Spot) -> Idle
+        ensures { result ≡ place_of spot }
+    {
+        Idle { spot }
+    }
+
     /// A slot of a core, by its layout. What the states say of images holds where the slot is closed
     /// in every image of this disk. It makes no device call.
     pub fn at<D: Disk>(_disk: &D, layout: &Layout, core: u32, slot: u32) -> Idle
@@ -229,6 +189,11 @@ impl Idle {
             done: 0,
         }
     }
+
+    /// Lets go of the slot.
+    pub fn leave(self) {
+        let Idle { spot: _ } = self;
+    }
 }
 
 impl Filling {
@@ -245,6 +210,11 @@ impl Filling {
         let Filling { work, done } = self;
         work.put_piece(disk, done)?;
         Ok(after_piece(work, done + 1))
+    }
+
+    /// Lets go of the slot after a doubt; only recovery goes on from it.
+    pub fn abandon(self) {
+        let Filling { work: _, done: _ } = self;
     }
 }
 
@@ -289,6 +259,11 @@ impl Filled {
         let Filled { work } = self;
         Sealed { work }
     }
+
+    /// Lets go of the slot after a doubt; only recovery goes on from it.
+    pub fn abandon(self) {
+        let Filled { work: _ } = self;
+    }
 }
 
 impl Sealed {
@@ -304,6 +279,11 @@ impl Sealed {
         let Sealed { work } = self;
         work.put_gate(disk, OPEN)?;
         Ok(Opened { work })
+    }
+
+    /// Lets go of the slot after a doubt; only recovery goes on from it.
+    pub fn abandon(self) {
+        let Sealed { work: _ } = self;
     }
 }
 
@@ -331,6 +311,11 @@ impl Opened {
         let Opened { work } = self;
         Durable { work, done: 0 }
     }
+
+    /// Lets go of the slot after a doubt; only recovery goes on from it.
+    pub fn abandon(self) {
+        let Opened { work: _ } = self;
+    }
 }
 
 impl Durable {
@@ -347,6 +332,11 @@ impl Durable {
         work.put_record(disk, done)?;
         Ok(after_record(work, done + 1))
     }
+
+    /// Lets go of the slot after a doubt; only recovery goes on from it.
+    pub fn abandon(self) {
+        let Durable { work: _, done: _ } = self;
+    }
 }
 
 // The state once so many records were placed.
@@ -361,72 +351,7 @@ fn after_record(work: Work, done: usize) -> Put
         }
     } else {
         Put::Done {
-            placed: Placed { work },
-        }
-    }
-}
-
-impl Placed {
-    /// Waits until the records are on the disk, closes the gate, and waits until that is on the disk:
-    /// a sync, a write of one byte, a sync.
-    pub fn close<D: Disk>(self, disk: &mut D) -> Result<Idle, Doubt>
-        requires large { self.place.layout.blocks ≤ (D.view disk.old).size }
-        ensures ok { IfOk result (λ idle. idle ≡ self.place) }
-        ensures advances { Advances (D.view disk.old) (D.view disk.new) }
-        ensures torn { TearsOnly (gate_piece self.place SHUT).at 1 (D.view disk.old) (D.view disk.new) }
-        ensures calm { OnOk result (IsCalm (D.view disk.new)) }
-        ensures faults { HasDoubt (D.view disk.old) (D.view disk.new) result }
-        ensures closed { OnOk result (IsPlaced self (D.view disk.old) → IsClosed self (D.view disk.new)) }
-        ensures err { OnErr result (IsPlaced self (D.view disk.old) → IsBetween self (D.view disk.new)) }
-    {
-        let Placed { work } = self;
-        sync(disk)?;
-        let Closing { work } = Copied { work }.shut_gate(disk)?;
-        sync(disk)?;
-        Ok(Idle {
-            spot: work.into_spot(),
-        })
-    }
-
-    /// Takes note of a sync that another made, after which nothing is pending. It makes no device
-    /// call.
-    pub fn copied_by<D: Disk>(self, _disk: &D) -> Copied
-        requires calm { IsCalm (D.view _disk.now) }
-        ensures ok { result ≡ self }
-        ensures copied { IsPlaced self (D.view _disk.now) → IsCopied self (D.view _disk.now) }
-    {
-        let Placed { work } = self;
-        Copied { work }
-    }
-}
-
-impl Copied {
-    /// Closes the gate: one write of one byte.
-    pub fn shut_gate<D: Disk>(self, disk: &mut D) -> Result<Closing, Doubt>
-        requires large { self.place.layout.blocks ≤ (D.view disk.old).size }
-        ensures ok { IfOk result (λ closing. closing ≡ self) }
-        ensures write { IsWrite (gate_piece self.place SHUT) (D.view disk.old) (D.view disk.new) result }
-        ensures faults { IfErr result (λ doubt. doubt.faults ≡ (D.view disk.new).faults) }
-        ensures closing { OnOk result (IsCopied self (D.view disk.old) → IsClosing self (D.view disk.new)) }
-        ensures err { OnErr result (IsCopied self (D.view disk.old) → IsBetween self (D.view disk.new)) }
-    {
-        let Copied { work } = self;
-        work.put_gate(disk, SHUT)?;
-        Ok(Closing { work })
-    }
-}
-
-impl Closing {
-    /// Takes note of a sync that another made, after which nothing is pending. It makes no device
-    /// call.
-    pub fn idle_by<D: Disk>(self, _disk: &D) -> Idle
-        requires calm { IsCalm (D.view _disk.now) }
-        ensures ok { result ≡ self.place }
-        ensures idle { IsClosing self (D.view _disk.now) → IsClosed self (D.view _disk.now) }
-    {
-        let Closing { work } = self;
-        Idle {
-            spot: work.into_spot(),
+            placed: Placed::of(work),
         }
     }
 }

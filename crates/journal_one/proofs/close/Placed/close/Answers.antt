@@ -6,7 +6,7 @@ use Rattle.journal_one.specs.Work.{job_of}
 use Rattle.journal_one.proofs.Kept.{IsLawful, synced_rests}
 use Rattle.journal_one.proofs.Spans.{Span, span_none, span_sync, span_write, span_tears}
 use Rattle.journal_one.proofs.Steps.{on_err, placed_between, closing_between, copied_then, closed_then}
-use Rattle.journal_one.proofs.slot.Placed.close.Goals as goal
+use Rattle.journal_one.proofs.close.Placed.close.Goals as goal
 
 pub returns-in_err-sync-clause-err : goal.returns-in_err-sync-clause-err
 returns-in_err-sync-clause-err g c =

@@ -6,7 +6,7 @@ use Rattle.journal_one.specs.Known.{IsBetween, IsClosing, IsCopied}
 use Rattle.journal_one.specs.Work.{job_of}
 use Rattle.journal_one.proofs.Kept.{IsLawful, written_touches, written_stands, write_ok}
 use Rattle.journal_one.proofs.Steps.{on_err, closing_then, shutting_doubted}
-use Rattle.journal_one.proofs.slot.Copied.shut_gate.Goals as goal
+use Rattle.journal_one.proofs.close.Copied.shut_gate.Goals as goal
 
 pub returns-in_err-put_gate-clause-err : goal.returns-in_err-put_gate-clause-err
 returns-in_err-put_gate-clause-err g c =
