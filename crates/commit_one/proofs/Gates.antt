@@ -9,7 +9,7 @@ use Rattle.sfs_dev.specs.Run.{Advances, CountsOn}
 use Rattle.sfs_dev.proofs.Runs.{GoesOn-trans}
 use Rattle.journal_one.specs.Calls.{IsWrite, IsSync, IsCalm}
 use Rattle.journal_one.specs.Job.{Job, fill_piece, gate_piece, table_piece, IsJob}
-use Rattle.journal_one.specs.Known.{Leaves, StandsIn, AreFilled, IsFilled, IsSealed, IsDurable, IsPlaced, IsCopied, IsClosed}
+use Rattle.journal_one.specs.Known.{Leaves, StandsIn, AreFilled, IsFilled, IsSealed, IsDurable, IsPlaced, IsCopied, IsClosing, IsClosed}
 use Rattle.journal_one.specs.Laws.{HasPieces}
 use Rattle.journal_one.proofs.Kept.{IsLawful, synced_rests, leaves_rest}
 use Rattle.journal_one.proofs.Steps.{sealed_then}
@@ -88,3 +88,50 @@ module _ (job : Job) (is : IsJob job) (parts : ℕ → Part) (new : List InodePa
 
         pub settle_leaves : IsDurable job 0 now → Leaves now (IsByItsSlot job parts new)
         settle_leaves knows content told image left = open_is_by_its_slot job is parts new change image (knows.opened content told image left) (settle_keeps.now content told image left)
+
+  -- what each moment of the closing leaves
+  abbrev New : List ℕ → Type 0
+  New image = IsByItsSlot job parts new image ⊎ IsAfter job parts new image
+
+  -- the sync before the gate
+  module _ {V E : Type 0} (old first : View) (copied : Result V E) (copy : IsSync old first copied) (lawful : IsLawful old) (leaves : Leaves old (IsByItsSlot job parts new)) where
+    pub copy_keeps : Keeps (IsByItsSlot job parts new) old first
+    copy_keeps = sync_keeps (IsByItsSlot job parts new) old first copied lawful copy leaves
+
+    pub copy_later : LaterLeaves (λ k image. New image) old first
+    copy_later = later_more (λ k image. IsByItsSlot job parts new image) (λ k image. New image) old first (λ k image from to stands. inl stands) copy_keeps.later
+
+    -- the gate
+    module _ {W F : Type 0} (second : View) (shut : Result W F) (write : IsWrite (gate_piece job.place 0) first second shut) (fits : first.now < 2 ^ 64) (knows : IsCopied job first) where
+      shut_images : (content : List ℕ) → first.content ≡ Some content → (image : List ℕ) → images second image → New image
+      shut_images content told image left =
+          let was = write.torn image left in
+          gate_shuts_or_stays job is parts new change was.0 image (copy_keeps.now content told was.0 was.1)
+          (records_in_table job is parts new change was.0 (λ k lt. knows.copied k lt content told was.0 was.1)) was.2
+
+      pub shut_tells : GoesOnTelling old second
+      shut_tells = telling_trans old first second copy_keeps.told (writes_tell (gate_piece job.place 0) first second shut write)
+
+      shut_leaves : Leaves second New
+      shut_leaves content told image left =
+          let was = writes_told (gate_piece job.place 0) first second shut write content told in
+          shut_images was.0 was.1 image left
+
+      pub shut_later : LaterLeaves (λ k image. New image) old second
+      shut_later =
+          later_trans (λ k image. New image) old first second copy_keeps.told (call_advances first second shut fits write.call) copy_later
+          (later_call (λ k image. New image) first second write.call.time (λ counts content told image left. shut_images content told image left))
+
+      -- the sync behind it
+      module _ {X G : Type 0} (now : View) (finished : Result X G) (finish : IsSync second now finished) (finish_fits : second.now < 2 ^ 64) (finish_lawful : IsLawful second) where
+        finish_keeps : Keeps New second now
+        finish_keeps = sync_keeps New second now finished finish_lawful finish shut_leaves
+
+        pub finish_tells : GoesOnTelling old now
+        finish_tells = telling_trans old second now shut_tells finish_keeps.told
+
+        pub finish_later : LaterLeaves (λ k image. New image) old now
+        finish_later = later_trans (λ k image. New image) old second now shut_tells (call_advances second now finished finish_fits finish.call) shut_later finish_keeps.later
+
+        pub finish_leaves : IsClosed job now → Leaves now (IsAfter job parts new)
+        finish_leaves closed content told image left = shut_is_after job is parts new change image (closed.idle content told image left) (finish_keeps.now content told image left)

@@ -10,7 +10,7 @@ ghost use Rattle.journal_one.specs.Stage.{left_to_fill, left_to_place};
 ghost use Rattle.commit_one.specs.Carried.{Keeps, Opens, Shuts, TakesCalls};
 ghost use Rattle.commit_one.specs.Change.{IsBefore, IsByItsSlot, IsAfter, AreFree, IsChangeOf};
 
-use journal_one::{Doubt, Durable, Fill, Filled, Filling, Placed, Put};
+use journal_one::{Doubt, Durable, Fill, Filled, Filling, Idle, Placed, Put};
 use sfs_dev::Disk;
 
 // Writes all that fills the slot.
@@ -67,4 +67,19 @@ pub fn place<D: Disk>(disk: &mut D, durable: Durable) -> Result<Placed, Doubt>
             Put::Done { placed } => return Ok(placed),
         }
     }
+}
+
+// Waits until the records are on the disk, closes the gate, and waits until that is on the disk.
+pub fn shut<D: Disk>(disk: &mut D, placed: Placed) -> Result<Idle, Doubt>
+    requires large { placed.place.layout.blocks ≤ (D.view disk.old).size }
+    ensures idle { IfOk result (λ idle. idle ≡ placed.place) }
+    ensures goes { Advances (D.view disk.old) (D.view disk.new) }
+    ensures time { TakesCalls 3 (D.view disk.old) (D.view disk.new) result }
+    ensures doubt { HasDoubt (D.view disk.old) (D.view disk.new) result }
+    ensures calm { OnOk result (IsCalm (D.view disk.new)) }
+    ensures closed { OnOk result (IsPlaced placed (D.view disk.old) → IsClosed placed (D.view disk.new)) }
+    ensures shuts { (parts : ℕ → Part) (new : List InodePart) → IsJob placed → IsChangeOf placed parts new → IsPlaced placed (D.view disk.old)
+        → Leaves (D.view disk.old) (IsByItsSlot placed parts new) → Shuts placed parts new (D.view disk.old) (D.view disk.new) result }
+{
+    placed.copy(disk)?.shut_gate(disk)?.finish(disk)
 }

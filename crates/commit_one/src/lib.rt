@@ -3,4 +3,4 @@
 
 mod commit;
 
-pub use commit::{fill, make_durable, place};
+pub use commit::{fill, make_durable, place, shut};
