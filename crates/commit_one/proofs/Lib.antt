@@ -1,0 +1,4 @@
+pub mod Gates
+pub mod Images
+pub mod Loops
+pub mod Moments

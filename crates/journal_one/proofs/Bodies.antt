@@ -1,0 +1,103 @@
+-- The pieces of a commit are read as its body.
+use Rattle.std.proofs.Common.{◌≡◌, ◌≢◌, ℕ, zero, suc, ◌+◌, ◌-◌, ◌*◌, ◌^◌, ◌<◌, ◌≤◌, Bool, true, List, [], ◌∷◌, ◌++◌, map, take, drop, length, get_or, None, Some, Option, refl, sym, ◌∙◌, ap, subst, arith, cond}
+use Rattle.std.specs.List.{flat_map}
+use Rattle.std.proofs.lemmas.List.{take_at, drop_at, take_all, take-append-le, drop-append-le, length-append, append_assoc}
+use Rattle.std.proofs.lemmas.Option.{slice_get-get_or}
+use Rattle.sfs_image.specs.Bytes.{part, zeros, u32_bytes, u64_bytes, u32s_bytes, number_from}
+use Rattle.sfs_image.specs.Journal.{Entry, head_of, AreEntries, HasEntries, HasRangesOf, number_byte, record_byte}
+use Rattle.sfs_image.specs.Laws.{record_at}
+use Rattle.sfs_image.specs.Settled.{Body, Stamped, body_in, record_in, journal_slot, slot_byte, slot_count, settled, table_byte, table_record}
+use Rattle.sfs_image.specs.Super.{slot_blocks}
+use Rattle.sfs_image.proofs.BytesLaws.{number_from-u32_bytes, number_from-u64_bytes, length-zeros}
+use Rattle.sfs_image.proofs.EntriesLaws.{read_again, ranges_have}
+use Rattle.sfs_image.proofs.FrameLaws.{part-part}
+use Rattle.sfs_image.proofs.SettledLaws.{settled_newest}
+use Rattle.journal_one.specs.Job.{Place, Job, Piece, numbers_piece, records_piece, head_piece, body_piece, fill_count, fill_piece, table_piece, no_entry, IsJob}
+use Rattle.journal_one.specs.Known.{StandsIn, IsOpenIn}
+use Rattle.journal_one.specs.Laws.{job_body, HasPieces, HasBodyOf}
+use Rattle.journal_one.proofs.Places.{LiesInSlot, body_is, body_lies, length-numbers, length-records, length-head, entry_long, few_entries}
+
+-- a part of bytes that stand
+part_of_standing : (piece : Piece) (image : List ℕ) (off n : ℕ) → StandsIn piece image → off + n ≤ length piece.bytes → part (piece.at + off) n image ≡ part off n piece.bytes
+part_of_standing piece image off n stands within = sym (part-part off n piece.at (length piece.bytes) image within) ∙ ap (part off n) stands
+
+module _ (job : Job) (image : List ℕ) (is : IsJob job) (has : HasPieces job image) where
+  slot : List ℕ
+  slot = journal_slot job.place.layout image job.place.slot
+
+  body_stands : (k : ℕ) → k < 3 → StandsIn (body_piece job k) image
+  body_stands k lt =
+      let back : length job.fresh + k - length job.fresh ≡ k = omega arith in
+      subst (λ (m : ℕ). StandsIn (body_piece job m) image) back
+      (subst (λ (p : Piece). StandsIn p image) (body_is job is (length job.fresh + k) (omega arith)) (has (length job.fresh + k) (omega arith)))
+
+  -- a part of the slot is one of the image
+  in_slot : (from n : ℕ) → from + n ≤ 4096 * slot_blocks job.place.layout.inodes → part from n slot ≡ part (slot_byte job.place.layout job.place.slot + from) n image
+  unfolding slot
+  in_slot from n within = part-part from n (slot_byte job.place.layout job.place.slot) (4096 * slot_blocks job.place.layout.inodes) image within
+
+  -- and of the slot's first block
+  in_head : (from n : ℕ) → 512 + (from + n) ≤ 4096 → from + n ≤ 16 → part (512 + from) n (part 0 4096 slot) ≡ part from n (head_piece job).bytes
+  in_head from n within few =
+      let lies = (body_lies job is 2) in
+      part-part (512 + from) n 0 4096 slot (omega arith)
+      ∙ ap (λ (k : ℕ). part k n slot) (let e : 0 + (512 + from) ≡ 512 + from = omega arith in e)
+      ∙ in_slot (512 + from) n (omega arith)
+      ∙ ap (λ (k : ℕ). part k n image) (let e : slot_byte job.place.layout job.place.slot + (512 + from) ≡ slot_byte job.place.layout job.place.slot + 512 + from = omega arith in e)
+      ∙ part_of_standing (head_piece job) image from n (body_stands 2 (omega arith)) (omega (arith, length-head job is))
+
+  few : length job.entries ≤ job.place.layout.inodes
+  few = few_entries job.place.layout.inodes job.entries is.are
+
+  count_read : (head_of (part 0 4096 slot)).count ≡ length job.entries
+  count_read =
+      let bytes : part 0 4 (head_piece job).bytes ≡ u32_bytes (length job.entries) = refl in
+      ap (number_from 0 4) (in_head 0 4 (omega arith) (omega arith) ∙ bytes)
+      ∙ number_from-u32_bytes (length job.entries) [] (omega (arith, few, is.place.fits.ranges.inodes_high))
+
+  stamp_read : (head_of (part 0 4096 slot)).stamp ≡ job.stamp
+  unfolding zeros
+  stamp_read =
+      let bytes : part 8 8 (head_piece job).bytes ≡ u64_bytes job.stamp = refl in
+      ap (number_from 0 8) (in_head 8 8 (omega arith) (omega arith) ∙ bytes)
+      ∙ number_from-u64_bytes job.stamp [] is.stamp
+
+  ranges : HasRangesOf job.place.layout.inodes job.entries slot
+  ranges = record {
+    count = count_read;
+    long = is.long;
+    numbers =
+        let lies = body_lies job is 0 in
+        in_slot (number_byte 0) (4 * length job.entries) (omega (arith, lies.begins, lies.fits, length-numbers job is))
+        ∙ ap (λ (n : ℕ). part (numbers_piece job).at n image) (sym (length-numbers job is))
+        ∙ body_stands 0 (omega arith);
+    records =
+        let lies = body_lies job is 1 in
+        in_slot (record_byte job.place.layout.inodes 0) (512 * length job.entries) (omega (arith, lies.begins, lies.fits, length-records job is))
+        ∙ ap (λ (n : ℕ). part (records_piece job).at n image) (sym (length-records job is))
+        ∙ body_stands 1 (omega arith);
+  }
+
+  pub body_read : HasBodyOf job image
+  unfolding slot
+  body_read =
+      let again = read_again job.place.layout.inodes job.entries slot (omega (arith, is.place.fits.ranges.inodes_high)) is.are (ranges_have job.place.layout.inodes job.entries slot ranges) in
+      let entries = again.again in
+      let stamp = stamp_read in
+      record { count = again.count; numbers = again.sound; body = λ i. record { stamp = stamp i; entries = entries i } }
+
+  -- what an open slot settles
+  pub slot_settles : (i : ℕ) (ours : Stamped (List ℕ)) → IsOpenIn job.place image → record_in i (job_body job) ≡ Some ours
+      → ((k : ℕ) (other : Stamped (List ℕ)) → k < slot_count job.place.layout → k ≢ job.place.slot → record_at job.place.layout image i k ≡ Some other → other.stamp < ours.stamp)
+      → settled job.place.layout image i ≡ ours.value
+  slot_settles i ours opened gives others =
+      let here : record_at job.place.layout image i job.place.slot ≡ Some ours =
+      ap (λ (b : Bool). cond b (record_in i (body_in job.place.layout.inodes (journal_slot job.place.layout image job.place.slot))) None) opened
+      ∙ ap (record_in i) body_read.body ∙ gives in
+      settled_newest job.place.layout image i job.place.slot ours is.place.within here others
+
+-- a placed record is the table's
+pub placed_in_table : (job : Job) (image : List ℕ) (k : ℕ) → IsJob job → k < length job.entries → StandsIn (table_piece job k) image
+    → table_record job.place.layout image (get_or job.entries k no_entry).inode ≡ (get_or job.entries k no_entry).bytes
+placed_in_table job image k is lt stands =
+    ap (λ (n : ℕ). part (table_byte job.place.layout (get_or job.entries k no_entry).inode) n image) (sym (entry_long job is k lt)) ∙ stands

@@ -1,0 +1,198 @@
+-- What each step of a commit makes of what is known of the slot.
+use Rattle.std.proofs.Common.{◌≡◌, ℕ, ◌+◌, ◌<◌, true, false, length, Result, Ok, Err, refl, sym, ◌∙◌, subst, arith, inl, inr}
+use Rattle.std.specs.Prelude.{OnErr}
+use Rattle.std.proofs.lemmas.Bool.{cases_lt}
+use Rattle.sfs_dev.specs.Disk.{View}
+use Rattle.journal_one.specs.Calls.{IsCalm}
+use Rattle.journal_one.specs.Job.{Place, Job, Piece, fill_count, fill_piece, table_piece, gate_piece, IsJob}
+use Rattle.journal_one.specs.Known.{Reads, Leaves, StandsIn, IsShutIn, IsOpenIn, AreWritten, AreOnDisk, AreFilled, IsFilling, IsFilled, IsSealed, IsOpened, IsDurable, IsPlaced, IsCopied, IsClosing, IsClosed, IsBetween}
+use Rattle.journal_one.proofs.Apart.{AreApart, apart_from_gate, table_from_gate, table_from_fill, tables_apart, fills_apart, AreApart-swap}
+use Rattle.journal_one.proofs.Kept.{Touches, Rests, leaves_kept, reads_kept, leaves_rest, reads_rest, leaves_from_reads, stands_kept, gate_stays, gate_put}
+
+-- on a fault, what is so in any case
+pub on_err : {V E : Type 0} (result : Result V E) (P : Type 0) → P → OnErr result P
+on_err (Ok value) P holds = tt
+on_err (Err fault) P holds = holds
+
+-- no device call was made
+pub Rests-refl : (disk : View) → Rests disk disk
+Rests-refl disk = record { content = refl; left = λ content told image left. left }
+
+-- pieces on the disk stay there through a write elsewhere, and through a sync
+pub on_disk_kept : (n : ℕ) (piece : ℕ → Piece) (written : Piece) (old new : View) → Touches written old new → ((k : ℕ) → k < n → AreApart written (piece k))
+    → AreOnDisk n piece old → AreOnDisk n piece new
+on_disk_kept n piece written old new touches apart knows k lt =
+    leaves_kept written old new (StandsIn (piece k)) touches (λ was image same stands. stands_kept written (piece k) was image (apart k lt) same stands) (knows k lt)
+
+pub written_kept : (n : ℕ) (piece : ℕ → Piece) (written : Piece) (old new : View) → Touches written old new → ((k : ℕ) → k < n → AreApart written (piece k))
+    → AreWritten n piece old → AreWritten n piece new
+written_kept n piece written old new touches apart knows k lt =
+    reads_kept written old new (StandsIn (piece k)) touches (λ was image same stands. stands_kept written (piece k) was image (apart k lt) same stands) (knows k lt)
+
+pub on_disk_rest : (n : ℕ) (piece : ℕ → Piece) (old new : View) → Rests old new → AreOnDisk n piece old → AreOnDisk n piece new
+on_disk_rest n piece old new rests knows k lt = leaves_rest old new (StandsIn (piece k)) rests (knows k lt)
+
+pub written_rest : (n : ℕ) (piece : ℕ → Piece) (old new : View) → Rests old new → AreWritten n piece old → AreWritten n piece new
+written_rest n piece old new rests knows k lt = reads_rest old new (StandsIn (piece k)) rests (knows k lt)
+
+-- and where nothing is pending, what was written is on the disk
+pub on_disk_by_sync : (n : ℕ) (piece : ℕ → Piece) (disk : View) → IsCalm disk → AreWritten n piece disk → AreOnDisk n piece disk
+on_disk_by_sync n piece disk calm knows k lt = leaves_from_reads disk (StandsIn (piece k)) calm (knows k lt)
+
+-- one piece more was written
+written_one : (n : ℕ) (piece : ℕ → Piece) (disk : View) → AreWritten n piece disk → Reads disk (StandsIn (piece n)) → AreWritten (n + 1) piece disk
+written_one n piece disk before here k lt =
+    elim (cases_lt k n) [
+      | inl low ↦ before k low
+      | inr high ↦ subst (λ (m : ℕ). Reads disk (StandsIn (piece m))) (let e : n ≡ k = omega arith in e) here
+    ]
+
+-- the gate stays closed, and open, through a write elsewhere
+shut_kept : (place : Place) (written : Piece) (old new : View) → Touches written old new → AreApart written (gate_piece place 0) → Leaves old (IsShutIn place) → Leaves new (IsShutIn place)
+shut_kept place written old new touches apart =
+    leaves_kept written old new (IsShutIn place) touches (λ was image same shut. gate_stays place written 0 was image apart same ∙ shut)
+
+open_kept : (place : Place) (written : Piece) (old new : View) → Touches written old new → AreApart written (gate_piece place 0) → Leaves old (IsOpenIn place) → Leaves new (IsOpenIn place)
+open_kept place written old new touches apart =
+    leaves_kept written old new (IsOpenIn place) touches (λ was image same open_then. gate_stays place written 0 was image apart same ∙ open_then)
+
+module _ (job : Job) (is : IsJob job) where
+  -- a piece that is written
+  module _ (done : ℕ) (old new : View) (touches : Touches (fill_piece job done) old new) (within : done < fill_count job)
+      (whole : done < length job.fresh → length (fill_piece job done).bytes ≡ 4096) (knows : IsFilling job done old) where
+    apart : (k : ℕ) → k < done → AreApart (fill_piece job done) (fill_piece job k)
+    apart k lt = fills_apart job is done k (λ same. let e = same in omega arith) knows.own within (omega arith) whole (λ low. knows.whole k lt low)
+
+    pub filling_kept : IsFilling job done new
+    filling_kept = record {
+      own = knows.own;
+      whole = knows.whole;
+      shut = shut_kept job.place (fill_piece job done) old new touches (apart_from_gate job is done 0) knows.shut;
+      written = written_kept done (fill_piece job) (fill_piece job done) old new touches apart knows.written;
+    }
+
+    pub filling_more : Reads new (StandsIn (fill_piece job done)) → IsFilling job (done + 1) new
+    filling_more stands = record {
+      own = knows.own;
+      whole = λ k lt low. elim (cases_lt k done) [
+        | inl below ↦ knows.whole k below low
+        | inr high ↦
+            let e : done ≡ k = omega arith in
+            subst (λ (m : ℕ). m < length job.fresh → length (fill_piece job m).bytes ≡ 4096) e whole low
+      ];
+      shut = filling_kept.shut;
+      written = written_one done (fill_piece job) new filling_kept.written stands;
+    }
+
+  pub filling_rests : (done : ℕ) (old new : View) → Rests old new → IsFilling job done old → IsFilling job done new
+  filling_rests done old new rests knows = record {
+    own = knows.own;
+    whole = knows.whole;
+    shut = leaves_rest old new (IsShutIn job.place) rests knows.shut;
+    written = written_rest done (fill_piece job) old new rests knows.written;
+  }
+
+  pub sealed_then : (old new : View) → Rests old new → IsCalm new → IsFilled job old → IsSealed job new
+  sealed_then old new rests calm knows =
+      let then = filling_rests (fill_count job) old new rests knows in
+      record { shut = then.shut; filled = on_disk_by_sync (fill_count job) (fill_piece job) new calm then.written }
+
+  -- a write at the gate
+  filled_kept : (byte : ℕ) (old new : View) → Touches (gate_piece job.place byte) old new → AreFilled job old → AreFilled job new
+  filled_kept byte old new touches =
+      on_disk_kept (fill_count job) (fill_piece job) (gate_piece job.place byte) old new touches
+      (λ k lt. AreApart-swap (fill_piece job k) (gate_piece job.place byte) (apart_from_gate job is k byte))
+
+  copied_kept : (byte : ℕ) (old new : View) → Touches (gate_piece job.place byte) old new → AreOnDisk (length job.entries) (table_piece job) old → AreOnDisk (length job.entries) (table_piece job) new
+  copied_kept byte old new touches =
+      on_disk_kept (length job.entries) (table_piece job) (gate_piece job.place byte) old new touches
+      (λ k lt. AreApart-swap (table_piece job k) (gate_piece job.place byte) (table_from_gate job is k byte))
+
+  pub opening_doubted : (old new : View) → Touches (gate_piece job.place 1) old new → IsSealed job old → AreFilled job new
+  opening_doubted old new touches knows = filled_kept 1 old new touches knows.filled
+
+  pub opened_then : (old new : View) → Touches (gate_piece job.place 1) old new → Reads new (StandsIn (gate_piece job.place 1)) → IsSealed job old → IsOpened job new
+  opened_then old new touches stands knows = record {
+    opened = λ content told. gate_put job.place 1 content (stands content told);
+    filled = filled_kept 1 old new touches knows.filled;
+  }
+
+  pub opened_rests : (old new : View) → Rests old new → IsOpened job old → IsOpened job new
+  opened_rests old new rests knows = record {
+    opened = reads_rest old new (IsOpenIn job.place) rests knows.opened;
+    filled = on_disk_rest (fill_count job) (fill_piece job) old new rests knows.filled;
+  }
+
+  pub durable_then : (old new : View) → Rests old new → IsCalm new → IsOpened job old → IsDurable job 0 new
+  durable_then old new rests calm knows =
+      let then = opened_rests old new rests knows in
+      record { opened = leaves_from_reads new (IsOpenIn job.place) calm then.opened; filled = then.filled; placed = λ k lt. absurd (omega arith) }
+
+  -- a record that is placed
+  module _ (done : ℕ) (old new : View) (touches : Touches (table_piece job done) old new) (within : done < length job.entries) (knows : IsDurable job done old) where
+    pub durable_kept : IsDurable job done new
+    durable_kept = record {
+      opened = open_kept job.place (table_piece job done) old new touches (table_from_gate job is done 0) knows.opened;
+      filled = on_disk_kept (fill_count job) (fill_piece job) (table_piece job done) old new touches (λ k lt. table_from_fill job is done k within) knows.filled;
+      placed = written_kept done (table_piece job) (table_piece job done) old new touches (λ k lt. tables_apart job is done k (λ same. let e = same in omega arith) within (omega arith)) knows.placed;
+    }
+
+    pub durable_more : Reads new (StandsIn (table_piece job done)) → IsDurable job (done + 1) new
+    durable_more stands = record {
+      opened = durable_kept.opened;
+      filled = durable_kept.filled;
+      placed = written_one done (table_piece job) new durable_kept.placed stands;
+    }
+
+  pub durable_rests : (done : ℕ) (old new : View) → Rests old new → IsDurable job done old → IsDurable job done new
+  durable_rests done old new rests knows = record {
+    opened = leaves_rest old new (IsOpenIn job.place) rests knows.opened;
+    filled = on_disk_rest (fill_count job) (fill_piece job) old new rests knows.filled;
+    placed = written_rest done (table_piece job) old new rests knows.placed;
+  }
+
+  pub copied_then : (old new : View) → Rests old new → IsCalm new → IsPlaced job old → IsCopied job new
+  copied_then old new rests calm knows =
+      let then = durable_rests (length job.entries) old new rests knows in
+      record { opened = then.opened; filled = then.filled; copied = on_disk_by_sync (length job.entries) (table_piece job) new calm then.placed }
+
+  pub closing_then : (old new : View) → Touches (gate_piece job.place 0) old new → Reads new (StandsIn (gate_piece job.place 0)) → IsCopied job old → IsClosing job new
+  closing_then old new touches stands knows = record {
+    shut = λ content told. gate_put job.place 0 content (stands content told);
+    filled = filled_kept 0 old new touches knows.filled;
+    copied = copied_kept 0 old new touches knows.copied;
+  }
+
+  -- between the slot and the table: where the table has the records, and where the gate is open
+  between_copied : (disk : View) → AreFilled job disk → AreOnDisk (length job.entries) (table_piece job) disk → IsBetween job disk
+  between_copied disk filled copied = record { filled = filled; copied = λ k lt content told image left shut. copied k lt content told image left }
+
+  pub shutting_doubted : (old new : View) → Touches (gate_piece job.place 0) old new → IsCopied job old → IsBetween job new
+  shutting_doubted old new touches knows = between_copied new (filled_kept 0 old new touches knows.filled) (copied_kept 0 old new touches knows.copied)
+
+  pub placed_between : (old new : View) → Rests old new → IsPlaced job old → IsBetween job new
+  placed_between old new rests knows =
+      let then = durable_rests (length job.entries) old new rests knows in
+      record {
+        filled = then.filled;
+        copied = λ k lt content told image left shut.
+            let never : true ≡ false = sym (then.opened content told image left) ∙ shut in
+            absurd (cc);
+      }
+
+  pub closing_between : (old new : View) → Rests old new → IsClosing job old → IsBetween job new
+  closing_between old new rests knows =
+      between_copied new (on_disk_rest (fill_count job) (fill_piece job) old new rests knows.filled) (on_disk_rest (length job.entries) (table_piece job) old new rests knows.copied)
+
+  pub closing_rests : (old new : View) → Rests old new → IsClosing job old → IsClosing job new
+  closing_rests old new rests knows = record {
+    shut = reads_rest old new (IsShutIn job.place) rests knows.shut;
+    filled = on_disk_rest (fill_count job) (fill_piece job) old new rests knows.filled;
+    copied = on_disk_rest (length job.entries) (table_piece job) old new rests knows.copied;
+  }
+
+  pub closed_then : (old new : View) → Rests old new → IsCalm new → IsClosing job old → IsClosed job new
+  closed_then old new rests calm knows = record {
+    idle = leaves_from_reads new (IsShutIn job.place) calm (reads_rest old new (IsShutIn job.place) rests knows.shut);
+    copied = on_disk_rest (length job.entries) (table_piece job) old new rests knows.copied;
+  }

@@ -1,0 +1,37 @@
+use Rattle.std.proofs.Common.{◌≤◌, Ok, subst, sym, arith}
+use Rattle.journal_one.specs.Job.{Job, gate_piece}
+use Rattle.journal_one.specs.Calls.{IsWrite}
+use Rattle.journal_one.specs.declared.doubt.Doubt.{Doubt}
+use Rattle.journal_one.specs.Known.{IsBetween, IsClosing, IsCopied}
+use Rattle.journal_one.specs.Work.{job_of}
+use Rattle.journal_one.proofs.Kept.{IsLawful, written_touches, written_stands, write_ok}
+use Rattle.journal_one.proofs.Steps.{on_err, closing_then, shutting_doubted}
+use Rattle.journal_one.proofs.close.Copied.shut_gate.Goals as goal
+
+pub returns-in_err-put_gate-clause-err : goal.returns-in_err-put_gate-clause-err
+returns-in_err-put_gate-clause-err g c =
+    let laws = g.met.D.Disk g.world.𝓛 g.world.𝓜 g.world.𝓡 ((λ s x. x), (λ x. x), (λ x. x), λ x. x) in
+    let job = job_of c.self.inside.work in
+    let old = g.D.Disk.view c.args.disk.now in
+    let new = g.D.Disk.view c.put_gate.new.disk in
+    let lawful : IsLawful old = record { whole = laws.whole c.args.disk.now; read_is_left = laws.read_is_left c.args.disk.now } in
+    let large : job.place.layout.blocks ≤ old.size = subst (λ (j : Job). j.place.layout.blocks ≤ old.size) (sym c.self.view_is) c.requires.large in
+    let touches = written_touches (gate_piece (job_of c.self.inside.work).place 0) old new (let w = c.put_gate.ensures.within in omega (arith, w, large)) lawful c.put_gate.result c.put_gate.ensures.write in
+    on_err c.from_residual.result _ (subst (λ (j : Job). IsCopied j old → IsBetween j new) c.self.view_is (shutting_doubted job c.self.inside.work.sound old new touches))
+
+pub returns-clause-write : goal.returns-clause-write
+returns-clause-write g c =
+    let same = subst (λ (j : Job). IsWrite {V = Unit {0}} {E = Doubt} (gate_piece j.place 0) (g.D.Disk.view c.args.disk.now) (g.D.Disk.view c.put_gate.new.disk) (Ok c.in_ok-put_gate.field-0)) c.self.view_is c.in_ok-put_gate.ensures.write in
+    write_ok _ (g.D.Disk.view c.args.disk.now) (g.D.Disk.view c.put_gate.new.disk) c.in_ok-put_gate.field-0 _ same
+
+pub returns-clause-closing : goal.returns-clause-closing
+returns-clause-closing g c =
+    let laws = g.met.D.Disk g.world.𝓛 g.world.𝓜 g.world.𝓡 ((λ s x. x), (λ x. x), (λ x. x), λ x. x) in
+    let job = job_of c.self.inside.work in
+    let old = g.D.Disk.view c.args.disk.now in
+    let new = g.D.Disk.view c.put_gate.new.disk in
+    let lawful : IsLawful old = record { whole = laws.whole c.args.disk.now; read_is_left = laws.read_is_left c.args.disk.now } in
+    let large : job.place.layout.blocks ≤ old.size = subst (λ (j : Job). j.place.layout.blocks ≤ old.size) (sym c.self.view_is) c.requires.large in
+    let touches = written_touches (gate_piece (job_of c.self.inside.work).place 0) old new (let w = c.put_gate.ensures.within in omega (arith, w, large)) lawful c.put_gate.result c.put_gate.ensures.write in
+    let stands = written_stands (gate_piece (job_of c.self.inside.work).place 0) old new (let w = c.put_gate.ensures.within in omega (arith, w, large)) lawful c.in_ok-put_gate.ensures.write.ok in
+    subst (λ (j : Job). IsCopied j old → IsClosing j new) c.self.view_is (closing_then job c.self.inside.work.sound old new touches stands)

@@ -1,0 +1,10 @@
+use Rattle.std.proofs.Common.{arith}
+use Rattle.journal_one.proofs.laws.fillings_begin.Goals as goal
+
+pub returns : goal.returns
+returns g c idle own = record {
+  own = own;
+  whole = λ k lt low. absurd (omega arith);
+  shut = idle;
+  written = λ k lt. absurd (omega arith);
+}

@@ -1,0 +1,8 @@
+pub mod Calls
+pub mod Job
+pub mod Known
+pub mod Laws
+pub mod Outcome
+pub mod Packed
+pub mod Stage
+pub mod Work

@@ -1,0 +1,30 @@
+// What follows from what the states say.
+ghost use Rattle.std.specs.Prelude.{◌≡◌};
+ghost use Rattle.journal_one.specs.Job.{HaveOwnBlocks};
+ghost use Rattle.journal_one.specs.Known.{IsIdle, IsFilling};
+ghost use Rattle.journal_one.specs.Laws.{BodiesAreRead, OpenSlotsSettle, PlacedRecordsAreInTheTable};
+
+use crate::Filling;
+use sfs_dev::Disk;
+
+/// A slot that was idle on a disk is filling there once a commit has begun that writes no block
+/// twice. It makes no device call.
+pub fn fillings_begin<D: Disk>(filling: &Filling, _disk: &D)
+    requires { filling.now.done ≡ 0 }
+    ensures { IsIdle filling.now.job.place (D.view _disk.now) → HaveOwnBlocks filling.now.job.fresh → IsFilling filling.now.job 0 (D.view _disk.now) }
+{}
+
+/// Where the pieces of a commit stand in an image, its slot has the commit stamp and the records.
+pub fn bodies_are_read()
+    ensures { BodiesAreRead }
+{}
+
+/// A record of an open slot is settled where no other open slot has one with a commit stamp as great.
+pub fn open_slots_settle()
+    ensures { OpenSlotsSettle }
+{}
+
+/// A record that was placed is the table's.
+pub fn placed_records_are_in_the_table()
+    ensures { PlacedRecordsAreInTheTable }
+{}
