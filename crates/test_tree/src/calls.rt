@@ -2,7 +2,7 @@
 ghost use Rattle.std.specs.Prelude.{◌<◌, ◌≤◌, IfOk};
 ghost use Rattle.sfs_tree.specs.Step.{IsReadable};
 
-use script::text;
+use script::{text, tree_text};
 use sfs_base::{Chunk, CoreId, Kind, Name, NodeId, Stamp};
 use sfs_tree::{Call, Entry, History, Reply, Tree};
 use std::alloc::Global;
@@ -148,6 +148,11 @@ impl Trial {
         requires readable { IsReadable call.now }
     {
         Ok(self.tree.step(CoreId(core), call)?)
+    }
+
+    // The text of the tree.
+    pub(crate) fn tree_text(&self) -> Result<Vec<u8>, Fail> {
+        Ok(tree_text(self.alloc, &self.tree)?)
     }
 
     // The text of a call of a core with its reply, behind the stamp 0.

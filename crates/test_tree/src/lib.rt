@@ -25,3 +25,5 @@ mod sweep;
 mod texts;
 #[cfg(test)]
 mod trees;
+#[cfg(test)]
+mod written;
