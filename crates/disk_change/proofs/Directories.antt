@@ -2,11 +2,12 @@
 use Rattle.std.proofs.Common.{◌≡◌, ℕ, zero, suc, ◌+◌, ◌*◌, ◌<◌, Bool, true, false, List, [], ◌∷◌, ◌++◌, length, get_or, take, drop, map, replicate, filter_map, reverse, Option, Some, None, refl, sym, ap, ◌∙◌, arith, add-one}
 use Rattle.std.specs.Prelude.{option_to_list}
 use Rattle.std.specs.List.{range_with_len, cons_option}
-use Rattle.std.proofs.lemmas.List.{append_assoc, append-nil, take_more, reverse-append}
+use Rattle.std.proofs.lemmas.List.{append_assoc, append-nil, take_more, reverse-append, length-append, length-replicate}
+use Rattle.std.proofs.lemmas.List.FromFn.{length-map-range_with_len}
 use Rattle.std.proofs.lemmas.List.Elements.{filter_map-append}
 use Rattle.sfs_image.specs.Slot.{Row}
 use Rattle.absorb.specs.declared.nets.NetRow.{NetRow}
-use Rattle.disk_change.specs.Directory.{block_moved, fill_front, rows_left, is_touched, blocks_filled, rows_behind, blocks_touched, block_added, empty_block}
+use Rattle.disk_change.specs.Directory.{block_moved, fill_front, rows_left, is_touched, blocks_filled, rows_behind, blocks_touched, block_added, empty_block, blocks_for, rows_new, directory_blocks, directory_touched}
 
 -- what a function gives of one item more comes last
 pub filter_map_more : {X Y : Type 0} (f : X → Option Y) (xs : List X) (i : ℕ) (d : X) → i < length xs → filter_map f (take (i + 1) xs) ≡ filter_map f (take i xs) ++ option_to_list (f (get_or xs i d))
@@ -70,3 +71,15 @@ reverse_twice (x ∷ xs) = ap reverse (reverse-append (x ∷ []) xs) ∙ reverse
 pub map_itself : {X : Type 0} (xs : List X) → map (λ y. y) xs ≡ xs
 map_itself [] = refl
 map_itself (x ∷ xs) = ap (λ rest. x ∷ rest) (map_itself xs)
+
+-- each block is said to change or not
+pub length-directory : (directories : List ℕ) (net : List NetRow) (blocks : List (List (Option Row))) → length (directory_touched directories net blocks) ≡ length (directory_blocks directories net blocks)
+length-directory directories net blocks =
+    let rest = rows_behind directories net blocks (rows_new directories net) in
+    length-append (blocks_touched directories net blocks (rows_new directories net)) (replicate (blocks_for rest) true)
+    ∙ (λ i. one_each blocks (rows_new directories net) i + (length-replicate (blocks_for rest) true ∙ sym (length-map-range_with_len (block_added rest) 0 (blocks_for rest))) i)
+    ∙ sym (length-append (blocks_filled directories net blocks (rows_new directories net)) (map (block_added rest) (range_with_len 0 (blocks_for rest))))
+  where
+    one_each : (blocks : List (List (Option Row))) (rows : List Row) → length (blocks_touched directories net blocks rows) ≡ length (blocks_filled directories net blocks rows)
+    one_each [] rows = refl
+    one_each (block ∷ blocks) rows = ap suc (one_each blocks _)

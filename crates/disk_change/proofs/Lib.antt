@@ -3,3 +3,4 @@ pub mod Counted
 pub mod Directories
 pub mod Keyed
 pub mod Names
+pub mod Rewriting

@@ -1,8 +1,11 @@
 pub mod Coming
+pub mod CountNets
 pub mod Directory
 pub mod Links
 pub mod Lists
 pub mod Nodes
 pub mod OldKept
 pub mod Pages
+pub mod Planned
 pub mod Seat
+pub mod Seated

@@ -1,5 +1,5 @@
 -- What a commit makes of one node, before it has numbers and fresh blocks.
-use Rattle.std.specs.Prelude.{ℕ, ◌*◌, ◌==◌, ◌≤◌, ◌&&◌, ◌||◌, not, nat_le, nat_lt, suc, Bool, true, false, is_none, List, [], ◌∷◌, length, map, take, replicate, filter_map, slice_index_or, Option, Some, None, option_map, if◌then◌else◌}
+use Rattle.std.specs.Prelude.{ℕ, ◌*◌, ◌==◌, ◌≤◌, ◌&&◌, ◌||◌, not, nat_le, nat_lt, min, suc, Bool, true, false, is_none, List, [], ◌∷◌, length, map, take, replicate, filter_map, slice_index_or, Option, Some, None, option_map, if◌then◌else◌}
 use Rattle.std.specs.List.{list_all, range_with_len}
 use Rattle.std.specs.Option.{option_map_or}
 use Rattle.sfs_base.specs.declared.numbers.Kind.{Kind}
@@ -25,12 +25,12 @@ end_of (block ∷ blocks) = if has_no_row block && end_of blocks == 0 then 0 els
 -- what is said of block n of a directory: it is rewritten where it changes, or where it is there behind the last one with a row
 abbrev pub block_said : (ℕ → ℕ) → List (List (Option Row)) → List Bool → ℕ → Option ChangedBlock
 block_said pointers blocks touched n =
-    if nat_lt n FILE_BLOCKS && (slice_index_or touched n false || (nat_le (end_of blocks) n && not (pointers n == 0)))
+    if slice_index_or touched n false || (nat_le (end_of blocks) n && not (pointers n == 0))
     then Some (record { block = n; is_zero = has_no_row (slice_index_or blocks n []) }) else None
 
 -- the blocks of a directory that are rewritten
 abbrev pub directory_changed : (ℕ → ℕ) → List (List (Option Row)) → List Bool → List ChangedBlock
-directory_changed pointers blocks touched = filter_map (block_said pointers blocks touched) (range_with_len 0 (length blocks))
+directory_changed pointers blocks touched = filter_map (block_said pointers blocks touched) (range_with_len 0 (min (length blocks) FILE_BLOCKS))
 
 -- what is said of a page: it is rewritten, and all zeros or not
 abbrev pub page_said : Page → ChangedBlock

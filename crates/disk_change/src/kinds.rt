@@ -11,7 +11,9 @@ use sfs_base::{Kind, NoMemory, NodeId};
 use std::alloc::Global;
 use std::marker::Model;
 
-// The byte of a directory's record.
+// The bytes of a file's and of a directory's record.
+pub(crate) const FILE: u8 = 1;
+
 pub(crate) const DIRECTORY: u8 = 2;
 
 // The directories among the nodes that a commit concerns: those that have an inode, and those that

@@ -1,7 +1,9 @@
 //! What a commit writes: from net changes to the records and blocks of a transaction.
 #![tactic(auto)]
 
+mod begun;
 mod block;
+mod change;
 mod directory;
 mod directory_net;
 mod enter;
@@ -11,8 +13,11 @@ mod links;
 mod net_list;
 mod old;
 mod pages;
+mod plans;
 mod rewritten;
+mod seat;
 
+pub use change::{DiskChange, need};
 pub use directory_net::DirectoryNet;
 pub use enter::{Enter, EnterList};
 pub use files::{FileChange, FileChangeList};

@@ -93,7 +93,7 @@ fn linked_by(directories: &Directories, directory: NodeId, child: Option<NodeId>
 }
 
 // How often a number stands in an ascending list.
-fn times_of(numbers: &[u32], number: u32) -> u64
+pub(crate) fn times_of(numbers: &[u32], number: u32) -> u64
     requires { IsSorted nat_cmp numbers.now }
     ensures { result ≡ times_in numbers.now number }
 {

@@ -104,4 +104,11 @@ impl OldDisk {
             Err(_) => None,
         }
     }
+
+    // The entries, ascending by node.
+    pub(crate) fn into_vec(self) -> Vec<OldEntry>
+        ensures { result.items ≡ self.items }
+    {
+        self.items
+    }
 }

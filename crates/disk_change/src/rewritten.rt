@@ -1,5 +1,6 @@
 // Which blocks of a node a commit rewrites.
 ghost use Rattle.std.specs.Prelude.{◌≡◌, ◌≤◌, ◌<◌, length, IfOk};
+ghost use Rattle.sfs_image.specs.Seen.{FILE_BLOCKS};
 ghost use Rattle.block_map.specs.Kept.{pointer_kept};
 ghost use Rattle.disk_change.specs.Seat.{has_no_row, end_of as rows_end, directory_changed as blocks_changed, file_changed as pages_changed, block_said, page_said as said_of_page};
 
@@ -27,9 +28,11 @@ pub(crate) fn is_empty(block: &SlotBlock) -> bool
 pub(crate) fn end_of(blocks: &[SlotBlock]) -> usize
     ensures { result ≡ rows_end blocks.now }
 {
-    let mut end = blocks.len();
-    while end > 0 && is_empty(&blocks[end - 1]) {
-        end -= 1;
+    let mut end = 0;
+    for n in 0..blocks.len() {
+        if !is_empty(&blocks[n]) {
+            end = n + 1;
+        }
     }
     end
 }
@@ -48,18 +51,37 @@ pub(crate) fn directory_changed(
 {
     let mut changed = Changed::new(alloc);
     let end = end_of(blocks);
-    let count = blocks.len().min(LARGEST as usize);
-    changed.reserve(count as u32)?;
-    for n in 0..count {
-        let is_behind = n >= end && block_at(inode, tables, n as u32) != 0;
-        if touched[n] || is_behind {
-            changed.push(ChangedBlock {
-                block: n as u32,
-                is_zero: is_empty(&blocks[n]),
-            });
+    for n in 0..blocks.len().min(LARGEST as usize) {
+        if let Some(one) = said_of(inode, tables, blocks, touched, end, n) {
+            changed.reserve(1)?;
+            changed.push(one);
         }
     }
     Ok(changed)
+}
+
+// What is said of a block of a directory, where it is rewritten.
+fn said_of(
+    inode: &Inode,
+    tables: &Tables,
+    blocks: &[SlotBlock],
+    touched: &[bool],
+    end: usize,
+    n: usize,
+) -> Option<ChangedBlock>
+    requires touched { length touched.now ≡ length blocks.now }
+    requires end { end ≡ rows_end blocks.now }
+    requires place { n < length blocks.now }
+    requires within { n < FILE_BLOCKS }
+    ensures { result ≡ block_said (pointer_kept inode.now tables.now.items) blocks.now touched.now n }
+{
+    if !touched[n] && (n < end || block_at(inode, tables, n as u32) == 0) {
+        return None;
+    }
+    Some(ChangedBlock {
+        block: n as u32,
+        is_zero: is_empty(&blocks[n]),
+    })
 }
 
 // The blocks of a file that are rewritten.
@@ -68,8 +90,8 @@ pub(crate) fn file_changed(alloc: Global, pages: &PageList) -> Result<Changed, N
 {
     let pages = pages.as_slice();
     let mut changed = Changed::new(alloc);
-    changed.reserve(pages.len() as u32)?;
     for page in pages {
+        changed.reserve(1)?;
         changed.push(page_said(page));
     }
     Ok(changed)

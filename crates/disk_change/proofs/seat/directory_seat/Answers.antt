@@ -1,0 +1,41 @@
+use Rattle.std.proofs.Common.{◌≡◌, sym, ap, ◌∙◌, length, take, refl, List, ℕ}
+use Rattle.block_map.specs.Kept.{pointer_kept}
+use Rattle.sfs_image.specs.Inode.{Inode}
+use Rattle.absorb.specs.declared.nets.NetRow.{NetRow}
+use Rattle.disk_change.specs.Directory.{directory_blocks, directory_touched}
+use Rattle.disk_change.specs.Links.{links_with, links_after, times_in}
+use Rattle.disk_change.specs.Seat.{end_of, directory_changed}
+use Rattle.disk_change.specs.Seated.{size_of_blocks, net_of_node}
+use Rattle.disk_change.proofs.Directories.{length-directory}
+use Rattle.disk_change.proofs.seat.directory_seat.Goals as goal
+
+pub directory_changed-requires : goal.directory_changed-requires
+directory_changed-requires c =
+    ap length (c.deref-2.ensures.value ∙ c.in_ok-after.ensures.touched) ∙ length-directory c.args.plans.now.directories c.net_of-net.result.now c.begun.inside.slots.items
+    ∙ sym (ap length (c.deref.ensures.value ∙ c.in_ok-after.ensures.blocks))
+
+pub returns : goal.returns
+returns c =
+    let dirs = c.args.plans.now.directories in
+    let slots = c.begun.inside.slots.items in
+    let base : Inode = c.begun.inside.base in
+    let node = c.begun.inside.node.0 in
+    let blocks = c.in_ok-after.ensures.blocks ∙ ap (λ net. directory_blocks dirs net slots) c.net_of-net.ensures.rows in
+    let touched = c.in_ok-after.ensures.touched ∙ ap (λ net. directory_touched dirs net slots) c.net_of-net.ensures.rows in
+    let end = c.end_of-end.ensures ∙ ap end_of (c.deref-3.ensures.value ∙ blocks) in
+    let base_is = c.base.view_is in
+    let counted = c.args.plans.now.counted in
+    let links = c.links_after-links.ensures ∙ (λ i. links_with (base_is i).links (counted.coming node i) (counted.going node i)) in
+    let size = c.size_of.ensures ∙ ap size_of_blocks end in
+    let meta = c.with-meta.ensures ∙ (λ i. record base { kind = 2; links = links i; size = size i }) in
+    let cut = ap (λ r. r.items) c.from_vec.ensures ∙ c.truncate.ensures.items ∙ (λ i. take (end i) (blocks i)) in
+    let changed = c.in_ok-changed.ensures ∙ (λ i. directory_changed (pointer_kept base c.begun.inside.tables.items) ((c.deref.ensures.value ∙ blocks) i) ((c.deref-2.ensures.value ∙ touched) i)) in
+    rw (← c.begun.view_is) (λ i. record {
+      node = node;
+      number = c.begun.inside.number;
+      before = c.begun.inside.before;
+      meta = meta i;
+      tables = c.begun.inside.tables.items;
+      slots = cut i;
+      changed = changed i;
+    })

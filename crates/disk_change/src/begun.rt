@@ -1,0 +1,104 @@
+// What a node begins with in a commit.
+ghost use Rattle.std.specs.Prelude.{◌≡◌};
+ghost use Rattle.sfs_image.specs.Slot.{kind_of as kind_of_byte};
+ghost use Rattle.disk_change.specs.Seated.{begun_old, begun_entering, first_links as links_of_kind};
+
+use crate::enter::Enter;
+use crate::kinds::DIRECTORY;
+use crate::old::OldEntry;
+use fmt_inode::{Inode, Tables};
+use fmt_slots::SlotList;
+use sfs_base::{Kind, NodeId};
+use std::alloc::Global;
+use std::marker::Model;
+
+// A node that has an inode after a commit, with what it begins with: what the disk has of it, or, where
+// it enters, nothing.
+#[derive(Drop)]
+pub(crate) struct BegunNode {
+    pub(crate) node: NodeId,
+    pub(crate) number: Option<u32>,
+    pub(crate) kind: Kind,
+    pub(crate) before: Inode,
+    pub(crate) base: Inode,
+    pub(crate) tables: Tables,
+    pub(crate) slots: SlotList,
+}
+
+impl Model for BegunNode {
+    ghost use Rattle.disk_change.specs.Seated.{Begun};
+
+    ghost Value = { Begun };
+
+    ghost view = { λ b. record {
+      node = b.node.0;
+      number = b.number;
+      kind = b.kind;
+      before = b.before;
+      base = b.base;
+      tables = b.tables.items;
+      slots = b.slots.items;
+    } };
+}
+
+// A node that has an inode.
+pub(crate) fn old_node(entry: OldEntry) -> BegunNode
+    ensures { result ≡ begun_old entry }
+{
+    let old = entry.old;
+    BegunNode {
+        node: entry.node,
+        number: Some(old.inode),
+        kind: kind_of(old.meta.kind),
+        before: old.meta,
+        base: old.meta,
+        tables: old.tables,
+        slots: old.slots,
+    }
+}
+
+// A node that enters.
+pub(crate) fn entering_node(alloc: Global, one: Enter) -> BegunNode
+    ensures { result ≡ begun_entering one }
+{
+    let free = Inode {
+        kind: 0,
+        links: 0,
+        size: 0,
+        direct: [0; 108],
+        indirect: [0; 16],
+    };
+    BegunNode {
+        node: one.node,
+        number: None,
+        kind: one.kind,
+        before: free,
+        base: Inode {
+            links: first_links(one.kind),
+            ..free
+        },
+        tables: Tables::new(alloc),
+        slots: SlotList::new(alloc),
+    }
+}
+
+// The kind of a record's byte.
+fn kind_of(byte: u8) -> Kind
+    ensures { result ≡ kind_of_byte byte }
+{
+    if byte == DIRECTORY {
+        Kind::Directory
+    } else {
+        Kind::File
+    }
+}
+
+// How many links a node has in which and of which nothing is.
+fn first_links(kind: Kind) -> u32
+    ensures { result ≡ links_of_kind kind }
+{
+    match kind {
+        Kind::File => 0,
+        Kind::Directory => 2,
+    }
+}

@@ -1,0 +1,169 @@
+// What a commit makes of one node, before it has numbers and fresh blocks.
+ghost use Rattle.std.specs.Prelude.{◌≡◌, [], IfOk};
+ghost use Rattle.std.specs.Option.{option_map_or};
+ghost use Rattle.disk_change.specs.Lists.{NamesAscend, item_with};
+ghost use Rattle.disk_change.specs.Nodes.{file_node};
+ghost use Rattle.disk_change.specs.Seat.{file_changed as blocks_of_pages};
+ghost use Rattle.disk_change.specs.Seated.{changes_in, seated, directory_seated, file_seated, net_of_node, size_of_blocks};
+
+use crate::begun::BegunNode;
+use crate::directory::directory_after;
+use crate::files::FileChangeList;
+use crate::kinds::{DIRECTORY, FILE};
+use crate::net_list::NetList;
+use crate::plans::Plans;
+use crate::rewritten::{directory_changed, end_of, file_changed};
+use absorb::NetRow;
+use block_map::Changed;
+use fmt_inode::{Inode, Tables};
+use fmt_slots::SlotList;
+use sfs_base::{Kind, NoMemory, NodeId};
+use std::alloc::Global;
+use std::marker::Model;
+
+// What becomes of a node that has an inode after a commit.
+#[derive(Drop)]
+pub(crate) struct Seat {
+    pub(crate) node: NodeId,
+    pub(crate) number: Option<u32>,
+    pub(crate) before: Inode,
+    pub(crate) meta: Inode,
+    pub(crate) tables: Tables,
+    pub(crate) slots: SlotList,
+    pub(crate) changed: Changed,
+}
+
+impl Model for Seat {
+    ghost use Rattle.disk_change.specs.Seated.{Seated};
+
+    ghost Value = { Seated };
+
+    ghost view = { λ s. record {
+      node = s.node.0;
+      number = s.number;
+      before = s.before;
+      meta = s.meta;
+      tables = s.tables.items;
+      slots = s.slots.items;
+      changed = s.changed.items;
+    } };
+}
+
+// What becomes of a node.
+pub(crate) fn seat_of(alloc: Global, begun: BegunNode, plans: &Plans) -> Result<Seat, NoMemory>
+    ensures { IfOk result (λ seat. seat ≡ seated (changes_in plans.now.directories plans.now.nets.items plans.now.files.items) begun) }
+{
+    match begun.kind {
+        Kind::File => file_seat(alloc, begun, plans),
+        Kind::Directory => directory_seat(alloc, begun, plans),
+    }
+}
+
+// What becomes of a directory.
+fn directory_seat(alloc: Global, begun: BegunNode, plans: &Plans) -> Result<Seat, NoMemory>
+    ensures { IfOk result (λ seat. seat ≡ directory_seated (changes_in plans.now.directories plans.now.nets.items plans.now.files.items) begun) }
+{
+    let BegunNode {
+        node,
+        number,
+        kind: _,
+        before,
+        base,
+        tables,
+        slots,
+    } = begun;
+    let net = net_of(&plans.nets, node);
+    let after = directory_after(alloc, slots, net, &plans.directories)?;
+    let changed = directory_changed(alloc, &base, &tables, &after.blocks, &after.touched)?;
+    let end = end_of(&after.blocks);
+    let mut blocks = after.blocks;
+    blocks.truncate(end);
+    let links = plans.links.links_after(node, base.links);
+    let meta = with(&base, DIRECTORY, links, size_of(end));
+    Ok(Seat {
+        node,
+        number,
+        before,
+        meta,
+        tables,
+        slots: SlotList::from_vec(blocks),
+        changed,
+    })
+}
+
+// An inode with another kind, link count and size.
+fn with(base: &Inode, kind: u8, links: u32, size: u64) -> Inode
+    ensures { result ≡ record base.now { kind = kind; links = links; size = size } }
+{
+    let mut inode = *base;
+    inode.kind = kind;
+    inode.links = links;
+    inode.size = size;
+    inode
+}
+
+// The size of so many blocks.
+fn size_of(count: usize) -> u64
+    ensures { result ≡ size_of_blocks count }
+{
+    (count as u64).saturating_mul(4096)
+}
+
+// The rows of a directory's net, none where it has none.
+fn net_of(nets: &NetList, node: NodeId) -> &[NetRow]
+    ensures rows { result.now ≡ net_of_node nets.now.items node.0 }
+    ensures ascending { NamesAscend result.now }
+{
+    match nets.find(node) {
+        Some(one) => one.net.as_slice(),
+        None => &[],
+    }
+}
+
+// What becomes of a file.
+fn file_seat(alloc: Global, begun: BegunNode, plans: &Plans) -> Result<Seat, NoMemory>
+    ensures { IfOk result (λ seat. seat ≡ file_seated (changes_in plans.now.directories plans.now.nets.items plans.now.files.items) begun) }
+{
+    let BegunNode {
+        node,
+        number,
+        kind: _,
+        before,
+        base,
+        tables,
+        slots: _,
+    } = begun;
+    let changed = pages_changed(alloc, &plans.files, node)?;
+    let links = plans.links.links_after(node, base.links);
+    let meta = with(&base, FILE, links, file_size(&plans.files, node, base.size));
+    Ok(Seat {
+        node,
+        number,
+        before,
+        meta,
+        tables,
+        slots: SlotList::new(alloc),
+        changed,
+    })
+}
+
+// The size of a file afterwards.
+fn file_size(files: &FileChangeList, node: NodeId, size: u64) -> u64
+    ensures { result ≡ option_map_or (λ one. one.size) (item_with file_node node.0 files.now.items) size }
+{
+    match files.find(node) {
+        Some(one) => one.size,
+        None => size,
+    }
+}
+
+// The blocks of a file that are rewritten.
+fn pages_changed(alloc: Global, files: &FileChangeList, node: NodeId) -> Result<Changed, NoMemory>
+    ensures { IfOk result (λ changed. changed.items
+        ≡ option_map_or (λ one. blocks_of_pages one.pages.items) (item_with file_node node.0 files.now.items) []) }
+{
+    match files.find(node) {
+        Some(one) => file_changed(alloc, &one.pages),
+        None => Ok(Changed::new(alloc)),
+    }
+}
