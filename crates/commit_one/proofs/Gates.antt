@@ -82,9 +82,10 @@ module _ (job : Job) (is : IsJob job) (parts : ℕ → Part) (new : List InodePa
         settle_later =
             later_trans (Opening old.now) old second now gate_tells (call_advances second now settled settle_fits settle.call) gate_later
             (later_call (Opening old.now) second now settle.call.time
-            (λ counts content told image left.
-            ((λ le. absurd (omega (arith, settle.call.time.counted, write.call.time.counted, seal.call.time.counted, counts, le))),
-              settle_keeps.now content (settle.content ∙ told) image left)))
+            (λ counts content told image left. (
+              (λ le. absurd (omega (arith, settle.call.time.counted, write.call.time.counted, seal.call.time.counted, counts, le))),
+              settle_keeps.now content (settle.content ∙ told) image left,
+            )))
 
         pub settle_leaves : IsDurable job 0 now → Leaves now (IsByItsSlot job parts new)
         settle_leaves knows content told image left = open_is_by_its_slot job is parts new change image (knows.opened content told image left) (settle_keeps.now content told image left)

@@ -268,5 +268,5 @@ module _ (job : Job) (is : IsJob job) (parts : ℕ → Part) (new : List InodePa
   shut_is_after image shut (inr stands) = stands
   shut_is_after image shut (inl stands) =
       let open_with = subst (λ (o : Option Transaction). IsSlotOf job.place.layout.inodes o (journal_slot job.place.layout image job.place.slot))
-          (with_slot-same nothing_open job.place.slot (Some (transaction_of job new))) (stands.slots job.place.slot is.place.within) in
+      (with_slot-same nothing_open job.place.slot (Some (transaction_of job new))) (stands.slots job.place.slot is.place.within) in
       absurd (let never : true ≡ false = sym open_with.gate ∙ shut in cc)

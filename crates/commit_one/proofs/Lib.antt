@@ -2,3 +2,4 @@ pub mod Gates
 pub mod Images
 pub mod Loops
 pub mod Moments
+pub mod Whole

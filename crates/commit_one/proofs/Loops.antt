@@ -49,7 +49,7 @@ module _ {V E : Type 0} (first stage : Stage) (old mid new : View) (result : Res
       let sofar = before.keeps parts is free leaves in
       let same_job : IsWrite (fill_piece first.job stage.done) mid new result = subst (λ (j : Job). IsWrite (fill_piece j stage.done) mid new result) before.job write in
       let same_whole : stage.done < length first.job.fresh → length (fill_piece first.job stage.done).bytes ≡ 4096 =
-          subst (λ (j : Job). stage.done < length j.fresh → length (fill_piece j stage.done).bytes ≡ 4096) before.job whole in
+      subst (λ (j : Job). stage.done < length j.fresh → length (fill_piece j stage.done).bytes ≡ 4096) before.job whole in
       keeps_trans (IsBefore first.job parts) old mid new (call_advances mid new result fits write.call) sofar
       (write_keeps (IsBefore first.job parts) (fill_piece first.job stage.done) mid new result
       (λ was image same stands. fill_keeps first.job is parts free stage.done was image same_whole same stands)

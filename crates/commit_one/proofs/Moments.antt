@@ -69,8 +69,8 @@ pub write_keeps : {V E : Type 0} (P : List ℕ → Type 0) (piece : Piece) (old 
     → ((content : List ℕ) → new.content ≡ Some content → (was : List ℕ) × (old.content ≡ Some was)) → IsWrite piece old new result → Leaves old P → Keeps P old new
 write_keeps P piece old new result frame back is leaves =
     let now : (content : List ℕ) → old.content ≡ Some content → (image : List ℕ) → images new image → P image = λ content told image left.
-        let was = is.torn image left in
-        frame was.0 image was.2 (leaves content told was.0 was.1) in
+    let was = is.torn image left in
+    frame was.0 image was.2 (leaves content told was.0 was.1) in
     record {
       told = writes_tell piece old new result is;
       now = λ content told image left. let b = back content told in now b.0 b.1 image left;

@@ -3,7 +3,8 @@ use Rattle.std.specs.Prelude.{◌≡◌, ◌≢◌, ℕ, ◌<◌, All, List, map
 use Rattle.sfs_image.specs.ImageOf.{InodePart, Transaction, TurnsInto, PointsToData, with_opened, with_slot, IsImageOf}
 use Rattle.sfs_image.specs.Journal.{Entry}
 use Rattle.sfs_image.specs.Part.{Part, pointer_at}
-use Rattle.journal_one.specs.Job.{Job, no_block, HaveOwnBlocks}
+use Rattle.journal_one.specs.Job.{Place, Job, no_block, HaveOwnBlocks}
+use Rattle.journal_one.specs.Packed.{Contents}
 
 -- no slot is open
 abbrev pub nothing_open : ℕ → Option Transaction
@@ -51,3 +52,7 @@ pub record IsChangeOf (job : Job) (parts : ℕ → Part) (new : List InodePart) 
   pub pointers : All (λ (own : InodePart). PointsToData job.place.layout own.part) new
   pub own : HaveOwnBlocks job.fresh
   pub free : AreFree job parts
+
+-- the commit of a transaction through a slot, under a commit stamp
+abbrev pub job_for : Place → Contents → ℕ → Job
+job_for place contents stamp = record { place = place; stamp = stamp; entries = contents.entries; fresh = contents.fresh }

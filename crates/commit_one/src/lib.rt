@@ -1,6 +1,6 @@
 //! A whole commit through one slot, with what each crash leaves of it.
 #![tactic(auto)]
 
-mod commit;
+mod steps;
 
-pub use commit::{fill, make_durable, place, shut};
+pub use steps::{Committed, commit};

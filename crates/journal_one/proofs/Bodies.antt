@@ -1,21 +1,18 @@
 -- The pieces of a commit are read as its body.
-use Rattle.std.proofs.Common.{◌≡◌, ◌≢◌, ℕ, zero, suc, ◌+◌, ◌-◌, ◌*◌, ◌^◌, ◌<◌, ◌≤◌, Bool, true, List, [], ◌∷◌, ◌++◌, map, take, drop, length, get_or, None, Some, Option, refl, sym, ◌∙◌, ap, subst, arith, cond}
-use Rattle.std.specs.List.{flat_map}
-use Rattle.std.proofs.lemmas.List.{take_at, drop_at, take_all, take-append-le, drop-append-le, length-append, append_assoc}
-use Rattle.std.proofs.lemmas.Option.{slice_get-get_or}
-use Rattle.sfs_image.specs.Bytes.{part, zeros, u32_bytes, u64_bytes, u32s_bytes, number_from}
-use Rattle.sfs_image.specs.Journal.{Entry, head_of, AreEntries, HasEntries, HasRangesOf, number_byte, record_byte}
+use Rattle.std.proofs.Common.{◌≡◌, ◌≢◌, ℕ, ◌+◌, ◌-◌, ◌*◌, ◌<◌, ◌≤◌, Bool, List, [], length, get_or, None, Some, refl, sym, ◌∙◌, ap, subst, arith, cond}
+use Rattle.sfs_image.specs.Bytes.{part, zeros, u32_bytes, u64_bytes, number_from}
+use Rattle.sfs_image.specs.Journal.{head_of, HasRangesOf, number_byte, record_byte}
 use Rattle.sfs_image.specs.Laws.{record_at}
-use Rattle.sfs_image.specs.Settled.{Body, Stamped, body_in, record_in, journal_slot, slot_byte, slot_count, settled, table_byte, table_record}
+use Rattle.sfs_image.specs.Settled.{Stamped, body_in, record_in, journal_slot, slot_byte, slot_count, settled, table_byte, table_record}
 use Rattle.sfs_image.specs.Super.{slot_blocks}
-use Rattle.sfs_image.proofs.BytesLaws.{number_from-u32_bytes, number_from-u64_bytes, length-zeros}
+use Rattle.sfs_image.proofs.BytesLaws.{number_from-u32_bytes, number_from-u64_bytes}
 use Rattle.sfs_image.proofs.EntriesLaws.{read_again, ranges_have}
 use Rattle.sfs_image.proofs.FrameLaws.{part-part}
 use Rattle.sfs_image.proofs.SettledLaws.{settled_newest}
-use Rattle.journal_one.specs.Job.{Place, Job, Piece, numbers_piece, records_piece, head_piece, body_piece, fill_count, fill_piece, table_piece, no_entry, IsJob}
+use Rattle.journal_one.specs.Job.{Job, Piece, numbers_piece, records_piece, head_piece, body_piece, table_piece, no_entry, IsJob}
 use Rattle.journal_one.specs.Known.{StandsIn, IsOpenIn}
 use Rattle.journal_one.specs.Laws.{job_body, HasPieces, HasBodyOf}
-use Rattle.journal_one.proofs.Places.{LiesInSlot, body_is, body_lies, length-numbers, length-records, length-head, entry_long, few_entries}
+use Rattle.journal_one.proofs.Places.{body_is, body_lies, length-numbers, length-records, length-head, entry_long, few_entries}
 
 -- a part of bytes that stand
 part_of_standing : (piece : Piece) (image : List ℕ) (off n : ℕ) → StandsIn piece image → off + n ≤ length piece.bytes → part (piece.at + off) n image ≡ part off n piece.bytes

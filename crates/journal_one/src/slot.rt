@@ -20,7 +20,7 @@ ghost use Rattle.sfs_image.specs.Super.{IsLayout};
 ghost use Rattle.journal_one.specs.Calls.{IsWrite, IsSync, IsCalm};
 ghost use Rattle.journal_one.specs.Job.{IsJob, LiesInData, gate_piece, fill_count, fill_piece, table_piece};
 ghost use Rattle.journal_one.specs.Work.{place_of, job_of};
-ghost use Rattle.journal_one.specs.Known.{Leaves, IsShutIn, IsIdle, IsFilling, IsFilled, IsSealed, IsOpened, IsDurable, IsPlaced, AreFilled};
+ghost use Rattle.journal_one.specs.Known.{IsFilling, IsFilled, IsSealed, IsOpened, IsDurable, IsPlaced, AreFilled};
 ghost use Rattle.journal_one.specs.Stage.{next_stage, left_to_fill, left_to_place};
 ghost use Rattle.journal_one.specs.Outcome.{FillsOn, PlacesOn};
 
@@ -160,15 +160,15 @@ impl Idle {
         Idle { spot }
     }
 
-    /// A slot of a core, by its layout. What the states say of images holds where the slot is closed
-    /// in every image of this disk. It makes no device call.
+    /// A slot of a core, by the disk's layout. What this state and those after it say of images holds
+    /// where the slot is closed in every image of this disk. It makes no device call.
     pub fn at<D: Disk>(_disk: &D, layout: &Layout, core: u32, slot: u32) -> Idle
         requires fits { IsLayout layout.now.blocks layout.now }
         requires core { core < layout.now.cores }
         requires slot { slot < layout.now.slots }
+        requires large { layout.now.blocks ≤ (D.view _disk.now).size }
         ensures layout { result.layout ≡ layout.now }
         ensures slot { result.slot ≡ core * layout.now.slots + slot }
-        ensures idle { Leaves (D.view _disk.now) (IsShutIn result) → IsIdle result (D.view _disk.now) }
     {
         Idle {
             spot: Spot::of(layout, core, slot),

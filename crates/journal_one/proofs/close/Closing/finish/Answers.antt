@@ -1,4 +1,4 @@
-use Rattle.std.proofs.Common.{◌≡◌, ℕ, ◌+◌, ◌*◌, ◌<◌, ◌≤◌, length, Ok, Err, subst, sym, ap, arith, ◌∙◌}
+use Rattle.std.proofs.Common.{subst}
 use Rattle.journal_one.specs.Job.{IsJob}
 use Rattle.journal_one.proofs.Kept.{IsLawful, synced_rests}
 use Rattle.journal_one.proofs.Steps.{on_err, closed_then, closing_rests}

@@ -3,7 +3,7 @@ use Rattle.std.proofs.Common.{◌≡◌, ℕ, ◌<◌, Ok, subst, arith}
 use Rattle.journal_one.specs.Outcome.{FillsOn}
 use Rattle.journal_one.specs.declared.slot.Fill.{Fill}
 use Rattle.commit_one.proofs.Loops.{fills_none, fills_more, fills_done, fill_goes, fill_shows, fill_time}
-use Rattle.commit_one.proofs.commit.fill.Goals as goal
+use Rattle.commit_one.proofs.steps.fill.Goals as goal
 
 pub returns-in_err-next-clause-keeps : goal.returns-in_err-next-clause-keeps
 returns-in_err-next-clause-keeps g c =
@@ -33,7 +33,7 @@ returns-in-Done-clause-time g c =
     let view = g.D.Disk.view in
     let on = subst (FillsOn c.loop-next.filling) c.in-Done.is c.in_ok-next.ensures.ok in
     let time = fill_time c.args.filling c.loop-next.filling (view c.args.disk.now) (view c.loop-next.disk) (view c.put_next.new.disk) c.put_next.result c.loop-next.invariant (laws.now_fits c.loop-next.disk)
-        c.put_next.ensures.write c.put_next.ensures.whole in
+    c.put_next.ensures.write c.put_next.ensures.whole in
     record {
       most = λ counts. let t = time counts in let last = on.1 in omega arith;
       all = λ counts. let t = time counts in let last = on.1 in omega arith;

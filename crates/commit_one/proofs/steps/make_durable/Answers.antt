@@ -13,7 +13,7 @@ use Rattle.journal_one.proofs.Kept.{IsLawful}
 use Rattle.commit_one.specs.Carried.{Opens, TakesCalls}
 use Rattle.commit_one.proofs.Gates.{seal_keeps, seal_later, gate_tells, gate_later, settle_tells, settle_later, settle_leaves, whole_from}
 use Rattle.commit_one.proofs.Moments.{call_advances}
-use Rattle.commit_one.proofs.commit.make_durable.Goals as goal
+use Rattle.commit_one.proofs.steps.make_durable.Goals as goal
 
 all_calls : {V E : Type 0} (result : Result V E) {P : Type 0} → P → OnOk result P
 all_calls (Ok value) holds = holds
@@ -112,7 +112,7 @@ returns-clause-durable g c =
     let lawful_second : IsLawful second = record { whole = laws.whole c.open_gate.new.disk; read_is_left = laws.read_is_left c.open_gate.new.disk } in
     let same : c.in_ok-open_gate.field-0 ≡ job = c.in_ok-open_gate.ensures.ok ∙ c.in_ok-seal.ensures.ok in
     let opened : IsSealed job first → IsOpened job second =
-        subst (λ (j : Job). IsSealed j first → IsOpened j second) c.in_ok-seal.ensures.ok c.in_ok-open_gate.ensures.opened in
+    subst (λ (j : Job). IsSealed j first → IsOpened j second) c.in_ok-seal.ensures.ok c.in_ok-open_gate.ensures.opened in
     let durable : OnOk c.settle.result (IsOpened job second → IsDurable job 0 now) = subst (λ (j : Job). OnOk c.settle.result (IsOpened j second → IsDurable j 0 now)) same c.settle.ensures.durable in
     on_ok_weaker c.settle.result (λ last knows. last (opened (c.in_ok-seal.ensures.sealed knows))) durable
 
@@ -130,7 +130,7 @@ returns-clause-opens g c parts new is change knows leaves =
     let lawful_second : IsLawful second = record { whole = laws.whole c.open_gate.new.disk; read_is_left = laws.read_is_left c.open_gate.new.disk } in
     let same : c.in_ok-open_gate.field-0 ≡ job = c.in_ok-open_gate.ensures.ok ∙ c.in_ok-seal.ensures.ok in
     let opened : IsSealed job first → IsOpened job second =
-        subst (λ (j : Job). IsSealed j first → IsOpened j second) c.in_ok-seal.ensures.ok c.in_ok-open_gate.ensures.opened in
+    subst (λ (j : Job). IsSealed j first → IsOpened j second) c.in_ok-seal.ensures.ok c.in_ok-open_gate.ensures.opened in
     let durable : OnOk c.settle.result (IsOpened job second → IsDurable job 0 now) = subst (λ (j : Job). OnOk c.settle.result (IsOpened j second → IsDurable j 0 now)) same c.settle.ensures.durable in
     let filled : AreFilled job first = (c.in_ok-seal.ensures.sealed knows).filled in
     let gate_args = whole_from job old knows in

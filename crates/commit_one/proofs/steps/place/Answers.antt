@@ -3,7 +3,7 @@ use Rattle.std.proofs.Common.{◌≡◌, ℕ, ◌<◌, Ok, subst, arith}
 use Rattle.journal_one.specs.Outcome.{PlacesOn}
 use Rattle.journal_one.specs.declared.slot.Put.{Put}
 use Rattle.commit_one.proofs.Loops.{places_none, places_more, places_done, place_goes, place_shows, place_time}
-use Rattle.commit_one.proofs.commit.place.Goals as goal
+use Rattle.commit_one.proofs.steps.place.Goals as goal
 
 pub returns-in_err-next-clause-keeps : goal.returns-in_err-next-clause-keeps
 returns-in_err-next-clause-keeps g c =
@@ -33,7 +33,7 @@ returns-in-Done-clause-time g c =
     let view = g.D.Disk.view in
     let on = subst (PlacesOn c.loop-next.durable) c.in-Done.is c.in_ok-next.ensures.ok in
     let time = place_time c.args.durable c.loop-next.durable (view c.args.disk.now) (view c.loop-next.disk) (view c.place_next.new.disk) c.place_next.result c.loop-next.invariant (laws.now_fits c.loop-next.disk)
-        c.place_next.ensures.write in
+    c.place_next.ensures.write in
     record {
       most = λ counts. let t = time counts in let last = on.1 in omega arith;
       all = λ counts. let t = time counts in let last = on.1 in omega arith;

@@ -13,7 +13,7 @@ use Rattle.journal_one.proofs.Kept.{IsLawful}
 use Rattle.commit_one.specs.Carried.{Shuts, TakesCalls}
 use Rattle.commit_one.proofs.Gates.{copy_keeps, copy_later, shut_tells, shut_later, finish_tells, finish_later, finish_leaves}
 use Rattle.commit_one.proofs.Moments.{call_advances}
-use Rattle.commit_one.proofs.commit.shut.Goals as goal
+use Rattle.commit_one.proofs.steps.shut.Goals as goal
 
 all_calls : {V E : Type 0} (result : Result V E) {P : Type 0} → P → OnOk result P
 all_calls (Ok value) holds = holds
@@ -111,7 +111,7 @@ returns-clause-closed g c =
     let lawful_second : IsLawful second = record { whole = laws.whole c.shut_gate.new.disk; read_is_left = laws.read_is_left c.shut_gate.new.disk } in
     let same : c.in_ok-shut_gate.field-0 ≡ job = c.in_ok-shut_gate.ensures.ok ∙ c.in_ok-copy.ensures.ok in
     let closing : IsCopied job first → IsClosing job second =
-        subst (λ (j : Job). IsCopied j first → IsClosing j second) c.in_ok-copy.ensures.ok c.in_ok-shut_gate.ensures.closing in
+    subst (λ (j : Job). IsCopied j first → IsClosing j second) c.in_ok-copy.ensures.ok c.in_ok-shut_gate.ensures.closing in
     let closed : OnOk c.finish.result (IsClosing job second → IsClosed job now) = subst (λ (j : Job). OnOk c.finish.result (IsClosing j second → IsClosed j now)) same c.finish.ensures.closed in
     on_ok_weaker c.finish.result (λ last knows. last (closing (c.in_ok-copy.ensures.copied knows))) closed
 
@@ -129,7 +129,7 @@ returns-clause-shuts g c parts new is change knows leaves =
     let lawful_second : IsLawful second = record { whole = laws.whole c.shut_gate.new.disk; read_is_left = laws.read_is_left c.shut_gate.new.disk } in
     let same : c.in_ok-shut_gate.field-0 ≡ job = c.in_ok-shut_gate.ensures.ok ∙ c.in_ok-copy.ensures.ok in
     let closing : IsCopied job first → IsClosing job second =
-        subst (λ (j : Job). IsCopied j first → IsClosing j second) c.in_ok-copy.ensures.ok c.in_ok-shut_gate.ensures.closing in
+    subst (λ (j : Job). IsCopied j first → IsClosing j second) c.in_ok-copy.ensures.ok c.in_ok-shut_gate.ensures.closing in
     let closed : OnOk c.finish.result (IsClosing job second → IsClosed job now) = subst (λ (j : Job). OnOk c.finish.result (IsClosing j second → IsClosed j now)) same c.finish.ensures.closed in
     let filled = c.in_ok-copy.ensures.copied knows in
     record {
