@@ -1,6 +1,6 @@
 // Each call of the disk is one call of the file where the system moves all bytes at once. What the file
 // holds no contract can say: that a read gives what was written, and that a sync keeps it, is trusted.
-ghost use Rattle.std.specs.Prelude.{◌≡◌, ℕ, ◌+◌, ◌-◌, ◌*◌, ◌^◌, ◌<◌, ◌≤◌, min, OnOk, OnErr};
+ghost use Rattle.std.specs.Prelude.{◌≡◌, ℕ, ◌+◌, ◌-◌, ◌*◌, ◌^◌, ◌<◌, ◌≤◌, min, true, false, OnOk, OnErr};
 
 use crate::transfer::{read_all_at, write_all_at};
 use sfs_base::Failed;
@@ -50,6 +50,8 @@ fn noted(now: &mut u64, faults: &mut u64, done: bool) -> Result<(), Failed>
     ensures now { now.new ≡ min (now.old + 1) (2 ^ 64 - 1) }
     ensures ok { OnOk result (faults.new ≡ faults.old) }
     ensures err { OnErr result (faults.new ≡ min (faults.old + 1) (2 ^ 64 - 1)) }
+    ensures done { OnOk result (done ≡ true) }
+    ensures failed { OnErr result (done ≡ false) }
 {
     raise(now);
     if done {
