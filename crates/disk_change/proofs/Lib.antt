@@ -3,4 +3,5 @@ pub mod Counted
 pub mod Directories
 pub mod Keyed
 pub mod Names
+pub mod Places
 pub mod Rewriting
