@@ -1,5 +1,5 @@
 -- Where an item comes and goes in a list that ascends by a number of its items.
-use Rattle.std.proofs.Common.{◌≡◌, ◌≢◌, ℕ, zero, suc, ◌+◌, ◌<◌, ◌≤◌, Bool, true, false, cond, List, [], ◌∷◌, ◌++◌, length, get_or, take, drop, Option, Some, None, inl, inr, ◌⊎◌, refl, sym, ap, subst, ◌∙◌, arith, nat_eq, nat_lt, All}
+use Rattle.std.proofs.Common.{◌≡◌, ◌≢◌, ℕ, zero, suc, ◌<◌, ◌≤◌, Bool, true, false, cond, List, [], ◌∷◌, length, get_or, Some, None, inl, inr, ◌⊎◌, refl, sym, ap, ◌∙◌, arith, nat_eq, nat_lt, All}
 use Rattle.std.specs.List.{insert, remove, HoldsAt}
 use Rattle.std.specs.Ordering.{nat_cmp}
 use Rattle.std.specs.declared.cmp.Ordering.TheVariants.{Equal}
@@ -10,7 +10,7 @@ use Rattle.std.proofs.lemmas.List.Kept.{AllPairs-cons}
 use Rattle.std.proofs.lemmas.List.Elements.{All-cons}
 use borrow.Author.Tests.{ltb-true, ltb-false}
 use Rattle.sfs_base.proofs.BasicNumbers.{same_number, not_same}
-use Rattle.sfs_base.proofs.BasicOptions.{some_not_none, none_some}
+use Rattle.sfs_base.proofs.BasicOptions.{some_not_none}
 use Rattle.disk_change.specs.Lists.{AscendBy, item_with, put_in, without}
 use Rattle.disk_change.proofs.Keyed.{ascends_behind, first_is_least}
 

@@ -1,5 +1,4 @@
-use Rattle.std.proofs.Common.{◌≡◌, sym, ap, ◌∙◌, subst, None, length, ◌≤◌, nat_lt, true, false, ℕ, List}
-use Rattle.std.specs.List.Sorted.{IsPartitionPoint}
+use Rattle.std.proofs.Common.{sym, ap, ◌∙◌, subst, List}
 use Rattle.disk_change.specs.Lists.{AscendBy, item_with}
 use Rattle.disk_change.specs.Nodes.{entry_node, old_entry}
 use Rattle.disk_change.specs.declared.old.OldEntry.{OldEntry}

@@ -1,7 +1,7 @@
-use Rattle.std.proofs.Common.{◌≡◌, ◌<◌, length, rules, sym, ap, ◌∙◌, Some, None, arith, get_or}
+use Rattle.std.proofs.Common.{rules, sym, ap, ◌∙◌, Some}
 use Rattle.std.proofs.lemmas.List.Sorted.{answers_always}
 use Rattle.std.specs.Option.{option_map}
-use Rattle.disk_change.specs.Lists.{item_with, without}
+use Rattle.disk_change.specs.Lists.{without}
 use Rattle.disk_change.specs.Nodes.{entry_node, entry_old}
 use Rattle.disk_change.proofs.Keyed.{search_finds, search_misses}
 use Rattle.disk_change.proofs.Places.{remove_is_without, nothing_without, found_number}
