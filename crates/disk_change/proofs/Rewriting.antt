@@ -1,10 +1,8 @@
 -- Which blocks have rows, and which are rewritten.
-use Rattle.std.proofs.Common.{◌≡◌, ℕ, zero, suc, ◌+◌, ◌-◌, ◌<◌, ◌≤◌, Bool, true, false, cond, ◌&&◌, List, [], ◌∷◌, ◌++◌, length, get_or, take, map, Option, Some, None, is_none, inl, inr, refl, sym, ap, ◌∙◌, arith, nat_eq, All}
-use Rattle.std.specs.List.{list_all}
-use Rattle.std.proofs.lemmas.Bool.{cases_Bool, cond-true, cond-false}
+use Rattle.std.proofs.Common.{◌≡◌, ℕ, zero, suc, ◌+◌, ◌<◌, Bool, true, false, cond, ◌&&◌, List, [], ◌∷◌, ◌++◌, length, get_or, take, map, Option, Some, None, is_none, refl, sym, ap, ◌∙◌, arith, nat_eq, All}
+use Rattle.std.proofs.lemmas.Bool.{cond-false}
 use Rattle.std.proofs.lemmas.List.{take_more, length-take}
 use Rattle.sfs_image.specs.Slot.{Row}
-use Rattle.sfs_base.proofs.BasicTruth.{not_both_of}
 use Rattle.sfs_base.proofs.BasicNumbers.{not_same}
 use Rattle.std.specs.Prelude.{nat_le, not, ◌||◌}
 use Rattle.sfs_base.proofs.BasicOptions.{none_some, some_same}

@@ -1,6 +1,6 @@
 -- The slots of a directory after a net: a name that is gone empties its slot, a name with another child keeps it, and new names take
 -- the lowest empty slots. A row that comes names its child by its node, until the commit has numbers.
-use Rattle.std.specs.Prelude.{ℕ, ◌+◌, ◌*◌, ◌/◌, ◌==◌, ◌&&◌, ◌||◌, not, nat_lt, Bool, true, false, is_none, is_some, List, [], ◌∷◌, ◌++◌, length, map, drop, replicate, filter_map, Option, Some, None, option_map, count_by, slice_get, if◌then◌else◌}
+use Rattle.std.specs.Prelude.{ℕ, ◌*◌, ◌==◌, ◌||◌, not, Bool, true, false, is_none, is_some, List, [], ◌∷◌, ◌++◌, length, map, drop, replicate, filter_map, Option, Some, None, option_map, count_by, slice_get, if◌then◌else◌}
 use Rattle.std.specs.Int.{div_ceil}
 use Rattle.std.specs.List.{list_any, range_with_len}
 use Rattle.std.specs.Option.{option_map_or}

@@ -4,6 +4,7 @@ pub mod Directory
 pub mod Links
 pub mod Lists
 pub mod Nodes
+pub mod Numbered
 pub mod OldKept
 pub mod Pages
 pub mod Planned

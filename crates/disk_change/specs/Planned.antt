@@ -1,5 +1,5 @@
 -- What a commit changes, worked out as far as it can be without numbers and fresh blocks.
-use Rattle.std.specs.Prelude.{◌≡◌, ℕ, ◌+◌, ◌-◌, ◌^◌, ◌==◌, not, min, Bool, List, [], ◌∷◌, ◌++◌, length, map, filter, count_by, is_none, sum_by, Option}
+use Rattle.std.specs.Prelude.{ℕ, ◌-◌, ◌^◌, ◌==◌, not, min, Bool, List, ◌++◌, map, filter, is_none}
 use Rattle.sfs_tree.specs.NameRow.{node_number}
 use Rattle.sfs_base.specs.declared.numbers.NodeId.{NodeId}
 use Rattle.sfs_image.specs.Seen.{PLACES}
@@ -10,7 +10,7 @@ use Rattle.disk_change.specs.declared.enter.Enter.{Enter}
 use Rattle.disk_change.specs.declared.files.FileChange.{FileChange}
 use Rattle.disk_change.specs.declared.old.OldEntry.{OldEntry}
 use Rattle.disk_change.specs.Links.{directories_in, times_in}
-use Rattle.disk_change.specs.Seated.{Changes, Begun, Seated, begun_old, begun_entering, changes_in, seated}
+use Rattle.disk_change.specs.Seated.{Changes, Seated, begun_old, begun_entering, changes_in, seated}
 
 -- What becomes of the nodes that have an inode afterwards, those that lose theirs, and the changes that make it so.
 pub record Planned : Type 0 where

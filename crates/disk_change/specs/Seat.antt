@@ -1,14 +1,9 @@
 -- What a commit makes of one node, before it has numbers and fresh blocks.
-use Rattle.std.specs.Prelude.{ℕ, ◌*◌, ◌==◌, ◌≤◌, ◌&&◌, ◌||◌, not, nat_le, nat_lt, min, suc, Bool, true, false, is_none, List, [], ◌∷◌, length, map, take, replicate, filter_map, slice_index_or, Option, Some, None, option_map, if◌then◌else◌}
+use Rattle.std.specs.Prelude.{ℕ, ◌==◌, ◌&&◌, ◌||◌, not, nat_le, min, suc, Bool, false, is_none, List, [], ◌∷◌, length, map, filter_map, slice_index_or, Option, Some, None, if◌then◌else◌}
 use Rattle.std.specs.List.{list_all, range_with_len}
-use Rattle.std.specs.Option.{option_map_or}
-use Rattle.sfs_base.specs.declared.numbers.Kind.{Kind}
-use Rattle.sfs_base.specs.declared.numbers.Kind.TheVariants.{File, Directory}
-use Rattle.sfs_tree.specs.Tree.{is_directory_kind}
 use Rattle.sfs_image.specs.Bytes.{nonzero_in}
-use Rattle.sfs_image.specs.Inode.{Inode, Table}
 use Rattle.sfs_image.specs.Seen.{FILE_BLOCKS}
-use Rattle.sfs_image.specs.Slot.{Row, kind_byte}
+use Rattle.sfs_image.specs.Slot.{Row}
 use Rattle.image_tree.specs.Stands.{BLOCK_BYTES}
 use Rattle.block_map.specs.declared.changed.ChangedBlock.{ChangedBlock}
 use Rattle.disk_change.specs.declared.pages.Page.{Page}

@@ -1,5 +1,5 @@
 -- What a commit makes of each node that has an inode afterwards, before it has numbers and fresh blocks.
-use Rattle.std.specs.Prelude.{◌≡◌, ℕ, ◌*◌, ◌-◌, ◌^◌, min, List, [], take, replicate, Option, Some, None, if◌then◌else◌}
+use Rattle.std.specs.Prelude.{ℕ, ◌*◌, ◌-◌, ◌^◌, min, List, [], take, replicate, Option, Some, None}
 use Rattle.std.specs.Option.{option_map_or}
 use Rattle.sfs_base.specs.declared.numbers.Kind.{Kind}
 use Rattle.sfs_base.specs.declared.numbers.Kind.TheVariants.{File, Directory}

@@ -1,8 +1,9 @@
 // What the disk has of the nodes that a commit concerns.
-ghost use Rattle.std.specs.Prelude.{◌≡◌, ◌+◌, ◌-◌, ◌<◌, ◌≤◌, [], None, Some, slice_get, IsOk, IfSome, OnOk, OnErr};
+ghost use Rattle.std.specs.Prelude.{◌≡◌, ◌+◌, ◌-◌, ◌<◌, ◌≤◌, [], None, Some, slice_get, length, nat_lt, true, false, IsOk, OnOk, OnErr};
+ghost use Rattle.std.specs.List.Sorted.{IsPartitionPoint};
 ghost use Rattle.std.specs.Option.{option_copied, option_map};
 ghost use Rattle.disk_change.specs.Lists.{AscendBy, item_with, put_in, without};
-ghost use Rattle.disk_change.specs.Nodes.{entry_node};
+ghost use Rattle.disk_change.specs.Nodes.{entry_node, entry_old, old_entry};
 
 use fmt_inode::{Inode, Tables};
 use fmt_slots::SlotList;
@@ -95,6 +96,45 @@ impl OldDisk {
         &self.items
     }
 
+    /// Adds a node that is not in the list yet. Want of memory leaves the list as it is; room that was
+    /// reserved lets it not come.
+    pub fn add(
+        &mut self,
+        node: NodeId,
+        inode: u32,
+        meta: Inode,
+        tables: Tables,
+        slots: SlotList,
+    ) -> Result<(), NoMemory>
+        requires { item_with entry_node node.0 self.old.items ≡ None }
+        ensures ok { OnOk result (self.new.items ≡ put_in entry_node (old_entry node inode meta tables.items slots.items) self.old.items) }
+        ensures err { OnErr result (self.new.items ≡ self.old.items) }
+        ensures reserved { 0 < self.old.spare → IsOk result }
+        ensures spare { self.old.spare ≤ self.new.spare + 1 }
+    {
+        let place = place_of(&self.items, node);
+        let old = OldNode {
+            inode,
+            meta,
+            tables,
+            slots,
+        };
+        self.items.insert(place, OldEntry { node, old })?;
+        Ok(())
+    }
+
+    /// Takes a node out of the list. `None` is for one that is not in it. It takes no memory.
+    pub fn take(&mut self, node: NodeId) -> Option<OldNode>
+        ensures value { result ≡ option_map entry_old (item_with entry_node node.0 self.old.items) }
+        ensures items { self.new.items ≡ without entry_node node.0 self.old.items }
+        ensures spare { self.old.spare ≤ self.new.spare }
+    {
+        match self.items.binary_search_by_key(&node.0, |one| one.node.0) {
+            Ok(at) => Some(self.items.remove(at).old),
+            Err(_) => None,
+        }
+    }
+
     /// The entry of a node, where it is in the list.
     pub fn find(&self, node: NodeId) -> Option<&OldEntry>
         ensures { option_copied result ≡ item_with entry_node node.0 self.now.items }
@@ -111,4 +151,13 @@ impl OldDisk {
     {
         self.items
     }
+}
+
+// How many entries have lesser nodes.
+fn place_of(items: &[OldEntry], node: NodeId) -> usize
+    requires { AscendBy entry_node items.now }
+    ensures bound { result ≤ length items.now }
+    ensures parted { IsPartitionPoint (λ one. nat_lt (entry_node one) node.0 ≡ true) (λ one. nat_lt (entry_node one) node.0 ≡ false) items.now result }
+{
+    items.partition_point(|one| one.node.0 < node.0)
 }

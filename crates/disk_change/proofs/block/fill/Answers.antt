@@ -1,4 +1,4 @@
-use Rattle.std.proofs.Common.{◌≡◌, ◌<◌, sym, ap, ◌∙◌, true, false, length, arith, reverse, is_none, None, drop}
+use Rattle.std.proofs.Common.{◌<◌, sym, ap, ◌∙◌, length, arith, reverse, is_none, drop}
 use Rattle.std.specs.Prelude.{slice_get}
 use Rattle.disk_change.proofs.Blocks.{step_taken, step_empty, left_taken, left_empty, slot_there, popped, none_waits, not_lent, is_lent}
 use Rattle.disk_change.proofs.block.fill.Goals as goal

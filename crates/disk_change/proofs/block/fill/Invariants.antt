@@ -1,4 +1,4 @@
-use Rattle.std.proofs.Common.{◌≡◌, ◌++◌, take, drop, length, List, reverse}
+use Rattle.std.proofs.Common.{◌≡◌, ◌++◌, take, drop, reverse}
 use Rattle.disk_change.specs.Directory.{fill_front, rows_left}
 use Rattle.disk_change.proofs.block.fill.Given as goal
 

@@ -1,4 +1,4 @@
-use Rattle.std.proofs.Common.{◌≡◌, ◌<◌, sym, ap, ◌∙◌, true, false, length, arith, None, ◌||◌, get_or, take, Option, Some}
+use Rattle.std.proofs.Common.{◌<◌, sym, ap, ◌∙◌, length, arith, None, ◌||◌, get_or, take, Option}
 use Rattle.std.specs.List.{list_any}
 use Rattle.std.specs.Option.{option_and_then, option_copied}
 use Rattle.sfs_base.proofs.BasicTruth.{or_true, or_false}

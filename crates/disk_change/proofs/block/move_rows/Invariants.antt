@@ -1,4 +1,4 @@
-use Rattle.std.proofs.Common.{◌≡◌, ◌++◌, take, drop, length, map}
+use Rattle.std.proofs.Common.{◌≡◌, ◌++◌, take, drop, map}
 use Rattle.std.specs.List.{list_any}
 use Rattle.disk_change.specs.Directory.{slot_moved, is_in_net}
 use Rattle.disk_change.proofs.block.move_rows.Given as goal

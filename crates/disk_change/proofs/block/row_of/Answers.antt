@@ -1,6 +1,5 @@
-use Rattle.std.proofs.Common.{◌≡◌, ◌<◌, ◌≤◌, length, sym, ap, ◌∙◌, Some, None, arith, bytes_eq, true, false, get_or}
+use Rattle.std.proofs.Common.{sym, ap, ◌∙◌, Some, arith, bytes_eq, get_or}
 use Rattle.std.proofs.lemmas.List.{get_or_default}
-use Rattle.absorb.specs.declared.nets.NetRow.{NetRow}
 use Rattle.disk_change.proofs.Names.{row_here, row_missing, other_way, other_way_no}
 use Rattle.disk_change.proofs.block.row_of.Goals as goal
 

@@ -1,4 +1,4 @@
-use Rattle.std.proofs.Common.{◌≡◌, ◌<◌, length, sym, ap, ◌∙◌, arith, get_or}
+use Rattle.std.proofs.Common.{◌<◌, length, ap, ◌∙◌, arith, get_or}
 use Rattle.absorb.specs.declared.nets.NetRow.{NetRow}
 use Rattle.disk_change.specs.Links.{linked_by}
 use Rattle.disk_change.proofs.Counted.{pushed_more}

@@ -1,4 +1,4 @@
-use Rattle.std.proofs.Common.{◌≡◌, rules, sym, ap, ◌∙◌, nat_lt, true, false}
+use Rattle.std.proofs.Common.{rules, nat_lt}
 use Rattle.std.specs.Prelude.{nat_le}
 use Rattle.std.proofs.lemmas.List.Sorted.{IsPartitionPoint-from_clause, IsNonDecreasingBy-from_sort}
 use Rattle.disk_change.proofs.Counted.{below_parted, upto_parted, times_between}

@@ -1,4 +1,4 @@
-use Rattle.std.proofs.Common.{◌≡◌, ◌<◌, ◌+◌, ◌++◌, ◌∷◌, [], sym, ap, ◌∙◌, arith, ℕ, filter_map, length, All, min}
+use Rattle.std.proofs.Common.{◌≡◌, ◌++◌, ◌∷◌, [], sym, ap, ◌∙◌, arith, filter_map, length, min}
 use Rattle.std.specs.List.{range_with_len}
 use Rattle.block_map.specs.Kept.{pointer_kept}
 use Rattle.block_map.proofs.Places.{one_more_given, one_more_none}

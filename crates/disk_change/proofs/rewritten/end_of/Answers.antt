@@ -1,4 +1,4 @@
-use Rattle.std.proofs.Common.{◌≡◌, ◌<◌, ◌+◌, length, sym, ap, ◌∙◌, arith, get_or, [], true, false}
+use Rattle.std.proofs.Common.{◌<◌, length, sym, ap, ◌∙◌, arith, []}
 use Rattle.std.proofs.lemmas.List.{get_or_default, take_all}
 use Rattle.disk_change.specs.Seat.{has_no_row, end_of}
 use Rattle.disk_change.proofs.Rewriting.{end_stays, end_moves}

@@ -1,4 +1,4 @@
-use Rattle.std.proofs.Common.{◌≡◌, ◌<◌, ◌+◌, ◌++◌, ◌∷◌, [], sym, ap, ◌∙◌, arith, length, get_or, map, take, All, subst, List}
+use Rattle.std.proofs.Common.{◌<◌, ◌++◌, ◌∷◌, [], sym, ap, ◌∙◌, arith, length, get_or, map, take, All, subst, List}
 use Rattle.std.proofs.lemmas.List.{take_all}
 use Rattle.block_map.specs.declared.changed.ChangedBlock.{ChangedBlock}
 use Rattle.disk_change.specs.declared.pages.Page.{Page}

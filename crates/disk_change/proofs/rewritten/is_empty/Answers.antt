@@ -1,4 +1,4 @@
-use Rattle.std.proofs.Common.{◌≡◌, ◌<◌, ◌+◌, length, sym, ap, ◌∙◌, arith, inl, inr, is_none, None, get_or, true, ℕ}
+use Rattle.std.proofs.Common.{◌≡◌, sym, ap, ◌∙◌, arith, inl, inr, is_none, None, get_or}
 use Rattle.std.proofs.lemmas.Bool.{cases_lt}
 use Rattle.disk_change.proofs.Rewriting.{all_empty, one_taken}
 use Rattle.disk_change.proofs.Blocks.{is_lent, not_lent}

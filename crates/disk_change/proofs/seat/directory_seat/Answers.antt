@@ -1,11 +1,10 @@
-use Rattle.std.proofs.Common.{◌≡◌, sym, ap, ◌∙◌, length, take, refl, List, ℕ}
+use Rattle.std.proofs.Common.{sym, ap, ◌∙◌, length, take}
 use Rattle.block_map.specs.Kept.{pointer_kept}
 use Rattle.sfs_image.specs.Inode.{Inode}
-use Rattle.absorb.specs.declared.nets.NetRow.{NetRow}
 use Rattle.disk_change.specs.Directory.{directory_blocks, directory_touched}
-use Rattle.disk_change.specs.Links.{links_with, links_after, times_in}
+use Rattle.disk_change.specs.Links.{links_with}
 use Rattle.disk_change.specs.Seat.{end_of, directory_changed}
-use Rattle.disk_change.specs.Seated.{size_of_blocks, net_of_node}
+use Rattle.disk_change.specs.Seated.{size_of_blocks}
 use Rattle.disk_change.proofs.Directories.{length-directory}
 use Rattle.disk_change.proofs.seat.directory_seat.Goals as goal
 

@@ -1,4 +1,4 @@
-use Rattle.std.proofs.Common.{◌≡◌, sym, ap, ◌∙◌}
+use Rattle.std.proofs.Common.{ap, ◌∙◌}
 use Rattle.sfs_image.specs.Inode.{Inode}
 use Rattle.std.specs.Option.{option_map_or}
 use Rattle.disk_change.specs.declared.files.FileChange.{FileChange}

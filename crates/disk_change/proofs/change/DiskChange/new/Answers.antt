@@ -1,8 +1,8 @@
-use Rattle.std.proofs.Common.{◌≡◌, ◌<◌, ◌≤◌, ◌++◌, sym, ap, ◌∙◌, length, take, map, filter, not, nat_eq, arith, List, ℕ}
+use Rattle.std.proofs.Common.{◌++◌, ap, ◌∙◌, length, map, filter, not, nat_eq, arith, List, ℕ}
 use Rattle.std.proofs.lemmas.List.{take_all}
 use Rattle.disk_change.specs.declared.old.OldEntry.{OldEntry}
-use Rattle.disk_change.specs.Planned.{seated_old, seated_entering, is_listed, leaves, staying, leaving}
-use Rattle.disk_change.specs.Seated.{changes_in, Changes}
+use Rattle.disk_change.specs.Planned.{seated_old, seated_entering, is_listed}
+use Rattle.disk_change.specs.Seated.{changes_in}
 use Rattle.disk_change.proofs.change.DiskChange.new.Goals as goal
 
 pub returns : goal.returns

@@ -1,4 +1,4 @@
-use Rattle.std.proofs.Common.{◌≡◌, ◌<◌, ◌≤◌, [], length, take, filter_map, sym, ap, ◌∙◌, arith, subst, List, ℕ, Option, Some, None, ◌++◌, get_or, cond, refl, Bool, true, false}
+use Rattle.std.proofs.Common.{◌≡◌, [], length, filter_map, sym, ap, ◌∙◌, arith, subst, ℕ, Option, Some, None, get_or, cond, Bool, true, false}
 use Rattle.std.specs.List.Sorted.{IsStrictlyIncreasing}
 use Rattle.std.proofs.lemmas.List.{take_all}
 use Rattle.sfs_base.proofs.BasicOptions.{none_some, some_same}
@@ -6,7 +6,6 @@ use Rattle.sfs_base.specs.declared.numbers.Kind.TheVariants.{File}
 use Rattle.disk_change.specs.Links.{directory_old, directory_entering}
 use Rattle.disk_change.specs.Nodes.{entry_node, enter_node}
 use Rattle.disk_change.specs.declared.enter.Enter.{Enter}
-use Rattle.disk_change.specs.declared.old.OldEntry.{OldEntry}
 use Rattle.disk_change.proofs.Counted.{given_increase, pushed_more}
 use Rattle.disk_change.proofs.kinds.Directories.of.Goals as goal
 

@@ -1,4 +1,4 @@
-use Rattle.std.proofs.Common.{◌≡◌, ◌<◌, ◌≤◌, length, rules, sym, ap, ◌∙◌, Some, None, arith}
+use Rattle.std.proofs.Common.{rules, ap, ◌∙◌, Some}
 use Rattle.std.proofs.lemmas.List.Sorted.{answers_always}
 use Rattle.disk_change.specs.Nodes.{net_node}
 use Rattle.disk_change.proofs.Keyed.{search_finds, search_misses}
