@@ -1,22 +1,18 @@
 -- What the calls round a gate leave at each moment: those that make a filled slot durable, and those that close it.
-use Rattle.std.proofs.Common.{◌≡◌, ◌⊎◌, ℕ, ◌+◌, ◌-◌, ◌*◌, ◌^◌, ◌<◌, ◌≤◌, List, length, Some, Result, Ok, Err, refl, sym, ◌∙◌, ap, subst, arith, inl, inr}
-use Rattle.std.specs.Prelude.{OnOk}
+use Rattle.std.proofs.Common.{◌≡◌, ◌⊎◌, ℕ, ◌+◌, ◌^◌, ◌<◌, ◌≤◌, List, length, Some, Result, ◌∙◌, arith, inl}
 use Rattle.sfs_image.specs.ImageOf.{InodePart}
 use Rattle.sfs_image.specs.Part.{Part}
-use Rattle.sfs_image.specs.Settled.{slot_byte}
 use Rattle.sfs_dev.specs.Disk.{View, images}
-use Rattle.sfs_dev.specs.Run.{Advances, CountsOn}
-use Rattle.sfs_dev.proofs.Runs.{GoesOn-trans}
-use Rattle.journal_one.specs.Calls.{IsWrite, IsSync, IsCalm}
-use Rattle.journal_one.specs.Job.{Job, fill_piece, gate_piece, table_piece, IsJob}
-use Rattle.journal_one.specs.Known.{Leaves, StandsIn, AreFilled, IsFilled, IsSealed, IsDurable, IsPlaced, IsCopied, IsClosing, IsClosed}
+use Rattle.sfs_dev.specs.Run.{Advances}
+use Rattle.journal_one.specs.Calls.{IsWrite, IsSync}
+use Rattle.journal_one.specs.Job.{Job, fill_piece, gate_piece, IsJob}
+use Rattle.journal_one.specs.Known.{Leaves, AreFilled, IsFilled, IsDurable, IsCopied, IsClosed}
 use Rattle.journal_one.specs.Laws.{HasPieces}
-use Rattle.journal_one.proofs.Kept.{IsLawful, synced_rests, leaves_rest}
-use Rattle.journal_one.proofs.Steps.{sealed_then}
-use Rattle.commit_one.specs.Carried.{LaterLeaves, GoesOnTelling, Keeps, Opens, Shuts}
+use Rattle.journal_one.proofs.Kept.{IsLawful}
+use Rattle.commit_one.specs.Carried.{LaterLeaves, GoesOnTelling, Keeps}
 use Rattle.commit_one.specs.Change.{IsBefore, IsByItsSlot, IsAfter, IsChangeOf}
 use Rattle.commit_one.proofs.Images.{gate_opens_or_stays, open_is_by_its_slot, records_in_table, gate_shuts_or_stays, shut_is_after}
-use Rattle.commit_one.proofs.Moments.{keeps_trans, sync_keeps, later_call, later_trans, later_more, telling_trans, writes_tell, syncs_tell, writes_told, call_advances}
+use Rattle.commit_one.proofs.Moments.{sync_keeps, later_call, later_trans, later_more, telling_trans, writes_tell, writes_told, call_advances}
 
 -- every image has the pieces of a commit, each piece in each image
 has_pieces : (job : Job) (disk : View) → AreFilled job disk → Leaves disk (HasPieces job)

@@ -1,5 +1,5 @@
 -- What each write of a commit makes of an image that stands for parts.
-use Rattle.std.proofs.Common.{◌≡◌, ◌≢◌, ◌⊎◌, ℕ, zero, suc, ◌+◌, ◌-◌, ◌*◌, ◌<◌, ◌≤◌, Bool, true, false, eqb, All, List, [], ◌∷◌, map, length, get_or, Option, None, Some, refl, sym, ◌∙◌, ap, subst, arith, inl, inr, cond}
+use Rattle.std.proofs.Common.{◌≡◌, ◌≢◌, ◌⊎◌, ℕ, zero, suc, ◌+◌, ◌-◌, ◌*◌, ◌<◌, ◌≤◌, Bool, true, false, eqb, All, List, [], ◌∷◌, length, get_or, Option, None, Some, refl, sym, ◌∙◌, ap, subst, arith, inl, inr, cond}
 use Rattle.std.proofs.Math.Path.{fun_ext}
 use Rattle.std.specs.List.{find}
 use Rattle.std.specs.Prelude.{option_map, unwrap_or}
@@ -8,23 +8,21 @@ use Rattle.std.proofs.lemmas.Bool.Decides.{nat_tests}
 use Rattle.std.proofs.lemmas.List.{length-map, get_or-map}
 use Rattle.std.proofs.lemmas.List.Elements.{All-get_or, All-from_get_or}
 use Rattle.sfs_image.specs.Bytes.{part}
-use Rattle.sfs_image.specs.ImageOf.{InodePart, Transaction, FreshBlock, TurnsInto, StandIn, PointsToData, part_given, given, with_opened, with_slot, IsShut, HasBody, IsSlotOf, IsImageOf, transaction_body}
-use Rattle.sfs_image.specs.ImageWrites.{AgreesOutside, LiesApart, MayOpen, MayShut, HasRecordsOf, WritesData, WritesRecord, WritesBody, OpensGate, LeavesGate, ShutsGate}
+use Rattle.sfs_image.specs.ImageOf.{InodePart, Transaction, FreshBlock, TurnsInto, StandIn, part_given, given, with_opened, with_slot, HasBody, IsSlotOf, IsImageOf}
+use Rattle.sfs_image.specs.ImageWrites.{AgreesOutside, LiesApart, HasRecordsOf}
 use Rattle.sfs_image.specs.Journal.{Entry, head_of}
-use Rattle.sfs_image.specs.Laws.{IsShutAfter}
 use Rattle.sfs_image.specs.Part.{Part, IsGathered, pointer_at}
 use Rattle.sfs_image.specs.Settled.{Stamped, image_block, journal_slot, slot_byte, slot_count, table_byte, table_record}
-use Rattle.sfs_image.specs.Super.{slot_blocks, data_start}
 use Rattle.sfs_image.proofs.GateLaws.{gate_opens, gate_shuts, oldest_may_shut}
-use Rattle.sfs_image.proofs.GivenLaws.{with_slot-same, with_slot-other, given_from}
+use Rattle.sfs_image.proofs.GivenLaws.{with_slot-same, with_slot-other}
 use Rattle.sfs_image.proofs.ImageOfLaws.{fresh_make}
 use Rattle.sfs_image.proofs.NewestLaws.{none_newest, newest_none}
 use Rattle.sfs_image.proofs.BytesLaws.{None-option_map}
 use Rattle.sfs_image.proofs.WrittenLaws.{data_written, table_written, body_written, gate_written}
 use Rattle.sfs_dev.specs.Ranges.{SameOutside}
-use Rattle.journal_one.specs.Job.{Job, Piece, fill_count, fill_piece, body_piece, fresh_piece, table_piece, gate_piece, no_block, no_entry, IsJob}
+use Rattle.journal_one.specs.Job.{Job, Piece, fill_piece, body_piece, table_piece, no_block, no_entry, IsJob}
 use Rattle.journal_one.specs.Known.{StandsIn, IsShutIn, IsOpenIn}
-use Rattle.journal_one.specs.Laws.{HasPieces, HasBodyOf, job_body}
+use Rattle.journal_one.specs.Laws.{HasPieces}
 use Rattle.journal_one.proofs.Bodies.{body_read, placed_in_table}
 use Rattle.journal_one.proofs.Places.{body_lies, fresh_is, body_is, in_data, entry_long, entry_below}
 use Rattle.commit_one.specs.Change.{nothing_open, entry_of_part, transaction_of, opened_by, parts_after, IsBefore, IsByItsSlot, IsAfter, AreFree, IsChangeOf}

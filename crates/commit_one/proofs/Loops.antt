@@ -1,18 +1,15 @@
 -- What the writes of a loop have done so far.
-use Rattle.std.proofs.Common.{◌≡◌, ◌≢◌, ℕ, ◌+◌, ◌-◌, ◌*◌, ◌^◌, ◌<◌, ◌≤◌, List, length, Some, Result, Ok, Err, refl, sym, ◌∙◌, ap, subst, arith}
-use Rattle.std.specs.Prelude.{OnOk, OnErr, IfErr}
-use Rattle.sfs_base.specs.Ends.{HasCause}
+use Rattle.std.proofs.Common.{◌≡◌, ℕ, ◌+◌, ◌^◌, ◌<◌, List, length, Result, Ok, refl, sym, ◌∙◌, ap, subst, arith}
 use Rattle.sfs_image.specs.ImageOf.{InodePart}
 use Rattle.sfs_image.specs.Part.{Part}
-use Rattle.sfs_dev.specs.Disk.{View, images}
+use Rattle.sfs_dev.specs.Disk.{View}
 use Rattle.sfs_dev.specs.Run.{Advances, CountsOn}
 use Rattle.sfs_dev.proofs.Runs.{GoesOn-refl, GoesOn-trans}
-use Rattle.journal_one.specs.Calls.{IsWrite, HasDoubt}
-use Rattle.journal_one.specs.Job.{Job, Piece, fill_count, fill_piece, table_piece, IsJob}
+use Rattle.journal_one.specs.Calls.{IsWrite}
+use Rattle.journal_one.specs.Job.{Job, fill_count, fill_piece, table_piece, IsJob}
 use Rattle.journal_one.specs.Known.{Leaves, IsFilling, IsFilled, IsDurable, IsPlaced}
 use Rattle.journal_one.specs.Stage.{Stage, left_to_fill, left_to_place, next_stage}
-use Rattle.journal_one.specs.declared.doubt.Doubt.{Doubt}
-use Rattle.commit_one.specs.Carried.{Keeps, TakesCalls}
+use Rattle.commit_one.specs.Carried.{Keeps}
 use Rattle.commit_one.specs.Change.{IsBefore, IsByItsSlot, AreFree, IsChangeOf}
 use Rattle.commit_one.proofs.Images.{fill_keeps, place_keeps}
 use Rattle.commit_one.proofs.Moments.{keeps_none, keeps_trans, write_keeps, writes_told, call_advances}

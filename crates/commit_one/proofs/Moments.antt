@@ -1,14 +1,14 @@
 -- How what images have goes on over the moments of device calls.
-use Rattle.std.proofs.Common.{◌≡◌, ℕ, ◌+◌, ◌^◌, ◌<◌, ◌≤◌, List, length, Option, Some, Result, Ok, Err, refl, sym, ◌∙◌, ap, subst, arith, inl, inr, option_map}
+use Rattle.std.proofs.Common.{◌≡◌, ℕ, ◌^◌, ◌<◌, ◌≤◌, List, length, Option, Some, Result, Ok, Err, sym, ◌∙◌, ap, subst, arith, inl, inr, option_map}
 use Rattle.std.proofs.lemmas.Bool.{cases_lt}
 use Rattle.sfs_dev.specs.Ranges.{put, SameOutside}
-use Rattle.sfs_dev.specs.Disk.{View, Torn, TornTold, Elapses, IsDeviceCall, images}
+use Rattle.sfs_dev.specs.Disk.{View, TornTold, Elapses, IsDeviceCall, images}
 use Rattle.sfs_dev.specs.Run.{Advances, CountsOn}
-use Rattle.sfs_dev.proofs.Runs.{GoesOn-refl, GoesOn-call, GoesOn-trans}
+use Rattle.sfs_dev.proofs.Runs.{GoesOn-call}
 use Rattle.journal_one.specs.Calls.{IsWrite, IsSync}
 use Rattle.journal_one.specs.Job.{Piece}
 use Rattle.journal_one.specs.Known.{Leaves}
-use Rattle.journal_one.proofs.Kept.{IsLawful, Rests, synced_rests, put_told}
+use Rattle.journal_one.proofs.Kept.{IsLawful, synced_rests, put_told}
 use Rattle.sfs_dev.proofs.Held.{told_before}
 use Rattle.commit_one.specs.Carried.{LaterLeaves, GoesOnTelling, Keeps}
 

@@ -1,14 +1,14 @@
 -- A whole commit, from the four parts that it is made of.
-use Rattle.std.proofs.Common.{◌≡◌, ◌⊎◌, ℕ, ◌+◌, ◌-◌, ◌*◌, ◌^◌, ◌<◌, ◌≤◌, List, length, Some, refl, sym, ◌∙◌, ap, subst, arith, inl, inr}
+use Rattle.std.proofs.Common.{◌≡◌, ◌⊎◌, ℕ, ◌+◌, ◌<◌, ◌≤◌, List, Some, sym, subst, arith, inl, inr}
 use Rattle.std.proofs.lemmas.Bool.{cases_lt}
 use Rattle.sfs_image.specs.ImageOf.{InodePart}
 use Rattle.sfs_image.specs.Part.{Part}
 use Rattle.sfs_dev.specs.Disk.{View, images}
 use Rattle.sfs_dev.specs.Run.{Advances, CountsOn, EachMoment}
 use Rattle.sfs_dev.proofs.Runs.{GoesOn-trans}
-use Rattle.journal_one.specs.Job.{Job, fill_count, fill_piece, IsJob}
+use Rattle.journal_one.specs.Job.{Job, fill_count, IsJob}
 use Rattle.journal_one.specs.Known.{Leaves, IsIdle, IsFilling}
-use Rattle.commit_one.specs.Carried.{LaterLeaves, GoesOnTelling, Keeps, IsMomentOf, sealed_at, durable_at}
+use Rattle.commit_one.specs.Carried.{LaterLeaves, GoesOnTelling, Keeps, IsMomentOf, durable_at}
 use Rattle.commit_one.specs.Change.{IsBefore, IsByItsSlot, IsAfter, IsChangeOf}
 use Rattle.commit_one.proofs.Moments.{later_trans, telling_trans}
 

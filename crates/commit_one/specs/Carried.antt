@@ -1,8 +1,8 @@
 -- What a commit leaves at each moment of its device calls. Of a disk that does not tell what a read gives nothing is claimed.
-use Rattle.std.specs.Prelude.{◌≡◌, ◌⊎◌, ℕ, ◌+◌, ◌*◌, ◌<◌, ◌≤◌, List, length, Some, Result, OnOk, IfErr}
+use Rattle.std.specs.Prelude.{◌≡◌, ◌⊎◌, ℕ, ◌+◌, ◌<◌, ◌≤◌, List, length, Some, Result, OnOk}
 use Rattle.sfs_image.specs.ImageOf.{InodePart}
 use Rattle.sfs_image.specs.Part.{Part}
-use Rattle.sfs_dev.specs.Disk.{View, images}
+use Rattle.sfs_dev.specs.Disk.{View}
 use Rattle.sfs_dev.specs.Run.{CountsOn, EachMoment}
 use Rattle.journal_one.specs.Job.{Job, fill_count}
 use Rattle.journal_one.specs.Known.{Leaves}

@@ -1,10 +1,9 @@
 -- What a whole commit leaves, at each exit.
-use Rattle.std.proofs.Common.{◌≡◌, ℕ, ◌+◌, ◌-◌, ◌^◌, ◌<◌, ◌≤◌, List, length, Some, Ok, Err, Result, arith, subst, sym, ◌∙◌, ap}
+use Rattle.std.proofs.Common.{◌≡◌, ℕ, ◌+◌, ◌≤◌, List, length, arith, subst, sym, ◌∙◌, ap}
 use Rattle.std.specs.Prelude.{OnOk}
 use Rattle.std.proofs.lemmas.Result.{err_from_is_err_and}
 use Rattle.sfs_image.specs.ImageOf.{InodePart}
 use Rattle.sfs_image.specs.Part.{Part}
-use Rattle.sfs_dev.specs.Disk.{View}
 use Rattle.sfs_dev.specs.Run.{Advances, CountsOn}
 use Rattle.sfs_dev.proofs.Runs.{GoesOn-trans}
 use Rattle.journal_one.specs.Job.{Job, IsJob, fill_count}
@@ -12,7 +11,7 @@ use Rattle.journal_one.specs.Known.{Leaves, IsFilling, IsFilled, IsDurable, IsPl
 use Rattle.journal_one.specs.Stage.{Stage, left_to_fill, left_to_place}
 use Rattle.commit_one.specs.Carried.{Keeps, Opens, Shuts, Carries, TakesCalls, calls_of}
 use Rattle.commit_one.specs.Change.{IsBefore, IsByItsSlot, IsAfter, AreFree, IsChangeOf, job_for}
-use Rattle.commit_one.proofs.Whole.{filling_before, each_moment, fill_moments, open_moments, open_tells, durable_is, place_moments, place_tells, shut_moments, acknowledged}
+use Rattle.commit_one.proofs.Whole.{filling_before, each_moment, fill_moments, open_moments, place_moments, shut_moments, acknowledged}
 use Rattle.commit_one.proofs.steps.commit.Goals as goal
 
 pub returns-in_err-filled-clause-carried : goal.returns-in_err-filled-clause-carried

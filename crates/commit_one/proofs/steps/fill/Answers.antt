@@ -1,8 +1,7 @@
 -- What the writes that fill the slot have done, at each exit.
-use Rattle.std.proofs.Common.{◌≡◌, ℕ, ◌<◌, Ok, subst, arith}
+use Rattle.std.proofs.Common.{subst, arith}
 use Rattle.journal_one.specs.Outcome.{FillsOn}
-use Rattle.journal_one.specs.declared.slot.Fill.{Fill}
-use Rattle.commit_one.proofs.Loops.{fills_none, fills_more, fills_done, fill_goes, fill_shows, fill_time}
+use Rattle.commit_one.proofs.Loops.{fills_more, fills_done, fill_goes, fill_shows, fill_time}
 use Rattle.commit_one.proofs.steps.fill.Goals as goal
 
 pub returns-in_err-next-clause-keeps : goal.returns-in_err-next-clause-keeps

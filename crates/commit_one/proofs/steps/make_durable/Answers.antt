@@ -1,16 +1,14 @@
 -- What the three calls that make a slot durable leave, at each exit.
-use Rattle.std.proofs.Common.{◌≡◌, ℕ, ◌+◌, ◌^◌, ◌<◌, ◌≤◌, Ok, Err, Result, arith, subst, sym, ◌∙◌, ap}
+use Rattle.std.proofs.Common.{◌≡◌, Ok, Err, Result, arith, subst, sym, ◌∙◌}
 use Rattle.std.specs.Prelude.{OnOk}
 use Rattle.std.proofs.lemmas.Result.{err_from_is_err_and, on_ok_weaker}
-use Rattle.sfs_dev.specs.Disk.{View}
-use Rattle.sfs_dev.specs.Run.{Advances, CountsOn}
+use Rattle.sfs_dev.specs.Run.{Advances}
 use Rattle.sfs_dev.proofs.Runs.{GoesOn-trans}
-use Rattle.journal_one.specs.Calls.{IsWrite, IsSync}
+use Rattle.journal_one.specs.Calls.{IsWrite}
 use Rattle.journal_one.specs.Job.{Job, gate_piece}
-use Rattle.journal_one.specs.Known.{AreFilled, IsFilled, IsSealed, IsOpened, IsDurable}
-use Rattle.journal_one.specs.declared.doubt.Doubt.{Doubt}
+use Rattle.journal_one.specs.Known.{AreFilled, IsSealed, IsOpened, IsDurable}
 use Rattle.journal_one.proofs.Kept.{IsLawful}
-use Rattle.commit_one.specs.Carried.{Opens, TakesCalls}
+use Rattle.commit_one.specs.Carried.{Opens}
 use Rattle.commit_one.proofs.Gates.{seal_keeps, seal_later, gate_tells, gate_later, settle_tells, settle_later, settle_leaves, whole_from}
 use Rattle.commit_one.proofs.Moments.{call_advances}
 use Rattle.commit_one.proofs.steps.make_durable.Goals as goal

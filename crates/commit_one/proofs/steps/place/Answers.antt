@@ -1,8 +1,7 @@
 -- What the writes that place the records have done, at each exit.
-use Rattle.std.proofs.Common.{◌≡◌, ℕ, ◌<◌, Ok, subst, arith}
+use Rattle.std.proofs.Common.{subst, arith}
 use Rattle.journal_one.specs.Outcome.{PlacesOn}
-use Rattle.journal_one.specs.declared.slot.Put.{Put}
-use Rattle.commit_one.proofs.Loops.{places_none, places_more, places_done, place_goes, place_shows, place_time}
+use Rattle.commit_one.proofs.Loops.{places_more, places_done, place_goes, place_shows, place_time}
 use Rattle.commit_one.proofs.steps.place.Goals as goal
 
 pub returns-in_err-next-clause-keeps : goal.returns-in_err-next-clause-keeps

@@ -1,16 +1,14 @@
 -- What the three calls that close a slot leave, at each exit.
-use Rattle.std.proofs.Common.{◌≡◌, ℕ, ◌+◌, ◌^◌, ◌<◌, ◌≤◌, Ok, Err, Result, arith, subst, sym, ◌∙◌, ap}
+use Rattle.std.proofs.Common.{◌≡◌, Ok, Err, Result, arith, subst, sym, ◌∙◌}
 use Rattle.std.specs.Prelude.{OnOk}
 use Rattle.std.proofs.lemmas.Result.{err_from_is_err_and, on_ok_weaker}
-use Rattle.sfs_dev.specs.Disk.{View}
-use Rattle.sfs_dev.specs.Run.{Advances, CountsOn}
+use Rattle.sfs_dev.specs.Run.{Advances}
 use Rattle.sfs_dev.proofs.Runs.{GoesOn-trans}
-use Rattle.journal_one.specs.Calls.{IsWrite, IsSync}
+use Rattle.journal_one.specs.Calls.{IsWrite}
 use Rattle.journal_one.specs.Job.{Job, gate_piece}
-use Rattle.journal_one.specs.Known.{IsPlaced, IsCopied, IsClosing, IsClosed}
-use Rattle.journal_one.specs.declared.doubt.Doubt.{Doubt}
+use Rattle.journal_one.specs.Known.{IsCopied, IsClosing, IsClosed}
 use Rattle.journal_one.proofs.Kept.{IsLawful}
-use Rattle.commit_one.specs.Carried.{Shuts, TakesCalls}
+use Rattle.commit_one.specs.Carried.{Shuts}
 use Rattle.commit_one.proofs.Gates.{copy_keeps, copy_later, shut_tells, shut_later, finish_tells, finish_later, finish_leaves}
 use Rattle.commit_one.proofs.Moments.{call_advances}
 use Rattle.commit_one.proofs.steps.shut.Goals as goal
