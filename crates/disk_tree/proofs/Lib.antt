@@ -1,0 +1,5 @@
+pub mod ContentRead
+pub mod InodesRead
+pub mod ReadRuns
+pub mod Refusals
+pub mod TablesRead

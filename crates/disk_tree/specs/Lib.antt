@@ -1,0 +1,5 @@
+pub mod Cause
+pub mod First
+pub mod Inodes
+pub mod Judged
+pub mod Reading

@@ -1,0 +1,8 @@
+//! Reads the inodes of an image, judges them by the rules, and makes the tree that they show.
+#![tactic(auto)]
+
+mod fault;
+mod gather;
+mod inodes;
+
+pub use fault::TreeFault;
