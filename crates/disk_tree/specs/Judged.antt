@@ -44,3 +44,7 @@ abbrev pub IsReadRefusal : (ℕ → ℕ → Type 0) → Refusal → Type 0
 IsReadRefusal P (BadImage inode rule) = P inode rule
 IsReadRefusal P NoMemory = Unit {0}
 IsReadRefusal P DiskFailed = Unit {0}
+
+-- a refusal is for no inode: the disk failed, or memory is wanting
+abbrev pub IsPlain : Refusal → Type 0
+IsPlain = IsReadRefusal (λ _ _. ⊥)

@@ -1,8 +1,9 @@
 // What is read of one inode: its indirect blocks, and the blocks of its bytes.
-ghost use Rattle.std.specs.Prelude.{◌≡◌, ℕ, ◌+◌, ◌<◌, ◌≤◌, All, slice_index, IfOk, OnOk};
+ghost use Rattle.std.specs.Prelude.{◌≡◌, ℕ, ◌+◌, ◌<◌, ◌≤◌, All, slice_index, IfOk, IfErr, OnOk};
 ghost use Rattle.sfs_image.specs.Seen.{FILE_BLOCKS};
 ghost use Rattle.block_map.specs.Kept.{block_kept};
 ghost use Rattle.disk_tree.specs.Cause.{OnlyReads};
+ghost use Rattle.disk_tree.specs.Judged.{IsPlain};
 ghost use Rattle.disk_tree.specs.Reading.{IsReadBlock, IsNextTable, HasTables, HasContent};
 
 use crate::TreeFault;
@@ -27,6 +28,7 @@ fn read_block<D: Disk>(
     requires { pointer < (D.view disk.old).size }
     ensures ok { OnOk result (IsReadBlock (D.view disk.old).content pointer block.new) }
     ensures reads { OnlyReads (D.view disk.old) (D.view disk.new) result }
+    ensures plain { IfErr result IsPlain }
 {
     if pointer == 0 {
         clear(block);
@@ -41,6 +43,7 @@ pub fn read_tables<D: Disk>(alloc: Global, disk: &mut D, inode: &Inode) -> Resul
     requires { (k : ℕ) → slice_index inode.now.indirect k < (D.view disk.old).size }
     ensures ok { IfOk result (λ tables. HasTables (D.view disk.old).content inode.now tables.items) }
     ensures reads { OnlyReads (D.view disk.old) (D.view disk.new) result }
+    ensures plain { IfErr result IsPlain }
 {
     let mut tables = Tables::new(alloc);
     for place in 0..TABLES {
@@ -62,6 +65,7 @@ fn read_table<D: Disk>(
     requires above { All (λ t. t.place < place) tables.old.items }
     ensures ok { OnOk result (IsNextTable (D.view disk.old).content inode.now place tables.old.items tables.new.items) }
     ensures reads { OnlyReads (D.view disk.old) (D.view disk.new) result }
+    ensures plain { IfErr result IsPlain }
 {
     let pointer = inode.indirect[place as usize];
     if pointer == 0 {
@@ -87,6 +91,7 @@ pub fn read_content<D: Disk>(
     requires within { (n : ℕ) → n < count → block_kept inode.now tables.now.items n < (D.view disk.old).size }
     ensures ok { IfOk result (λ bytes. HasContent (D.view disk.old).content inode.now tables.now.items count bytes.items) }
     ensures reads { OnlyReads (D.view disk.old) (D.view disk.new) result }
+    ensures plain { IfErr result IsPlain }
 {
     let mut bytes = Vec::new(alloc);
     let mut block = [0; BLOCK_BYTES];

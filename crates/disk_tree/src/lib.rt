@@ -4,5 +4,6 @@
 mod fault;
 mod gather;
 mod inodes;
+mod pointers;
 
 pub use fault::TreeFault;
