@@ -1,5 +1,8 @@
 pub mod ContentRead
+pub mod HeldOnce
 pub mod InodesRead
+pub mod MarksSet
+pub mod PartsRead
 pub mod PointersJudged
 pub mod ReadRuns
 pub mod Refusals

@@ -185,7 +185,7 @@ free_judged told layout inode fits free = record {
 }
 
 -- the indirect blocks of an inode of which none was read
-unread_tables : (told : Option (List ℕ)) (inode : Inode) → length inode.indirect ≡ 16 → HasTables told inode (tables_kept inode (map (read_block (store_of told)) inode.indirect))
+pub unread_tables : (told : Option (List ℕ)) (inode : Inode) → length inode.indirect ≡ 16 → HasTables told inode (tables_kept inode (map (read_block (store_of told)) inode.indirect))
 unread_tables told inode long = record {
   blocks = map (read_block (store_of told)) inode.indirect;
   read = record {

@@ -1,4 +1,6 @@
+pub mod Apart
 pub mod Cause
+pub mod Contents
 pub mod First
 pub mod Gathered
 pub mod Inodes

@@ -1,9 +1,12 @@
 //! Reads the inodes of an image, judges them by the rules, and makes the tree that they show.
 #![tactic(auto)]
 
+mod apart;
+mod contents;
 mod fault;
 mod gather;
 mod inodes;
 mod pointers;
+mod stages;
 
 pub use fault::TreeFault;
