@@ -1,4 +1,5 @@
 pub mod ContentRead
+pub mod ContentsRead
 pub mod HeldOnce
 pub mod InodesRead
 pub mod MarksSet
@@ -6,5 +7,6 @@ pub mod PartsRead
 pub mod PointersJudged
 pub mod ReadRuns
 pub mod Refusals
+pub mod SlotsRead
 pub mod TablesGathered
 pub mod TablesRead

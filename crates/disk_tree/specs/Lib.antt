@@ -1,4 +1,5 @@
 pub mod Apart
+pub mod Blocks
 pub mod Cause
 pub mod Contents
 pub mod First

@@ -2,6 +2,7 @@
 #![tactic(auto)]
 
 mod apart;
+mod blocks;
 mod contents;
 mod fault;
 mod gather;
