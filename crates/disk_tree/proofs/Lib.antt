@@ -3,10 +3,13 @@ pub mod ContentsRead
 pub mod HeldOnce
 pub mod InodesRead
 pub mod MarksSet
+pub mod NamesMet
 pub mod PartsRead
 pub mod PointersJudged
 pub mod ReadRuns
 pub mod Refusals
+pub mod RowsCounted
+pub mod RowsGathered
 pub mod SlotsRead
 pub mod TablesGathered
 pub mod TablesRead

@@ -30,7 +30,7 @@ filter_map_same f g a (suc n) same =
     ap (λ o. cons_option o (filter_map f (range_with_len (a + 1) n))) (same a (omega arith) (omega arith))
     ∙ ap (cons_option (g a)) (filter_map_same f g (a + 1) n (λ k low high. same k (omega arith) (omega arith)))
 
-as_list : {X : Type 0} (o : Option X) → cons_option o [] ≡ option_to_list o
+pub as_list : {X : Type 0} (o : Option X) → cons_option o [] ≡ option_to_list o
 as_list None = refl
 as_list (Some x) = refl
 

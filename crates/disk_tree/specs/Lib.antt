@@ -8,3 +8,4 @@ pub mod Inodes
 pub mod Judged
 pub mod Pointers
 pub mod Reading
+pub mod Rows

@@ -8,6 +8,7 @@ mod fault;
 mod gather;
 mod inodes;
 mod pointers;
+mod rows;
 mod stages;
 
 pub use fault::TreeFault;
