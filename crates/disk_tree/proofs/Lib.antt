@@ -13,3 +13,4 @@ pub mod RowsGathered
 pub mod SlotsRead
 pub mod TablesGathered
 pub mod TablesRead
+pub mod Visited

@@ -7,5 +7,6 @@ pub mod Gathered
 pub mod Inodes
 pub mod Judged
 pub mod Pointers
+pub mod Reached
 pub mod Reading
 pub mod Rows

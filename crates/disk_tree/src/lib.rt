@@ -8,6 +8,7 @@ mod fault;
 mod gather;
 mod inodes;
 mod pointers;
+mod reached;
 mod rows;
 mod stages;
 
