@@ -4,6 +4,7 @@ pub mod HeldOnce
 pub mod InodesRead
 pub mod MarksSet
 pub mod NamesMet
+pub mod NamesTwice
 pub mod PartsRead
 pub mod PointersJudged
 pub mod ReadRuns

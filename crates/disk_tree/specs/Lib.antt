@@ -10,3 +10,4 @@ pub mod Pointers
 pub mod Reached
 pub mod Reading
 pub mod Rows
+pub mod Tests

@@ -57,7 +57,7 @@ abbrev pub rows_in_bucket : List Row → ℕ → ℕ
 rows_in_bucket rows number = count_by (λ row. bucket row.name == number) rows
 
 -- whether one of the eight buckets has more rows than it may have
-abbrev pub has_full_bucket : List Row → Bool
+unfoldable pub has_full_bucket : List Row → Bool
 has_full_bucket rows = list_any (λ number. nat_lt BUCKET_ROWS (rows_in_bucket rows number)) (range_with_len 0 8)
 
 -- whether a row's inode is beyond the last one, free, or of another kind than the row
@@ -76,11 +76,6 @@ named_by rows (suc n) i = named_by rows n i + naming i (rows_at rows n)
 -- how many of some rows name directories
 abbrev pub directories_in : List Row → ℕ
 directories_in rows = count_by (λ row. is_directory_kind row.kind) rows
-
--- the link count of an inode, by the rows
-abbrev pub links_by : List Inode → List (Roomy Row) → ℕ → ℕ
-links_by inodes rows i =
-    if (inode_at inodes i).kind == 2 then 2 + directories_in (rows_at rows i) else named_by rows (length inodes) i
 
 -- how many rows the first n inodes have
 abbrev pub named_rows : List (Roomy Row) → ℕ → ℕ

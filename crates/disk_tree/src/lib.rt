@@ -7,6 +7,7 @@ mod contents;
 mod fault;
 mod gather;
 mod inodes;
+mod judge;
 mod pointers;
 mod reached;
 mod rows;

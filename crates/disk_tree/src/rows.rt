@@ -78,6 +78,7 @@ pub fn have_one_name(alloc: Global, rows: &[SlotRow]) -> Result<bool, NoMemory>
 }
 
 /// One of the eight buckets has more rows than it may have.
+#[tactic(auto, unfolding(crate::specs::Rows::has_full_bucket))]
 pub fn has_full_bucket(rows: &[SlotRow]) -> bool
     ensures { result ≡ has_full_bucket rows.now }
 {
