@@ -1,12 +1,15 @@
 pub mod ContentRead
 pub mod ContentsRead
+pub mod Entries
 pub mod HeldOnce
 pub mod InodesRead
 pub mod MarksSet
 pub mod NamesMet
 pub mod NamesTwice
+pub mod NodesPut
 pub mod PartsRead
 pub mod PointersJudged
+pub mod Putting
 pub mod ReadRuns
 pub mod Refusals
 pub mod RowsCounted

@@ -1,5 +1,6 @@
 pub mod Apart
 pub mod Blocks
+pub mod Built
 pub mod Cause
 pub mod Contents
 pub mod First

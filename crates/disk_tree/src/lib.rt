@@ -3,6 +3,7 @@
 
 mod apart;
 mod blocks;
+mod build;
 mod contents;
 mod fault;
 mod gather;
