@@ -53,7 +53,7 @@ module _ (layout : Layout) (records : List (List ℕ)) (parts : ℕ → Part) (h
 
 -- parts of which nothing but the records was read
 module _ (told : Option (List ℕ)) (layout : Layout) (records : List (List ℕ)) where
-  abbrev unread : ℕ → Part
+  abbrev pub unread : ℕ → Part
   unread i = part_of (store_of told) (slice_index_or records i [])
 
   pub unread_read : AreReadParts told layout records unread

@@ -1,4 +1,6 @@
 pub mod ContentRead
+pub mod BytesJudged
+pub mod BytesStage
 pub mod ContentsRead
 pub mod Entries
 pub mod HeldOnce

@@ -84,13 +84,13 @@ module _ (told : Option (List ℕ)) (layout : Layout) (records : List (List ℕ)
   abbrev raw_at : ℕ → List ℕ
   raw_at i = slice_index_or records i []
 
-  own_inode : (i : ℕ) → i < layout.inodes → inode_at inodes i ≡ inode_of (raw_at i)
+  pub own_inode : (i : ℕ) → i < layout.inodes → inode_at inodes i ≡ inode_of (raw_at i)
   own_inode i within = inode_at_record records inodes i are (omega arith)
 
   pub inodes_count : length inodes ≡ layout.inodes
   inodes_count = ap length are ∙ Rattle.std.proofs.lemmas.List.length-map records inode_of ∙ count
 
-  fits_at : (i : ℕ) → i < layout.inodes → IsInode (inode_of (raw_at i))
+  pub fits_at : (i : ℕ) → i < layout.inodes → IsInode (inode_of (raw_at i))
   fits_at i within = subst IsInode (own_inode i within) (All-get_or IsInode inodes i (inode_of []) (let c = inodes_count in omega arith) fit)
 
   -- parts that were read and whose indirect blocks are kept so
@@ -107,14 +107,14 @@ module _ (told : Option (List ℕ)) (layout : Layout) (records : List (List ℕ)
         ∙ judged.judged
 
     module _ (keep : KeepTables layout tables parts) where
-      own_pointer : (i place : ℕ) → i < layout.inodes → pointer_at (parts i) place ≡ pointer_in inodes tables i place
+      pub own_pointer : (i place : ℕ) → i < layout.inodes → pointer_at (parts i) place ≡ pointer_in inodes tables i place
       own_pointer i place within =
           read_pointer told (raw_at i) (parts i) (read i within) place
           ∙ ap (λ (inode : Inode). pointer_kept inode (kept_tables (parts i)) place) (sym (own_inode i within))
           ∙ ap (λ (own : List Table). pointer_kept (inode_at inodes i) own place) (keep i within)
 
       -- no free inode has a pointer
-      used_of_pointer : (i place : ℕ) → i < layout.inodes → place < PLACES → pointer_at (parts i) place ≢ 0 → is_free_part (parts i) ≡ false
+      pub used_of_pointer : (i place : ℕ) → i < layout.inodes → place < PLACES → pointer_at (parts i) place ≢ 0 → is_free_part (parts i) ≡ false
       used_of_pointer i place within inside some = elim (cases_Bool (is_free_part (parts i))) [
         | inr used ↦ used
         | inl free ↦ (let kind : (inode_of (raw_at i)).kind ≡ 0 = sym (ap (λ (n : Inode). n.kind) (read_inode told (raw_at i) (parts i) (read i within))) ∙ eqb-true _ _ free in

@@ -1,12 +1,15 @@
 -- The rules that speak of the bytes of an inode, by what was read.
-use Rattle.std.specs.Prelude.{◌≡◌, ℕ, ◌-◌, ◌*◌, ◌/◌, ◌%◌, ◌<◌, ◌==◌, ◌&&◌, not, is_some, Bool, true, false, List, [], map, length, slice_index_or, Option, None, Some, if◌then◌else◌}
+use Rattle.std.specs.Prelude.{◌≡◌, ℕ, ◌-◌, ◌*◌, ◌/◌, ◌%◌, ◌<◌, ◌≤◌, ◌==◌, ◌&&◌, not, is_some, Bool, true, false, List, [], map, length, slice_index_or, Option, None, Some, if◌then◌else◌}
 use Rattle.std.specs.List.{range_with_len, list_any}
 use Rattle.sfs_base.specs.Lists.{Roomy}
 use Rattle.sfs_image.specs.Bytes.{part, nonzero_in}
-use Rattle.sfs_image.specs.Inode.{Inode}
+use Rattle.sfs_image.specs.Inode.{Inode, Table}
+use Rattle.sfs_image.specs.Part.{Part}
+use Rattle.sfs_image.specs.Rules.{breaks_bytes_rule}
+use Rattle.sfs_image.specs.Super.{Layout}
 use Rattle.sfs_image.specs.Slot.{Row}
 use Rattle.sfs_image.specs.SlotBlock.{slots_of, slots_fault}
-use Rattle.disk_tree.specs.Contents.{bytes_at}
+use Rattle.disk_tree.specs.Contents.{bytes_at, HoldContents}
 use Rattle.disk_tree.specs.First.{IsFirst, NonePasses}
 use Rattle.disk_tree.specs.Inodes.{inode_at}
 
@@ -59,3 +62,10 @@ pub record AreSlotLists (inodes : List Inode) (contents : List (Roomy ℕ)) (n :
 pub record BreaksSeventh (inodes : List Inode) (contents : List (Roomy ℕ)) (inode rule : ℕ) : Type 0 where
   pub seventh : rule ≡ 7
   pub first : IsFirst (length inodes) (breaks_slots_at inodes contents) inode
+
+-- Parts were read, with their bytes and slots, and keep the first seven rules.
+pub record ReadWell (told : Option (List ℕ)) (layout : Layout) (records : List (List ℕ)) (inodes : List Inode) (tables : List (Roomy Table)) (contents : List (Roomy ℕ)) (slots : List (Roomy (List (Option Row)))) : Type 0 where
+  pub parts : ℕ → Part
+  pub hold : HoldContents told layout records tables contents parts
+  pub slots_are : AreSlotLists inodes contents layout.inodes slots
+  pub keep : (rule i : ℕ) → 1 ≤ rule → rule ≤ 7 → i < layout.inodes → breaks_bytes_rule rule layout parts i ≡ false
