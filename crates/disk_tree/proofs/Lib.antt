@@ -16,6 +16,7 @@ pub mod ReadRuns
 pub mod Refusals
 pub mod RowsCounted
 pub mod RowsGathered
+pub mod RowsShown
 pub mod SlotsRead
 pub mod TablesGathered
 pub mod TablesRead

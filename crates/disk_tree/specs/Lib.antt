@@ -11,4 +11,5 @@ pub mod Pointers
 pub mod Reached
 pub mod Reading
 pub mod Rows
+pub mod Shown
 pub mod Tests

@@ -9,9 +9,11 @@ mod fault;
 mod gather;
 mod inodes;
 mod judge;
+mod laws;
 mod pointers;
 mod reached;
 mod rows;
 mod stages;
 
 pub use fault::TreeFault;
+pub use laws::row_tests_are_rules;
