@@ -3,6 +3,7 @@ pub mod BytesJudged
 pub mod BytesStage
 pub mod ContentsRead
 pub mod Entries
+pub mod CountsShown
 pub mod HeldOnce
 pub mod InodesRead
 pub mod MarksSet
