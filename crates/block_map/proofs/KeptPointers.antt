@@ -66,7 +66,7 @@ entry_kept entry found = option_map_or (λ table. slice_index table.pointers ent
 
 module _ (inode : Inode) (blocks : List (List ℕ)) where
   -- an indirect block that is kept has its place
-  kept_at_place : PutsAtPlace (table_kept inode blocks)
+  pub kept_at_place : PutsAtPlace (table_kept inode blocks)
   kept_at_place k table is =
       elim (cases_Bool (eqb (slice_index inode.indirect k) 0)) [
         | inl hole ↦ (let none = cond-true (eqb (slice_index inode.indirect k) 0) _ _ hole in absurd (none_some (sym none ∙ is)))

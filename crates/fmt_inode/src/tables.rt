@@ -1,4 +1,4 @@
-ghost use Rattle.std.specs.Prelude.{◌≡◌, ◌+◌, ◌<◌, ◌≤◌, ◌==◌, [], ◌∷◌, ◌++◌, find, slice_get, slice_index, slice_set, replicate, All, IfOk, OnOk, OnErr};
+ghost use Rattle.std.specs.Prelude.{◌≡◌, ◌+◌, ◌<◌, ◌≤◌, ◌==◌, [], ◌∷◌, ◌++◌, find, slice_get, slice_index, slice_set, replicate, length, All, IfOk, OnOk, OnErr};
 ghost use Rattle.std.specs.Option.{option_copied};
 ghost use Rattle.sfs_image.specs.Inode.{pointers_of, pointers_bytes};
 
@@ -69,6 +69,14 @@ impl Table {
         ensures { result ≡ slice_index self.now.pointers entry }
     {
         self.pointers[entry]
+    }
+
+    /// The 1,024 pointers.
+    pub fn pointers(&self) -> &[u32]
+        ensures pointers { result.now ≡ self.now.pointers }
+        ensures count { length result.now ≡ 1024 }
+    {
+        &self.pointers
     }
 
     /// Puts a pointer at an entry, from 0 to 1,023. It takes no memory.

@@ -60,6 +60,13 @@ impl SlotBlock {
         self.slots[place].as_ref()
     }
 
+    /// The 15 slots.
+    pub fn as_slice(&self) -> &[Option<SlotRow>]
+        ensures { result.now ≡ self.now }
+    {
+        &self.slots
+    }
+
     /// Puts a row, or none, into the slot of a place, from 0 to 14. It takes no memory.
     pub fn put(&mut self, place: usize, row: Option<SlotRow>)
         requires { place < 15 }

@@ -1,0 +1,78 @@
+-- How nodes are put into a tree one after another.
+use Rattle.std.proofs.Common.{◌≡◌, ◌≢◌, ◌⊎◌, ℕ, zero, suc, ◌+◌, ◌<◌, ◌≤◌, Bool, true, false, cond, not, ◌&&◌, List, [], ◌∷◌, ◌++◌, length, take, nat_eq, get_or, None, Some, Option, refl, sym, ap, subst, ◌∙◌, arith, inl, inr}
+use Rattle.std.specs.Prelude.{slice_index, slice_index_or}
+use Rattle.std.specs.List.{range_with_len, flat_map}
+use Rattle.std.specs.Option.{option_or}
+use Rattle.std.specs.Ordering.{nat_cmp}
+use Rattle.std.specs.Cmp.{nat_cmp_total, unsigned_ties}
+use Rattle.std.specs.FinMap.{FinMap, find, get, insert, from_entries, from_entries_push, get-from_entries, nat_cmp-IsAntisymmetric}
+use Rattle.std.proofs.lemmas.Bool.{cases_Bool, cond-true, cond-false, ne_eqb}
+use Rattle.std.proofs.lemmas.List.{append-nil, get_or_read}
+use Rattle.std.proofs.lemmas.Grind.{flat_map-append}
+use Rattle.sfs_base.specs.Lists.{Roomy}
+use Rattle.sfs_base.specs.declared.numbers.Kind.{Kind}
+use Rattle.sfs_base.specs.declared.numbers.Kind.TheVariants.{File, Directory}
+use Rattle.sfs_image.specs.Inode.{Inode}
+use Rattle.sfs_tree.specs.Build.{with_node}
+use Rattle.sfs_tree.specs.Tree.{TreeState, Node}
+use Rattle.sfs_tree.proofs.Joined.{find-append}
+use Rattle.disk_tree.specs.Built.{node_entry, node_at, node_entries, with_nodes, with_node_of}
+use Rattle.disk_tree.specs.Contents.{bytes_at}
+use Rattle.disk_tree.specs.Inodes.{inode_at}
+use Rattle.disk_tree.proofs.TablesRead.{range_more}
+
+module _ (inodes : List Inode) (named : List ℕ) (contents : List (Roomy ℕ)) where
+  pub no_nodes : node_entries inodes named contents 0 ≡ []
+  unfolding node_entries
+  no_nodes = refl
+
+  pub more_nodes : (n : ℕ) → node_entries inodes named contents (n + 1) ≡ node_entries inodes named contents n ++ node_at inodes named contents n
+  unfolding node_entries
+  more_nodes n =
+      ap (flat_map (node_at inodes named contents)) (range_more 0 n ∙ (let e : 0 + n ≡ n = omega arith in ap (λ (k : ℕ). range_with_len 0 n ++ k ∷ []) e))
+      ∙ flat_map-append (node_at inodes named contents) (range_with_len 0 n) (n ∷ [])
+      ∙ ap (λ (xs : List (ℕ × Node)). flat_map (node_at inodes named contents) (range_with_len 0 n) ++ xs) (append-nil (node_at inodes named contents n))
+
+-- one key or none, which is another
+other_key : (inode : Inode) (count : ℕ) (bytes : List ℕ) (i q : ℕ) → q ≢ i → find nat_cmp q (node_entry inode count bytes i) ≡ None
+other_key inode count bytes i q other = by (nat_eq inode.kind 2) (nat_eq inode.kind 1 && not (nat_eq count 0))
+  where
+    apart : (node : Node) → find nat_cmp q ((i, node) ∷ []) ≡ None
+    apart node = ap (λ b. cond b (Some node) None) (sym (unsigned_ties q i) ∙ ne_eqb q i other)
+
+    by : (a b : Bool) → find {X = Node} nat_cmp q (cond a ((i, record { kind = Directory; bytes = [] }) ∷ []) (cond b ((i, record { kind = File; bytes = take inode.size bytes }) ∷ []) [])) ≡ None
+    by true b = apart (record { kind = Directory; bytes = [] })
+    by false true = apart (record { kind = File; bytes = take inode.size bytes })
+    by false false = refl
+
+module _ (inodes : List Inode) (named : List ℕ) (contents : List (Roomy ℕ)) where
+  pub fresh_node : (n q : ℕ) → n ≤ q → find nat_cmp q (node_entries inodes named contents n) ≡ None
+  fresh_node zero q le = ap (find nat_cmp q) (no_nodes inodes named contents)
+  fresh_node (suc n) q le =
+      (let e : suc n ≡ n + 1 = omega arith in ap (λ (k : ℕ). find nat_cmp q (node_entries inodes named contents k)) e)
+      ∙ ap (find nat_cmp q) (more_nodes inodes named contents n) ∙ find-append nat_cmp q (node_entries inodes named contents n) (node_at inodes named contents n)
+      ∙ ap (λ o. option_or o (find nat_cmp q (node_at inodes named contents n))) (fresh_node n q (omega arith))
+      ∙ other_key (inode_at inodes n) (slice_index named n) (bytes_at contents n) n q (λ same. omega arith)
+
+  pub absent_node : (n : ℕ) → get (from_entries {R = nat_cmp} (node_entries inodes named contents n)) n ≡ None
+  absent_node n = get-from_entries nat_cmp_total (node_entries inodes named contents n) n ∙ fresh_node n n (omega arith)
+
+  pub put_node_more : (start : TreeState) (n : ℕ) → with_node_of (with_nodes start (node_entries inodes named contents n)) (inode_at inodes n) (slice_index named n) (bytes_at contents n) n
+      ≡ with_nodes start (node_entries inodes named contents (n + 1))
+  put_node_more start n =
+      by (nat_eq (inode_at inodes n).kind 2) (nat_eq (inode_at inodes n).kind 1 && not (nat_eq (slice_index named n) 0)) ∙ ap (with_nodes start) (sym (more_nodes inodes named contents n))
+    where
+      es : List (ℕ × Node)
+      es = node_entries inodes named contents n
+
+      push : (node : Node) → with_node (with_nodes start (node_entries inodes named contents n)) n node.kind node.bytes ≡ with_nodes start (node_entries inodes named contents n ++ (n, node) ∷ [])
+      push node =
+          let here : insert (from_entries (node_entries inodes named contents n)) n node ≡ from_entries {R = nat_cmp} (node_entries inodes named contents n ++ (n, node) ∷ []) =
+          sym (from_entries_push nat_cmp_total nat_cmp-IsAntisymmetric (node_entries inodes named contents n) n node (fresh_node n n (omega arith))) in
+          λ j. record { rows = start.rows; nodes = here j; first = start.first; share = start.share; made = start.made }
+
+      by : (a b : Bool) → cond a (with_node (with_nodes start (node_entries inodes named contents n)) n Directory []) (cond b (with_node (with_nodes start (node_entries inodes named contents n)) n File (take (inode_at inodes n).size (bytes_at contents n))) (with_nodes start (node_entries inodes named contents n)))
+          ≡ with_nodes start (node_entries inodes named contents n ++ cond a ((n, record { kind = Directory; bytes = [] }) ∷ []) (cond b ((n, record { kind = File; bytes = take (inode_at inodes n).size (bytes_at contents n) }) ∷ []) []))
+      by true b = push (record { kind = Directory; bytes = [] })
+      by false true = push (record { kind = File; bytes = take (inode_at inodes n).size (bytes_at contents n) })
+      by false false = ap (with_nodes start) (sym (append-nil (node_entries inodes named contents n)))

@@ -1,0 +1,63 @@
+-- How runs of reads follow one another.
+use Rattle.std.proofs.Common.{◌≡◌, ℕ, ◌^◌, ◌<◌, ◌≤◌, List, Option, Result, Ok, Err, refl, ◌∙◌, sym, subst, arith}
+use Rattle.sfs_base.specs.Ends.{HasRisen}
+use Rattle.sfs_dev.specs.Disk.{View, SameImages, images}
+use Rattle.sfs_dev.specs.Run.{CountsOn, Advances, EachMoment, Unwritten}
+use Rattle.sfs_dev.proofs.Runs.{GoesOn-refl, GoesOn-trans, Rests-refl, EachMoment-trans}
+use Rattle.disk_tree.specs.Cause.{OnlyReads, HasReadCause}
+use Rattle.disk_tree.specs.declared.fault.TreeFault.{TreeFault}
+use Rattle.disk_tree.specs.declared.fault.TreeFault.TheVariants.{DiskFailed, BadImage, NoMemory}
+
+-- a refusal, and an answer, as results
+abbrev pub refused : {V : Type 0} → TreeFault → Result V TreeFault
+refused fault = Err fault
+
+abbrev pub answered : {V : Type 0} → V → Result V TreeFault
+answered value = Ok value
+
+-- nothing was written, and no call failed
+pub record ReadSoFar (old new : View) : Type 0 where
+  pub advances : Advances old new
+  pub unwritten : Unwritten old new
+  pub kept : new.faults ≡ old.faults
+
+pub none_read : (disk : View) → ReadSoFar disk disk
+none_read disk = record { advances = GoesOn-refl disk; unwritten = Rests-refl disk; kept = refl }
+
+-- one run that writes nothing after another
+pub Rests-trans : (old mid new : View) → Unwritten old mid → Advances mid new → Unwritten mid new → Unwritten old new
+Rests-trans old mid new first goes second = record {
+  content = second.content ∙ first.content;
+  left = λ image. (λ left. (first.left image).0 ((second.left image).0 left), λ left. (second.left image).1 ((first.left image).1 left));
+  at_each_moment = λ counts.
+      let counted : CountsOn mid = omega (arith, counts, goes.later) in
+      EachMoment-trans old mid new (λ _ image. images old image) counts goes (first.at_each_moment counted)
+      (λ k image more le left. (first.left image).0 (second.at_each_moment counts k image (omega arith) le left));
+}
+
+module _ {V : Type 0} (old mid new : View) (before : ReadSoFar old mid) where
+  -- another run, which went well
+  pub read_more : (result : Result V TreeFault) (value : V) → result ≡ Ok value → OnlyReads mid new result → ReadSoFar old new
+  read_more result value is run = record {
+    advances = GoesOn-trans old mid new before.advances run.advances;
+    unwritten = Rests-trans old mid new before.unwritten run.advances run.unwritten;
+    kept = (let P : Result V TreeFault → Type 0 = λ r. HasReadCause mid.faults new.faults r in subst P is run.cause) ∙ before.kept;
+  }
+
+-- a run whose answer is that of the last one
+same_cause : (V W : Type 0) (old mid new : ℕ) (fault : TreeFault) → mid ≡ old → HasReadCause mid new (refused {V = V} fault) → HasReadCause old new (refused {V = W} fault)
+same_cause V W old mid new DiskFailed same risen = subst (λ (n : ℕ). HasRisen n new) same risen
+same_cause V W old mid new (BadImage inode rule) same kept = kept ∙ same
+same_cause V W old mid new NoMemory same kept = kept ∙ same
+
+pub read_failed : {V W : Type 0} (old mid new : View) (result : Result V TreeFault) (fault : TreeFault) → ReadSoFar old mid → result ≡ Err fault → OnlyReads mid new result →
+    OnlyReads old new (refused {V = W} fault)
+read_failed {V} {W} old mid new result fault before is run = record {
+  advances = GoesOn-trans old mid new before.advances run.advances;
+  unwritten = Rests-trans old mid new before.unwritten run.advances run.unwritten;
+  cause = same_cause V W old.faults mid.faults new.faults fault before.kept (let P : Result V TreeFault → Type 0 = λ r. HasReadCause mid.faults new.faults r in subst P is run.cause);
+}
+
+-- what was read so far is a run by itself, whatever is answered but that the disk failed
+pub read_well : {V : Type 0} (old new : View) (value : V) → ReadSoFar old new → OnlyReads old new (answered value)
+read_well old new value run = record { advances = run.advances; unwritten = run.unwritten; cause = run.kept }

@@ -1,0 +1,5 @@
+use Rattle.disk_tree.proofs.NamesTwice.{twice_is}
+use Rattle.disk_tree.proofs.judge.has_name_twice.Goals as goal
+
+pub returns : goal.returns
+returns c = twice_is c.args.rows.now c.have_one_name.result c.have_one_name.ensures

@@ -1,0 +1,15 @@
+pub mod Apart
+pub mod Blocks
+pub mod Built
+pub mod Cause
+pub mod Contents
+pub mod First
+pub mod Gathered
+pub mod Inodes
+pub mod Judged
+pub mod Pointers
+pub mod Reached
+pub mod Reading
+pub mod Rows
+pub mod Shown
+pub mod Tests

@@ -1,0 +1,93 @@
+-- The rows of the directories, one directory after another, and the rules on them.
+use Rattle.std.specs.Prelude.{◌≡◌, ◌≢◌, ℕ, zero, suc, ◌+◌, ◌<◌, ◌==◌, ◌||◌, ◌&&◌, nat_lt, not, Bool, true, false, List, [], ◌++◌, filter_map, length, take, slice_index, slice_index_or, count_by, Option, if◌then◌else◌}
+use Rattle.std.specs.List.{range_with_len, list_any, flat_map}
+use Rattle.sfs_base.specs.Lists.{Roomy}
+use Rattle.sfs_base.specs.Name.{bucket}
+use Rattle.sfs_base.specs.declared.numbers.Kind.TheVariants.{File, Directory}
+use Rattle.sfs_image.specs.Inode.{Inode}
+use Rattle.sfs_image.specs.Slot.{Row, kind_byte}
+use Rattle.sfs_tree.specs.Tree.{is_directory_kind, BUCKET_ROWS}
+use Rattle.disk_tree.specs.Blocks.{slots_at}
+use Rattle.disk_tree.specs.Inodes.{inode_at}
+
+-- a slot as it is
+abbrev pub row_in : Option Row → Option Row
+row_in slot = slot
+
+-- the rows in slots
+abbrev pub rows_in_slots : List (Option Row) → List Row
+rows_in_slots slots = filter_map row_in slots
+
+-- the slots of blocks, one block after another
+abbrev pub slots_together : List (List (Option Row)) → List (Option Row)
+slots_together blocks = flat_map (λ block. block) blocks
+
+-- no row
+abbrev pub NO_ROW : Row
+NO_ROW = record { inode = 0; kind = File; name = [] }
+
+-- the rows of the inode of a number, and none past the last inode
+abbrev pub rows_at : List (Roomy Row) → ℕ → List Row
+rows_at rows i = (slice_index_or rows i (record { items = []; spare = 0 })).items
+
+-- The rows of the first n inodes are those in their slots.
+pub record AreRowLists (slots : List (Roomy (List (Option Row)))) (n : ℕ) (rows : List (Roomy Row)) : Type 0 where
+  pub count : length rows ≡ n
+  pub each : (i : ℕ) → i < n → rows_at rows i ≡ rows_in_slots (slots_together (slots_at slots i))
+
+-- each of the first n rows has a name of its own
+abbrev pub HaveOwnNames : List Row → ℕ → Type 0
+HaveOwnNames rows n = (k earlier : ℕ) → k < n → earlier < k → (slice_index_or rows earlier NO_ROW).name ≢ (slice_index_or rows k NO_ROW).name
+
+-- Two rows have one name.
+pub record HaveOneName (rows : List Row) : Type 0 where
+  pub at : ℕ
+  pub earlier : ℕ
+  pub within : at < length rows
+  pub before : earlier < at
+  pub same : (slice_index_or rows earlier NO_ROW).name ≡ (slice_index_or rows at NO_ROW).name
+
+-- whether two rows have one name
+abbrev pub AnswersTwice : List Row → Bool → Type 0
+AnswersTwice rows true = HaveOneName rows
+AnswersTwice rows false = HaveOwnNames rows (length rows)
+
+-- how many rows lie in a bucket
+abbrev pub rows_in_bucket : List Row → ℕ → ℕ
+rows_in_bucket rows number = count_by (λ row. bucket row.name == number) rows
+
+-- whether one of the eight buckets has more rows than it may have
+unfoldable pub has_full_bucket : List Row → Bool
+has_full_bucket rows = list_any (λ number. nat_lt BUCKET_ROWS (rows_in_bucket rows number)) (range_with_len 0 8)
+
+-- whether a row's inode is beyond the last one, free, or of another kind than the row
+abbrev pub is_misplaced_by : List Inode → Row → Bool
+is_misplaced_by inodes row = not (nat_lt row.inode (length inodes)) || not ((inode_at inodes row.inode).kind == kind_byte row.kind)
+
+-- how many of some rows name an inode
+abbrev pub naming : ℕ → List Row → ℕ
+naming i rows = count_by (λ row. row.inode == i) rows
+
+-- how many rows of the first n inodes name an inode
+abbrev pub named_by : List (Roomy Row) → ℕ → ℕ → ℕ
+named_by rows zero i = 0
+named_by rows (suc n) i = named_by rows n i + naming i (rows_at rows n)
+
+-- how many of some rows name directories
+abbrev pub directories_in : List Row → ℕ
+directories_in rows = count_by (λ row. is_directory_kind row.kind) rows
+
+-- how many rows the first n inodes have
+abbrev pub named_rows : List (Roomy Row) → ℕ → ℕ
+named_rows rows zero = 0
+named_rows rows (suc n) = named_rows rows n + length (rows_at rows n)
+
+-- The first n of some rows were counted, each for the inode that it names.
+pub record Counts (old new : List ℕ) (rows : List Row) (n : ℕ) : Type 0 where
+  pub size : length new ≡ length old
+  pub each : (i : ℕ) → i < length old → slice_index new i ≡ slice_index old i + naming i (take n rows)
+
+-- These are the numbers of rows of the first n inodes that name each of so many inodes.
+pub record AreNamed (rows : List (Roomy Row)) (n count : ℕ) (named : List ℕ) : Type 0 where
+  pub size : length named ≡ count
+  pub each : (i : ℕ) → i < count → slice_index named i ≡ named_by rows n i

@@ -1,0 +1,41 @@
+-- What the inodes of an image show, by what was read of them, and which tests the rules across inodes are then.
+use Rattle.std.specs.Prelude.{◌≡◌, ◌≢◌, ℕ, ◌<◌, List, [], length}
+use Rattle.sfs_base.specs.Lists.{Roomy}
+use Rattle.sfs_image.specs.Inode.{Inode}
+use Rattle.sfs_image.specs.Seen.{SeenInodes}
+use Rattle.sfs_image.specs.Slot.{Row}
+use Rattle.image_tree.specs.Rules.{breaks_tree_rule}
+use Rattle.disk_tree.specs.Inodes.{inode_at}
+use Rattle.disk_tree.specs.Rows.{rows_at, rows_in_slots}
+use Rattle.disk_tree.specs.Tests.{breaks_eighth, breaks_ninth, breaks_tenth, breaks_eleventh, breaks_twelfth, breaks_thirteenth}
+use Rattle.disk_tree.specs.First.{NonePasses}
+
+-- The inodes of an image are these, and the rows in their slots are these; what is no directory has none.
+pub record ShowsRows (image : SeenInodes) (inodes : List Inode) (rows : List (Roomy Row)) : Type 0 where
+  pub count : image.count ≡ length inodes
+  pub kind : (i : ℕ) → i < image.count → (image.seen i).kind ≡ (inode_at inodes i).kind
+  pub links : (i : ℕ) → i < image.count → (image.seen i).links ≡ (inode_at inodes i).links
+  pub slots : (i : ℕ) → i < image.count → (image.seen i).kind ≡ 2 → rows_at rows i ≡ rows_in_slots (image.seen i).slots
+  pub others : (i : ℕ) → i < image.count → (image.seen i).kind ≢ 2 → rows_at rows i ≡ []
+
+-- The rules on the rows of one directory are tests on its rows; that on buckets where no directory has a name twice.
+pub record AreRowTests (image : SeenInodes) (inodes : List Inode) (rows : List (Roomy Row)) : Type 0 where
+  pub eighth : (i : ℕ) → i < image.count → breaks_tree_rule image 8 i ≡ breaks_eighth rows i
+  pub tenth : (i : ℕ) → i < image.count → breaks_tree_rule image 10 i ≡ breaks_tenth inodes rows i
+  pub eleventh : (i : ℕ) → i < image.count → breaks_tree_rule image 11 i ≡ breaks_eleventh rows i
+
+-- What a walk over the rows finds is what the rules ask.
+abbrev pub RowTestsAreRules : Type 0
+RowTestsAreRules = (image : SeenInodes) (inodes : List Inode) (rows : List (Roomy Row)) → ShowsRows image inodes rows → AreRowTests image inodes rows
+
+-- The rules that count rows are tests by the numbers that were counted, where no directory has a name twice; and that on link counts
+-- where no row is misplaced.
+pub record AreCountTests (image : SeenInodes) (inodes : List Inode) (rows : List (Roomy Row)) : Type 0 where
+  pub ninth : (i : ℕ) → i < image.count → breaks_tree_rule image 9 i ≡ breaks_ninth rows i
+  pub twelfth : (i : ℕ) → i < image.count → breaks_tree_rule image 12 i ≡ breaks_twelfth inodes rows (length inodes) i
+  pub thirteenth : NonePasses image.count (breaks_tenth inodes rows) → (i : ℕ) → i < image.count → breaks_tree_rule image 13 i ≡ breaks_thirteenth inodes rows (length inodes) i
+
+-- What was counted over the rows is what the rules ask.
+abbrev pub CountTestsAreRules : Type 0
+CountTestsAreRules = (image : SeenInodes) (inodes : List Inode) (rows : List (Roomy Row)) → ShowsRows image inodes rows → length rows ≡ length inodes
+    → NonePasses image.count (breaks_eighth rows) → AreCountTests image inodes rows

@@ -1,0 +1,97 @@
+// The tree of an image that breaks no rule: its nodes, and then its rows.
+ghost use Rattle.std.specs.Prelude.{◌≡◌, ℕ, ◌+◌, ◌<◌, ◌≤◌, length, [], None, OnOk};
+ghost use Rattle.std.specs.FinMap as finmap;
+ghost use Rattle.disk_tree.specs.Built.{MayPut, with_entries, row_entries, with_nodes, node_entries, with_node_of};
+ghost use Rattle.disk_tree.specs.Contents.{bytes_at};
+ghost use Rattle.disk_tree.specs.Inodes.{inode_at};
+
+use crate::contents::Content;
+use crate::inodes::{DIRECTORY, FILE};
+use crate::rows::RowList;
+use fmt_inode::Inode;
+use sfs_base::{Kind, NoMemory, NodeId};
+use sfs_tree::Tree;
+use std::alloc::Global;
+
+/// Puts the nodes of all inodes but the root's into a tree that has the root alone.
+pub fn put_nodes(
+    alloc: Global,
+    tree: &mut Tree,
+    inodes: &[Inode],
+    named: &[u32],
+    contents: &[Content],
+) -> Result<(), NoMemory>
+    requires few { length inodes.now ≤ tree.old.first }
+    requires some { 0 < length inodes.now }
+    requires low { tree.old.first ≤ 16384 }
+    requires counts { (length named.now ≡ length inodes.now) × (length contents.now ≡ length inodes.now) }
+    requires start { tree.old ≡ with_nodes tree.old (node_entries inodes.now named.now contents.now 1) }
+    requires sizes { (i : ℕ) → i < length inodes.now → (inode_at inodes.now i).size ≤ 67551232 }
+    requires bytes { (i : ℕ) → i < length inodes.now → (inode_at inodes.now i).size ≤ length (bytes_at contents.now i) }
+    ensures { OnOk result (tree.new ≡ with_nodes tree.old (node_entries inodes.now named.now contents.now (length inodes.now))) }
+{
+    for place in 1..inodes.len() {
+        put_node_of(
+            alloc,
+            tree,
+            place as u32,
+            &inodes[place],
+            named[place],
+            contents[place].as_slice(),
+        )?;
+    }
+    Ok(())
+}
+
+// Puts the node that an inode is: a directory is one, and a file that a row names.
+fn put_node_of(
+    alloc: Global,
+    tree: &mut Tree,
+    place: u32,
+    inode: &Inode,
+    named: u32,
+    bytes: &[u8],
+) -> Result<(), NoMemory>
+    requires absent { finmap.get tree.old.nodes place ≡ None }
+    requires low { place < tree.old.first }
+    requires size { inode.now.size ≤ 67551232 }
+    requires bytes { inode.now.size ≤ length bytes.now }
+    ensures { OnOk result (tree.new ≡ with_node_of tree.old inode.now named bytes.now place) }
+{
+    if inode.kind == DIRECTORY {
+        return tree.put_node(NodeId(place), Kind::Directory, Vec::new(alloc));
+    }
+    if inode.kind == FILE && named != 0 {
+        let own = bytes[..inode.size as usize].to_vec(alloc)?;
+        return tree.put_node(NodeId(place), Kind::File, own);
+    }
+    Ok(())
+}
+
+/// Puts the rows of all directories into a tree without rows.
+pub fn put_rows(tree: &mut Tree, rows: &[RowList]) -> Result<(), NoMemory>
+    requires few { length rows.now ≤ 16384 }
+    requires start { tree.old ≡ with_entries tree.old [] }
+    requires may { MayPut tree.old rows.now }
+    ensures { OnOk result (tree.new ≡ with_entries tree.old (row_entries rows.now (length rows.now))) }
+{
+    for place in 0..rows.len() {
+        put_rows_of(tree, rows, place)?;
+    }
+    Ok(())
+}
+
+// Puts the rows of a directory into a tree that has the rows of those before it.
+fn put_rows_of(tree: &mut Tree, rows: &[RowList], directory: usize) -> Result<(), NoMemory>
+    requires few { length rows.now ≤ 16384 }
+    requires within { directory < length rows.now }
+    requires start { tree.old ≡ with_entries tree.old (row_entries rows.now directory) }
+    requires may { MayPut tree.old rows.now }
+    ensures { OnOk result (tree.new ≡ with_entries tree.old (row_entries rows.now (directory + 1))) }
+{
+    let node = NodeId(directory as u32);
+    for row in rows[directory].as_slice() {
+        tree.put_row(node, row.name.copy()?, NodeId(row.inode))?;
+    }
+    Ok(())
+}

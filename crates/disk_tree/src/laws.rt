@@ -1,0 +1,12 @@
+// What is proved of the definitions: each function's contract is a law.
+ghost use Rattle.disk_tree.specs.Shown.{RowTestsAreRules, CountTestsAreRules};
+
+/// The rules on the rows of a directory are tests on its rows.
+pub fn row_tests_are_rules()
+    ensures { RowTestsAreRules }
+{}
+
+/// The rules that count rows are tests by the numbers that were counted.
+pub fn count_tests_are_rules()
+    ensures { CountTestsAreRules }
+{}
