@@ -11,7 +11,7 @@ use std::process::Abort;
 use std::test::Fail;
 
 // A directory's record, with one block at most.
-fn directory(links: u32, size: u64, pointer: u32) -> [u8; 512] {
+pub(crate) fn directory(links: u32, size: u64, pointer: u32) -> [u8; 512] {
     let mut inode = Inode {
         kind: 2,
         links,
@@ -34,7 +34,7 @@ fn table(root: &[u8; 512], first: &[u8; 512]) -> [u8; 4096] {
 }
 
 // The block of a directory with one directory `a`, which is inode 1.
-fn rows(alloc: Global) -> Result<[u8; 4096], Fail> {
+pub(crate) fn rows(alloc: Global) -> Result<[u8; 4096], Fail> {
     let mut slots = SlotBlock::empty(alloc)?;
     slots.put(
         0,

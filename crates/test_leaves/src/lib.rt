@@ -5,6 +5,10 @@
 #[cfg(test)]
 mod areas;
 #[cfg(test)]
+mod commits;
+#[cfg(test)]
+mod device;
+#[cfg(test)]
 mod disks;
 #[cfg(test)]
 mod ends;
@@ -16,6 +20,8 @@ mod images;
 mod inodes;
 #[cfg(test)]
 mod journal;
+#[cfg(test)]
+mod making;
 #[cfg(test)]
 mod names;
 #[cfg(test)]
