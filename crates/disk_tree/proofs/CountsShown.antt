@@ -59,13 +59,13 @@ counted_same p q wrong (row ∷ rows) none same =
     count-cons p row rows ∙ ap (λ b. cond b 1 0 + count_by p rows) (same row both.0) ∙ ap (λ (k : ℕ). cond (q row) 1 0 + k) (counted_same p q wrong rows both.1 same) ∙ sym (count-cons q row rows)
 
 module _ (image : SeenInodes) (inodes : List Inode) (rows : List (Roomy Row)) (shows : ShowsRows image inodes rows) (long : length rows ≡ length inodes) (once : NonePasses image.count (breaks_eighth rows)) where
-  own : (i : ℕ) → HaveOwnNames (rows_at rows i) (length (rows_at rows i))
+  pub own : (i : ℕ) → HaveOwnNames (rows_at rows i) (length (rows_at rows i))
   own i = elim (cases_lt i image.count) [
     | inl within ↦ own_names (rows_at rows i) (once i within)
     | inr past ↦ own_names (rows_at rows i) (ap has_twice (ap (λ (r : Roomy Row). r.items) (get_or_past rows i (record { items = []; spare = 0 }) (let c = shows.count in omega arith))))
   ]
 
-  rows_are : image_rows image ≡ from_entries (row_entries rows image.count)
+  pub rows_are : image_rows image ≡ from_entries (row_entries rows image.count)
   unfolding row_entries
   rows_are = ap from_entries (pieces_same (rows_in image) (entries_at rows) 0 image.count (λ i low high. here i (omega arith)))
     where
@@ -78,7 +78,7 @@ module _ (image : SeenInodes) (inodes : List Inode) (rows : List (Roomy Row)) (s
   counted : (p : Key × ℕ → Bool) → count_by p (entries (image_rows image)) ≡ count_by p (row_entries rows image.count)
   counted p = ap (λ (m : FinMap key_cmp ℕ). count_by p (entries m)) rows_are ∙ counted_from p (row_entries rows image.count) (own_entries rows own image.count)
 
-  count_is : (x : ℕ) → count_of (image_rows image) x ≡ named_by rows (length inodes) x
+  pub count_is : (x : ℕ) → count_of (image_rows image) x ≡ named_by rows (length inodes) x
   count_is x = counted (names_it x) ∙ entries_naming rows image.count x ∙ ap (λ (n : ℕ). named_by rows n x) shows.count
 
   bucket_is : (i number : ℕ) → i < image.count → len (bucket_rows i number (image_rows image)) ≡ rows_in_bucket (rows_at rows i) number

@@ -13,6 +13,7 @@ pub mod NodesPut
 pub mod PartsRead
 pub mod PointersJudged
 pub mod Putting
+pub mod ReachedShown
 pub mod ReadRuns
 pub mod Refusals
 pub mod RowsCounted

@@ -14,7 +14,7 @@ use Rattle.sfs_base.proofs.BasicNumbers.{suc_same, less_next, none_below}
 use Rattle.sfs_base.proofs.BasicTruth.{or_first, or_second}
 
 -- the steps of a function from a number on, up to where it has none
-abbrev Chain : (ℕ → Option ℕ) → ℕ → List ℕ → Type 0
+abbrev pub Chain : (ℕ → Option ℕ) → ℕ → List ℕ → Type 0
 Chain f x [] = f x ≡ None
 Chain f x (h ∷ l) = (f x ≡ Some h) × Chain f h l
 
@@ -51,7 +51,7 @@ no_loop f x n all y (z ∷ l) chain lt =
     less lt = omega arith
 
 -- the directory of the first entry that names a node
-abbrev holder_in : List (Key × ℕ) → ℕ → Option ℕ
+abbrev pub holder_in : List (Key × ℕ) → ℕ → Option ℕ
 holder_in es node = option_map (λ (row : Key × ℕ). row.0.0) (lists.find (names_it node) es)
 
 -- entries without the first that names a node
@@ -85,7 +85,7 @@ chain_without x es y [] chain lacks = ap (option_map (λ (row : Key × ℕ). row
 chain_without x es y (h ∷ l) chain lacks = (ap (option_map (λ (row : Key × ℕ). row.0.0)) (others_found x y es lacks.0) ∙ chain.0, chain_without x es h l chain.1 lacks.1)
 
 -- a chain is no longer than the entries
-chain_within : (es : List (Key × ℕ)) (x : ℕ) (l : List ℕ) → Chain (holder_in es) x l → length l ≤ length es
+pub chain_within : (es : List (Key × ℕ)) (x : ℕ) (l : List ℕ) → Chain (holder_in es) x l → length l ≤ length es
 chain_within es x [] chain = omega arith
 chain_within es x (h ∷ l) chain =
     one_more (one_fewer x h es chain.0) (chain_within (without x es) h l (chain_without x es h l chain.1 (no_loop (holder_in es) x (suc (length l)) (λ k other. same_length (holder_in es) x (h ∷ l) k chain other) h l chain.1 (less_next (length l)))))
@@ -94,7 +94,7 @@ chain_within es x (h ∷ l) chain =
     one_more e le = omega arith
 
 -- a walk of as many steps meets the chain
-walk_meets : (tree : TreeState) (steps x : ℕ) (l : List ℕ) → Chain (holder_of tree) x l → length l ≤ steps → walk_up steps tree x ≡ l
+pub walk_meets : (tree : TreeState) (steps x : ℕ) (l : List ℕ) → Chain (holder_of tree) x l → length l ≤ steps → walk_up steps tree x ≡ l
 walk_meets tree zero x [] chain le = refl
 walk_meets tree (suc steps) x [] chain le = ap (and_above (walk_up steps tree)) chain
 walk_meets tree zero x (h ∷ l) chain le = absurd (none_below le)
