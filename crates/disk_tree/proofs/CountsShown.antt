@@ -1,9 +1,9 @@
 -- The rules that count rows, by what was counted.
-use Rattle.std.proofs.Common.{◌≡◌, ◌≢◌, ◌⊎◌, ℕ, zero, suc, ◌+◌, ◌<◌, ◌≤◌, Bool, true, false, cond, not, ◌&&◌, ◌||◌, List, [], ◌∷◌, length, map, count_by, get_or, nat_eq, nat_lt, eqb, Option, None, Some, refl, sym, ap, subst, ◌∙◌, arith, inl, inr}
+use Rattle.std.proofs.Common.{◌≡◌, ℕ, ◌+◌, ◌<◌, Bool, false, cond, not, ◌&&◌, ◌||◌, List, [], ◌∷◌, length, map, count_by, nat_eq, nat_lt, eqb, Option, None, Some, refl, sym, ap, ◌∙◌, arith, inl, inr}
 use Rattle.std.specs.Prelude.{bytes_eq, filter_map, slice_index_or}
-use Rattle.std.specs.List.{list_any, range_with_len, flat_map}
+use Rattle.std.specs.List.{list_any, range_with_len}
 use Rattle.std.specs.FinMap.{FinMap, entries, from_entries, len}
-use Rattle.std.proofs.lemmas.Bool.{cases_Bool, cases_lt, eq-eqb, ne_eqb, eqb-true, eqb-false, lt-ltb, ltb-true, or_parts}
+use Rattle.std.proofs.lemmas.Bool.{cases_Bool, cases_lt, eqb-true, eqb-false, lt-ltb, ltb-true, or_parts}
 use Rattle.std.proofs.lemmas.List.{get_or_past}
 use Rattle.std.proofs.lemmas.List.Folds.{list_any_at}
 use Rattle.sfs_base.proofs.BasicLists.{same_bytes}
@@ -21,14 +21,14 @@ use Rattle.sfs_tree.specs.Tree.{BUCKET_ROWS, bucket_rows, count_of, links_of, na
 use Rattle.sfs_tree.proofs.Joined.{count-cons}
 use Rattle.image_tree.specs.ImageTree.{NOTHING_MADE, shows_directory, is_used, tree_row, rows_in, image_rows}
 use Rattle.image_tree.specs.Keeps.{ruled_tree}
-use Rattle.image_tree.specs.Rules.{breaks_tree_rule, has_overfull_bucket, is_named_twice, has_wrong_links}
+use Rattle.image_tree.specs.Rules.{has_overfull_bucket, is_named_twice, has_wrong_links}
 use Rattle.image_tree.proofs.Images.{directory_shown}
 use Rattle.disk_tree.specs.Built.{row_entry, entries_at, row_entries}
 use Rattle.disk_tree.specs.First.{NonePasses}
 use Rattle.disk_tree.specs.Inodes.{inode_at}
 use Rattle.disk_tree.specs.Rows.{NO_ROW, rows_at, rows_in_slots, rows_in_bucket, has_full_bucket, named_by, directories_in, is_misplaced_by, HaveOwnNames}
-use Rattle.disk_tree.specs.Shown.{ShowsRows, AreCountTests, CountTestsAreRules}
-use Rattle.disk_tree.specs.Tests.{rows_named, has_twice, breaks_eighth, breaks_ninth, breaks_tenth, breaks_twelfth, breaks_thirteenth, wrong_links}
+use Rattle.disk_tree.specs.Shown.{ShowsRows, CountTestsAreRules}
+use Rattle.disk_tree.specs.Tests.{rows_named, has_twice, breaks_eighth, breaks_tenth, breaks_twelfth, breaks_thirteenth}
 use Rattle.disk_tree.proofs.Entries.{own_entries, counted_from, len-names_where, entries_of, entries_naming}
 use Rattle.disk_tree.proofs.NamesTwice.{two_counted}
 

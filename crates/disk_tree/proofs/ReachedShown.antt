@@ -1,6 +1,5 @@
 -- The rule on walks from the root, by what a walk reaches.
-use Rattle.std.proofs.Common.{◌≡◌, ◌≢◌, ◌⊎◌, ℕ, zero, suc, ◌+◌, ◌<◌, ◌≤◌, Bool, true, false, cond, not, ◌&&◌, ◌||◌, List, [], ◌∷◌, ◌++◌, ◌-◌, map, length, count_by, get_or, nat_eq, nat_lt, eqb, Option, None, Some, refl, sym, ap, subst, ◌∙◌, arith, inl, inr}
-use Rattle.std.specs.Prelude.{slice_index_or}
+use Rattle.std.proofs.Common.{◌≡◌, ◌≢◌, ◌⊎◌, ℕ, zero, suc, ◌+◌, ◌<◌, ◌≤◌, Bool, true, false, cond, not, ◌&&◌, ◌||◌, List, [], ◌∷◌, ◌++◌, ◌-◌, map, length, nat_eq, nat_lt, eqb, Option, None, Some, refl, sym, ap, subst, ◌∙◌, arith, inl, inr}
 use Rattle.std.specs.List.{list_any}
 use Rattle.std.specs.FinMap.{FinMap, find, get, entries, len, len-entries, get-from_entries}
 use Rattle.std.specs.Option.{option_or}
@@ -11,7 +10,7 @@ use Rattle.std.proofs.lemmas.List.{get_or_past}
 use Rattle.sfs_base.specs.declared.numbers.Kind.{Kind}
 use Rattle.sfs_base.specs.declared.numbers.Kind.TheVariants.{File, Directory}
 use Rattle.disk_tree.proofs.Entries.{other_directory, no_entries, more_entries, entry_more, whole_entries, fresh_entry}
-use Rattle.std.proofs.lemmas.Bool.{cases_Bool, cases_lt, cond-true, cond-false, eq-eqb, ne_eqb, eqb-true, eqb-false, ltb-true, ltb-false, or_parts, or_left, or_right, or_cases}
+use Rattle.std.proofs.lemmas.Bool.{cases_Bool, cases_lt, cond-true, cond-false, eq-eqb, eqb-true, eqb-false, ltb-true, ltb-false, or_parts, or_right, or_cases}
 use Rattle.std.proofs.lemmas.List.Folds.{list_any_at}
 use Rattle.sfs_base.proofs.BasicTruth.{not_both_of, not_false}
 use Rattle.sfs_base.proofs.BasicOptions.{some_same, none_some}
@@ -23,9 +22,9 @@ use Rattle.sfs_tree.specs.Tree.{TreeState, row_of, count_of, names_it, is_direct
 use Rattle.sfs_tree.proofs.Counting.{count_some, only, same_itself}
 use Rattle.sfs_tree.proofs.RowFacts.{holder_found}
 use Rattle.sfs_tree.proofs.Walks.{Chain, chain_within, walk_meets}
-use Rattle.image_tree.specs.ImageTree.{NOTHING_MADE, shows_directory, image_rows}
+use Rattle.image_tree.specs.ImageTree.{image_rows}
 use Rattle.image_tree.specs.Keeps.{ruled_tree}
-use Rattle.image_tree.specs.Rules.{breaks_tree_rule, is_unreached}
+use Rattle.image_tree.specs.Rules.{is_unreached}
 use Rattle.disk_tree.specs.Apart.{is_marked}
 use Rattle.disk_tree.specs.Built.{row_entry, row_entries, entries_at, entries_to}
 use Rattle.disk_tree.specs.First.{NonePasses}
@@ -33,7 +32,7 @@ use Rattle.disk_tree.specs.Inodes.{inode_at}
 use Rattle.disk_tree.specs.Reached.{row_at, IsReached, root, named, MarksReached}
 use Rattle.disk_tree.specs.Rows.{NO_ROW, rows_at, named_by, is_misplaced_by}
 use Rattle.disk_tree.specs.Shown.{ShowsRows, ReachedTestIsRule}
-use Rattle.disk_tree.specs.Tests.{breaks_eighth, breaks_tenth, breaks_eleventh, breaks_twelfth, breaks_fourteenth}
+use Rattle.disk_tree.specs.Tests.{breaks_eighth, breaks_tenth, breaks_eleventh, breaks_twelfth}
 use Rattle.disk_tree.proofs.CountsShown.{count_is, rows_are, own}
 
 module _ (image : SeenInodes) (inodes : List Inode) (rows : List (Roomy Row)) (shows : ShowsRows image inodes rows) (long : length rows ≡ length inodes) (once : NonePasses image.count (breaks_eighth rows)) where
@@ -61,11 +60,13 @@ module _ (image : SeenInodes) (inodes : List Inode) (rows : List (Roomy Row)) (s
   in_rows d n name x (row ∷ own) is = by (cases_Bool (eq_by_cmp key_cmp (d, name) (n, row.name))) (in_rows d n name x own)
     where
       by : (eq_by_cmp key_cmp (d, name) (n, row.name) ≡ true) ⊎ (eq_by_cmp key_cmp (d, name) (n, row.name) ≡ false) → (find key_cmp (d, name) (map (row_entry n) own) ≡ Some x → (d ≡ n) × InRows d x own) → (d ≡ n) × InRows d x (row ∷ own)
-      by (inl same) rest =
-          (elim (cases_Bool (nat_eq d n)) [
-            | inl e ↦ eqb-true _ _ e
-            | inr other ↦ absurd (not_both_of (eq_by_cmp key_cmp (d, name) (n, row.name)) same (other_directory d n name row.name (eqb-false _ _ other)))
-          ], record { k = 0; inside = omega arith; is = some_same (sym (cond-true (eq_by_cmp key_cmp (d, name) (n, row.name)) (Some row.inode) (find key_cmp (d, name) (map (row_entry n) own)) same) ∙ is) })
+      by (inl same) rest = (
+        elim (cases_Bool (nat_eq d n)) [
+          | inl e ↦ eqb-true _ _ e
+          | inr other ↦ absurd (not_both_of (eq_by_cmp key_cmp (d, name) (n, row.name)) same (other_directory d n name row.name (eqb-false _ _ other)))
+        ],
+        record { k = 0; inside = omega arith; is = some_same (sym (cond-true (eq_by_cmp key_cmp (d, name) (n, row.name)) (Some row.inode) (find key_cmp (d, name) (map (row_entry n) own)) same) ∙ is) },
+      )
       by (inr other) rest =
           (let found = rest (sym (cond-false (eq_by_cmp key_cmp (d, name) (n, row.name)) (Some row.inode) (find key_cmp (d, name) (map (row_entry n) own)) other) ∙ is) in
           let one = found.1 in
@@ -240,9 +241,9 @@ module _ (image : SeenInodes) (inodes : List Inode) (rows : List (Roomy Row)) (s
         | inr none ↦ elim (cases_Bool (nat_eq x 0 || lies_below tree x 0)) [
           | inr apart ↦ apart ∙ sym none
           | inl meets ↦ absurd (not_both_of (is_marked reached x) (elim (or_cases (nat_eq x 0) _ meets) [
-              | inl zero_is ↦ subst (λ (j : ℕ). is_marked reached j ≡ true) (sym (eqb-true _ _ zero_is)) marks.root
-              | inr below ↦ met_marked (len (image_rows image)) x kind below
-            ]) none)
+            | inl zero_is ↦ subst (λ (j : ℕ). is_marked reached j ≡ true) (sym (eqb-true _ _ zero_is)) marks.root
+            | inr below ↦ met_marked (len (image_rows image)) x kind below
+          ]) none)
         ]
       ])
 
