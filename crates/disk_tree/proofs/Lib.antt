@@ -11,6 +11,7 @@ pub mod NamesMet
 pub mod NamesTwice
 pub mod NodesPut
 pub mod PartsRead
+pub mod PartsShown
 pub mod PointersJudged
 pub mod Putting
 pub mod ReachedShown

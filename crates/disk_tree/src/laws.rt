@@ -1,5 +1,5 @@
 // What is proved of the definitions: each function's contract is a law.
-ghost use Rattle.disk_tree.specs.Shown.{RowTestsAreRules, CountTestsAreRules, ReachedTestIsRule};
+ghost use Rattle.disk_tree.specs.Shown.{RowTestsAreRules, CountTestsAreRules, ReachedTestIsRule, ReadPartsShowRows};
 
 /// The rules on the rows of a directory are tests on its rows.
 pub fn row_tests_are_rules()
@@ -14,4 +14,9 @@ pub fn count_tests_are_rules()
 /// The rule on walks from the root is a test by the marks of what a walk reaches.
 pub fn reached_test_is_rule()
     ensures { ReachedTestIsRule }
+{}
+
+/// What was read of an image shows its rows.
+pub fn read_parts_show_rows()
+    ensures { ReadPartsShowRows }
 {}
