@@ -1,17 +1,16 @@
 -- The rules on bytes and slots, by what was read.
-use Rattle.std.proofs.Common.{◌≡◌, ◌≢◌, ◌⊎◌, ℕ, zero, suc, ◌+◌, ◌-◌, ◌*◌, ◌/◌, ◌%◌, ◌<◌, ◌≤◌, Bool, true, false, not, ◌&&◌, eqb, List, [], length, map, take, get_or, is_some, Option, None, Some, All, refl, sym, ap, subst, ◌∙◌, arith, inl, inr}
-use Rattle.std.specs.Prelude.{slice_index, slice_index_or}
+use Rattle.std.proofs.Common.{◌≡◌, ◌≢◌, ℕ, ◌-◌, ◌*◌, ◌/◌, ◌%◌, ◌<◌, Bool, true, false, not, ◌&&◌, eqb, List, [], length, map, take, is_some, Option, All, refl, sym, ap, subst, ◌∙◌, arith, inl, inr}
+use Rattle.std.specs.Prelude.{slice_index_or}
 use Rattle.std.specs.List.{list_any, range_with_len}
-use Rattle.std.proofs.lemmas.Bool.{cases_Bool, cases_lt, eq-eqb, ne_eqb, eqb-true, eqb-false, and_left}
+use Rattle.std.proofs.lemmas.Bool.{cases_Bool, eq-eqb, eqb-true, eqb-false, and_left}
 use Rattle.std.proofs.lemmas.List.{same_lists, length-take-le, get_or-take, get_or_default}
 use Rattle.std.proofs.lemmas.List.FromFn.{length-map-range_with_len, get_or-map-range_with_len}
 use Rattle.sfs_base.specs.Lists.{Roomy}
 use Rattle.sfs_image.specs.Bytes.{part, nonzero_in}
 use Rattle.sfs_image.specs.Inode.{Inode, IsInode, inode_of, Table}
 use Rattle.sfs_image.specs.LawsOfParts.{FitsSize}
-use Rattle.sfs_image.specs.Part.{Part, inode_in, directory_blocks, is_file_part, is_directory_part}
-use Rattle.sfs_image.specs.Rules.{breaks_bytes_rule, breaks_tail, breaks_slots, breaks_size}
-use Rattle.sfs_image.specs.Seen.{FILE_BLOCKS}
+use Rattle.sfs_image.specs.Part.{Part, inode_in, directory_blocks, is_directory_part}
+use Rattle.sfs_image.specs.Rules.{breaks_tail, breaks_slots}
 use Rattle.sfs_image.specs.Super.{Layout}
 use Rattle.sfs_image.proofs.RuleFacts.{sizes_say}
 use Rattle.disk_tree.specs.Blocks.{blocks_in, is_malformed, tail_badly, slots_badly}

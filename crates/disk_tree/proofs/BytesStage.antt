@@ -1,20 +1,19 @@
 -- The bytes of all inodes, judged by the rules on bytes.
-use Rattle.std.proofs.Common.{◌≡◌, ◌≢◌, ◌⊎◌, ℕ, zero, suc, ◌+◌, ◌*◌, ◌/◌, ◌<◌, ◌≤◌, Bool, true, false, eqb, ltb, List, [], length, map, Option, None, Some, All, refl, sym, ap, subst, ◌∙◌, arith, inl, inr}
+use Rattle.std.proofs.Common.{◌≡◌, ◌⊎◌, ℕ, ◌*◌, ◌<◌, ◌≤◌, false, eqb, ltb, List, [], length, map, Option, All, sym, ap, subst, ◌∙◌, arith, inl, inr}
 use Rattle.std.specs.Prelude.{slice_index_or}
 use Rattle.std.proofs.lemmas.Bool.{cases_Bool, cases_lt, eq-eqb, eqb-true, eqb-false, cond-true, lt-ltb}
 use Rattle.sfs_base.specs.Lists.{Roomy}
 use Rattle.sfs_image.specs.Inode.{Inode, IsInode, inode_of, Table}
-use Rattle.sfs_image.specs.Part.{Part, pointer_at, is_file_part, is_directory_part}
+use Rattle.sfs_image.specs.Part.{Part, pointer_at}
 use Rattle.sfs_image.specs.Rules.{breaks_bytes_rule}
-use Rattle.sfs_image.specs.Seen.{FILE_BLOCKS, PLACES}
+use Rattle.sfs_image.specs.Seen.{FILE_BLOCKS}
 use Rattle.sfs_image.specs.Slot.{Row}
 use Rattle.sfs_image.specs.Super.{Layout}
 use Rattle.sfs_image.proofs.RuleFacts.{sizes_say}
 use Rattle.sfs_image.proofs.RuleLaws.{good_from_rule}
 use Rattle.block_map.specs.Kept.{block_kept, kept_tables}
-use Rattle.disk_tree.specs.Apart.{pointer_in}
 use Rattle.disk_tree.specs.Blocks.{breaks_tail_at, breaks_slots_at, AreSlotLists, BreaksSeventh, ReadWell}
-use Rattle.disk_tree.specs.Contents.{blocks_of_size, bytes_at, AreContents, HoldContents}
+use Rattle.disk_tree.specs.Contents.{blocks_of_size, AreContents, HoldContents}
 use Rattle.disk_tree.specs.First.{IsFirst, NonePasses}
 use Rattle.disk_tree.specs.Gathered.{tables_at, KeepTables, KeepPointerRules}
 use Rattle.disk_tree.specs.Inodes.{inode_at, KeepRecordRules}
@@ -25,7 +24,7 @@ use Rattle.disk_tree.proofs.BytesJudged.{sixth_rule, seventh_rule}
 use Rattle.disk_tree.proofs.ContentsRead.{content_parts, hold_contents}
 use Rattle.disk_tree.proofs.InodesRead.{unread, unread_have}
 use Rattle.disk_tree.proofs.PartsRead.{part_from, part_from_read, part_from_kept, own_inode, own_pointer, used_of_pointer, inodes_count, fits_at}
-use Rattle.disk_tree.proofs.Refusals.{refused_at, byte_rule, breaks_of}
+use Rattle.disk_tree.proofs.Refusals.{refused_at, byte_rule}
 
 module _ (told : Option (List ℕ)) (layout : Layout) (records : List (List ℕ)) (count : length records ≡ layout.inodes) (inodes : List Inode) (are : inodes ≡ map inode_of records) (fit : All IsInode inodes)
     (tables : List (Roomy Table)) (first : KeepRecordRules layout records) (keep : KeepPointerRules told layout records tables) where

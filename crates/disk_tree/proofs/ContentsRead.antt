@@ -1,6 +1,6 @@
 -- How the bytes of all inodes are gathered, and the parts that have them.
-use Rattle.std.proofs.Common.{◌≡◌, ◌≢◌, ◌⊎◌, ℕ, ◌+◌, ◌-◌, ◌*◌, ◌/◌, ◌<◌, ◌≤◌, Bool, true, false, cond, ltb, List, [], ◌∷◌, ◌++◌, length, get_or, Option, All, map, refl, sym, ap, subst, ◌∙◌, arith, inl, inr}
-use Rattle.std.specs.Prelude.{slice_index, slice_index_or}
+use Rattle.std.proofs.Common.{◌≡◌, ◌⊎◌, ℕ, ◌+◌, ◌-◌, ◌*◌, ◌<◌, ◌≤◌, cond, ltb, List, [], ◌∷◌, ◌++◌, length, get_or, Option, refl, sym, ap, subst, ◌∙◌, arith, inl, inr}
+use Rattle.std.specs.Prelude.{slice_index_or}
 use Rattle.std.proofs.lemmas.Bool.{cases_lt, cond-true, cond-false, lt-ltb, le-ltb}
 use Rattle.std.proofs.lemmas.List.{length-append, get_or_append_left, get_or-append_right, get_or_read}
 use Rattle.sfs_base.specs.Lists.{Roomy}
@@ -10,7 +10,7 @@ use Rattle.sfs_image.specs.Part.{Part, block_pointer, read_block, tabulate}
 use Rattle.sfs_image.specs.Seen.{FILE_BLOCKS}
 use Rattle.sfs_image.specs.Super.{Layout}
 use Rattle.sfs_image.proofs.Basics.{length-tabulate, get_or-tabulate}
-use Rattle.block_map.specs.Kept.{kept_tables, block_kept, tables_kept}
+use Rattle.block_map.specs.Kept.{kept_tables, block_kept}
 use Rattle.block_map.proofs.KeptPointers.{HaveHoles, kept_block}
 use Rattle.disk_tree.specs.Contents.{blocks_of_size, bytes_at, AreContents, HoldContents}
 use Rattle.disk_tree.specs.Gathered.{tables_at}

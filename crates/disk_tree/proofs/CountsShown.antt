@@ -1,9 +1,9 @@
 -- The rules that count rows, by what was counted.
-use Rattle.std.proofs.Common.{◌≡◌, ◌≢◌, ◌⊎◌, ℕ, zero, suc, ◌+◌, ◌<◌, ◌≤◌, Bool, true, false, cond, not, ◌&&◌, ◌||◌, List, [], ◌∷◌, length, map, count_by, get_or, nat_eq, nat_lt, eqb, Option, None, Some, refl, sym, ap, subst, ◌∙◌, arith, inl, inr}
+use Rattle.std.proofs.Common.{◌≡◌, ℕ, ◌+◌, ◌<◌, Bool, false, cond, not, ◌&&◌, ◌||◌, List, [], ◌∷◌, length, map, count_by, nat_eq, nat_lt, eqb, Option, None, Some, refl, sym, ap, ◌∙◌, arith, inl, inr}
 use Rattle.std.specs.Prelude.{bytes_eq, filter_map, slice_index_or}
-use Rattle.std.specs.List.{list_any, range_with_len, flat_map}
+use Rattle.std.specs.List.{list_any, range_with_len}
 use Rattle.std.specs.FinMap.{FinMap, entries, from_entries, len}
-use Rattle.std.proofs.lemmas.Bool.{cases_Bool, cases_lt, eq-eqb, ne_eqb, eqb-true, eqb-false, lt-ltb, ltb-true, or_parts}
+use Rattle.std.proofs.lemmas.Bool.{cases_Bool, cases_lt, eqb-true, eqb-false, lt-ltb, ltb-true, or_parts}
 use Rattle.std.proofs.lemmas.List.{get_or_past}
 use Rattle.std.proofs.lemmas.List.Folds.{list_any_at}
 use Rattle.sfs_base.proofs.BasicLists.{same_bytes}
@@ -21,14 +21,14 @@ use Rattle.sfs_tree.specs.Tree.{BUCKET_ROWS, bucket_rows, count_of, links_of, na
 use Rattle.sfs_tree.proofs.Joined.{count-cons}
 use Rattle.image_tree.specs.ImageTree.{NOTHING_MADE, shows_directory, is_used, tree_row, rows_in, image_rows}
 use Rattle.image_tree.specs.Keeps.{ruled_tree}
-use Rattle.image_tree.specs.Rules.{breaks_tree_rule, has_overfull_bucket, is_named_twice, has_wrong_links}
+use Rattle.image_tree.specs.Rules.{has_overfull_bucket, is_named_twice, has_wrong_links}
 use Rattle.image_tree.proofs.Images.{directory_shown}
 use Rattle.disk_tree.specs.Built.{row_entry, entries_at, row_entries}
 use Rattle.disk_tree.specs.First.{NonePasses}
 use Rattle.disk_tree.specs.Inodes.{inode_at}
 use Rattle.disk_tree.specs.Rows.{NO_ROW, rows_at, rows_in_slots, rows_in_bucket, has_full_bucket, named_by, directories_in, is_misplaced_by, HaveOwnNames}
-use Rattle.disk_tree.specs.Shown.{ShowsRows, AreCountTests, CountTestsAreRules}
-use Rattle.disk_tree.specs.Tests.{rows_named, has_twice, breaks_eighth, breaks_ninth, breaks_tenth, breaks_twelfth, breaks_thirteenth, wrong_links}
+use Rattle.disk_tree.specs.Shown.{ShowsRows, CountTestsAreRules}
+use Rattle.disk_tree.specs.Tests.{rows_named, has_twice, breaks_eighth, breaks_tenth, breaks_twelfth, breaks_thirteenth}
 use Rattle.disk_tree.proofs.Entries.{own_entries, counted_from, len-names_where, entries_of, entries_naming}
 use Rattle.disk_tree.proofs.NamesTwice.{two_counted}
 
@@ -59,13 +59,13 @@ counted_same p q wrong (row ∷ rows) none same =
     count-cons p row rows ∙ ap (λ b. cond b 1 0 + count_by p rows) (same row both.0) ∙ ap (λ (k : ℕ). cond (q row) 1 0 + k) (counted_same p q wrong rows both.1 same) ∙ sym (count-cons q row rows)
 
 module _ (image : SeenInodes) (inodes : List Inode) (rows : List (Roomy Row)) (shows : ShowsRows image inodes rows) (long : length rows ≡ length inodes) (once : NonePasses image.count (breaks_eighth rows)) where
-  own : (i : ℕ) → HaveOwnNames (rows_at rows i) (length (rows_at rows i))
+  pub own : (i : ℕ) → HaveOwnNames (rows_at rows i) (length (rows_at rows i))
   own i = elim (cases_lt i image.count) [
     | inl within ↦ own_names (rows_at rows i) (once i within)
     | inr past ↦ own_names (rows_at rows i) (ap has_twice (ap (λ (r : Roomy Row). r.items) (get_or_past rows i (record { items = []; spare = 0 }) (let c = shows.count in omega arith))))
   ]
 
-  rows_are : image_rows image ≡ from_entries (row_entries rows image.count)
+  pub rows_are : image_rows image ≡ from_entries (row_entries rows image.count)
   unfolding row_entries
   rows_are = ap from_entries (pieces_same (rows_in image) (entries_at rows) 0 image.count (λ i low high. here i (omega arith)))
     where
@@ -78,7 +78,7 @@ module _ (image : SeenInodes) (inodes : List Inode) (rows : List (Roomy Row)) (s
   counted : (p : Key × ℕ → Bool) → count_by p (entries (image_rows image)) ≡ count_by p (row_entries rows image.count)
   counted p = ap (λ (m : FinMap key_cmp ℕ). count_by p (entries m)) rows_are ∙ counted_from p (row_entries rows image.count) (own_entries rows own image.count)
 
-  count_is : (x : ℕ) → count_of (image_rows image) x ≡ named_by rows (length inodes) x
+  pub count_is : (x : ℕ) → count_of (image_rows image) x ≡ named_by rows (length inodes) x
   count_is x = counted (names_it x) ∙ entries_naming rows image.count x ∙ ap (λ (n : ℕ). named_by rows n x) shows.count
 
   bucket_is : (i number : ℕ) → i < image.count → len (bucket_rows i number (image_rows image)) ≡ rows_in_bucket (rows_at rows i) number

@@ -1,11 +1,11 @@
 -- The rows of a tree as a list of entries, each under a key of its own.
-use Rattle.std.proofs.Common.{◌≡◌, ◌≢◌, ◌⊎◌, ℕ, zero, suc, ◌+◌, ◌<◌, ◌≤◌, Bool, true, false, cond, ◌&&◌, List, [], ◌∷◌, ◌++◌, length, map, take, get_or, count_by, nat_eq, Option, None, Some, All, refl, sym, ap, subst, ◌∙◌, arith, inl, inr}
+use Rattle.std.proofs.Common.{◌≡◌, ◌≢◌, ◌⊎◌, ℕ, zero, suc, ◌+◌, ◌<◌, ◌≤◌, Bool, true, false, cond, ◌&&◌, List, [], ◌∷◌, ◌++◌, length, map, take, count_by, nat_eq, None, Some, refl, sym, ap, subst, ◌∙◌, arith, inl, inr}
 use Rattle.std.specs.Prelude.{bytes_eq, slice_index_or, filter_map}
 use Rattle.std.specs.List.{range_with_len, flat_map, cons_option}
 use Rattle.std.specs.Option.{option_or}
 use Rattle.std.specs.Ordering.{eq_by_cmp}
-use Rattle.std.specs.FinMap.{FinMap, find, get, entries, insert, len, from_entries, get-from_entries, len-entries, len-empty}
-use Rattle.std.proofs.lemmas.Bool.{cases_lt, cases_Bool, cond-true, cond-false, eq-eqb, ne_eqb, eqb-true, eqb-false}
+use Rattle.std.specs.FinMap.{FinMap, find, entries, len, from_entries, get-from_entries, len-entries, len-empty}
+use Rattle.std.proofs.lemmas.Bool.{cases_lt, cases_Bool, cond-true, cond-false, eq-eqb, ne_eqb, eqb-true}
 use Rattle.std.proofs.lemmas.List.{append_assoc, append-nil, take_more, take_all, map-append}
 use Rattle.std.proofs.lemmas.Grind.{flat_map-append}
 use Rattle.std.proofs.lemmas.Map.Text.{is_eq-slice_cmp}
@@ -13,7 +13,7 @@ use Rattle.sfs_base.proofs.BasicLists.{bytes_same, take_none}
 use Rattle.sfs_base.proofs.BasicTruth.{not_both_of}
 use Rattle.sfs_base.specs.Lists.{Roomy}
 use Rattle.sfs_image.specs.Slot.{Row}
-use Rattle.sfs_tree.specs.Order.{Key, key_cmp, name_cmp}
+use Rattle.sfs_tree.specs.Order.{Key, key_cmp}
 use Rattle.sfs_tree.specs.Tree.{names_where, name_row, names_it}
 use Rattle.sfs_tree.proofs.Joined.{key_cmp_total, same_key, find-append, count-insert, count-cons}
 use Rattle.sfs_tree.proofs.Counting.{count-le-len}

@@ -1,6 +1,5 @@
 -- Inodes that hold each block once.
-use Rattle.std.proofs.Common.{◌≡◌, ◌≢◌, ◌⊎◌, ℕ, ◌+◌, ◌<◌, ◌≤◌, Bool, true, false, List, [], length, get_or, refl, sym, ap, subst, ◌∙◌, arith, inl, inr}
-use Rattle.std.specs.Prelude.{slice_index_or}
+use Rattle.std.proofs.Common.{◌≡◌, ◌≢◌, ℕ, ◌+◌, ◌<◌, Bool, true, false, List, [], length, get_or, sym, ap, subst, ◌∙◌, arith, inl, inr}
 use Rattle.std.proofs.lemmas.Bool.{cases_lt}
 use Rattle.std.proofs.lemmas.List.{get_or_read}
 use Rattle.sfs_base.proofs.BasicTruth.{not_both_of}
@@ -9,7 +8,6 @@ use Rattle.sfs_image.specs.Inode.{Inode, Table, inode_of}
 use Rattle.sfs_image.specs.Seen.{PLACES}
 use Rattle.block_map.specs.Kept.{pointer_kept}
 use Rattle.disk_tree.specs.Apart.{is_marked, MarksEach, pointer_in, HoldOnce}
-use Rattle.disk_tree.specs.Gathered.{tables_at}
 use Rattle.disk_tree.specs.Inodes.{inode_at}
 
 -- elements of the lists are those of a number

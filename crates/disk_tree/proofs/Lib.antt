@@ -11,8 +11,10 @@ pub mod NamesMet
 pub mod NamesTwice
 pub mod NodesPut
 pub mod PartsRead
+pub mod PartsShown
 pub mod PointersJudged
 pub mod Putting
+pub mod ReachedShown
 pub mod ReadRuns
 pub mod Refusals
 pub mod RowsCounted

@@ -1,14 +1,13 @@
 -- When a name stands twice among rows.
-use Rattle.std.proofs.Common.{◌≡◌, ◌≢◌, ◌⊎◌, ℕ, zero, suc, ◌+◌, ◌<◌, ◌≤◌, Bool, true, false, cond, List, [], ◌∷◌, length, get_or, count_by, nat_lt, Result, Ok, Err, IfOk, refl, sym, ap, subst, ◌∙◌, arith, inl, inr}
+use Rattle.std.proofs.Common.{◌≡◌, ℕ, zero, suc, ◌+◌, ◌<◌, ◌≤◌, Bool, true, false, cond, List, [], ◌∷◌, length, get_or, count_by, nat_lt, Result, Ok, Err, IfOk, refl, sym, ap, ◌∙◌, arith, inl, inr}
 use Rattle.std.specs.Prelude.{bytes_eq, slice_index_or}
-use Rattle.std.specs.List.{list_any}
-use Rattle.std.proofs.lemmas.Bool.{cases_lt, cases_Bool, cases_order, lt-ltb, le-ltb}
+use Rattle.std.proofs.lemmas.Bool.{cases_Bool, lt-ltb, le-ltb}
 use Rattle.std.proofs.lemmas.List.Folds.{list_any_at, list_any_none}
 use Rattle.std.proofs.lemmas.List.Elements.{All-from_get_or}
 use Rattle.sfs_base.proofs.BasicLists.{same_bytes, bytes_same}
 use Rattle.sfs_tree.proofs.Joined.{count-cons}
 use Rattle.sfs_image.specs.Slot.{Row}
-use Rattle.disk_tree.specs.Rows.{NO_ROW, HaveOwnNames, HaveOneName, AnswersTwice}
+use Rattle.disk_tree.specs.Rows.{NO_ROW, HaveOwnNames, AnswersTwice}
 use Rattle.disk_tree.specs.Tests.{rows_named, has_twice}
 
 module _ {X : Type 0} (p : X → Bool) (d : X) where

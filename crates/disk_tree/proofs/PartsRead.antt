@@ -1,28 +1,24 @@
 -- Parts of which the indirect blocks were read, and the rules that speak of their pointers.
-use Rattle.std.proofs.Common.{◌≡◌, ◌≢◌, ◌⊎◌, ℕ, zero, suc, ◌+◌, ◌-◌, ◌<◌, ◌≤◌, Bool, true, false, not, ◌&&◌, ◌||◌, eqb, ltb, List, [], length, Option, None, Some, All, map, refl, sym, ap, subst, ◌∙◌, arith, inl, inr}
+use Rattle.std.proofs.Common.{◌≡◌, ◌≢◌, ◌⊎◌, ℕ, ◌-◌, ◌<◌, ◌≤◌, Bool, true, false, not, ◌&&◌, ◌||◌, eqb, ltb, List, [], length, Option, All, map, refl, sym, ap, subst, ◌∙◌, arith, inl, inr}
 use Rattle.std.specs.Prelude.{slice_index, slice_index_or}
-use Rattle.std.specs.List.{find}
 use Rattle.std.specs.Option.{option_map_or}
 use Rattle.std.proofs.lemmas.Bool.{cases_Bool, cases_lt, cases_order, cond-true, cond-false, lt-ltb, le-ltb, eq-eqb, ne_eqb, eqb-true, eqb-false, and_left, or_left, or_right}
 use Rattle.std.proofs.lemmas.List.Elements.{All-get_or}
-use Rattle.sfs_base.proofs.BasicTruth.{not_both_of}
 use Rattle.sfs_base.proofs.BasicLists.{zeros_read}
 use Rattle.sfs_base.specs.Lists.{Roomy}
-use Rattle.sfs_image.specs.Bytes.{zeros}
-use Rattle.sfs_image.specs.Inode.{Inode, Table, IsInode, IsFree, inode_of, inode_fault, pointers_of, table_of, entry_of}
+use Rattle.sfs_image.specs.Inode.{Inode, Table, IsInode, IsFree, inode_of, pointers_of, table_of, entry_of}
 use Rattle.sfs_image.specs.Part.{Part, inode_in, block_pointer, pointer_at, read_block, tabulate, is_free_part}
-use Rattle.sfs_image.specs.Rules.{any_below, breaks_bytes_rule, breaks_apart, breaks_pointers, is_held_before, stands_below}
+use Rattle.sfs_image.specs.Rules.{any_below, breaks_bytes_rule, breaks_apart, is_held_before, stands_below}
 use Rattle.sfs_image.specs.Seen.{FILE_BLOCKS, PLACES}
 use Rattle.sfs_image.specs.Super.{Layout}
 use Rattle.sfs_image.proofs.Basics.{length-tabulate, get_or-tabulate, any_below-at}
 use Rattle.sfs_image.proofs.InodeLaws.{pointers_of-zeros}
 use Rattle.sfs_image.proofs.RuleLaws.{blocks_say, good_from_rule}
-use Rattle.block_map.specs.Kept.{table_kept, tables_kept, kept_tables, block_kept, pointer_kept}
+use Rattle.block_map.specs.Kept.{tables_kept, kept_tables, pointer_kept}
 use Rattle.block_map.proofs.KeptPointers.{HaveHoles, kept_place, table_found}
-use Rattle.disk_tree.specs.Apart.{is_marked, Meets, pointer_in, HoldOnce, SharesFirst}
-use Rattle.disk_tree.specs.First.{IsFirst}
+use Rattle.disk_tree.specs.Apart.{is_marked, pointer_in, HoldOnce, SharesFirst}
 use Rattle.disk_tree.specs.Gathered.{tables_at, AreTables, BreaksFourth, KeepTables, KeepPointerRules}
-use Rattle.disk_tree.specs.Inodes.{inode_at, HaveRecords, SoundRecords, KeepRecordRules}
+use Rattle.disk_tree.specs.Inodes.{inode_at, HaveRecords, KeepRecordRules}
 use Rattle.disk_tree.specs.Judged.{IsReadPart, AreReadParts, Refused, IsReadRefusal}
 use Rattle.disk_tree.specs.declared.fault.TreeFault.{TreeFault}
 use Rattle.disk_tree.specs.declared.fault.TreeFault.TheVariants.{DiskFailed, BadImage, NoMemory}
@@ -30,7 +26,7 @@ use Rattle.disk_tree.specs.Pointers.{points_badly, AreJudgedTables}
 use Rattle.disk_tree.specs.Reading.{IsReadBlock, HasTables}
 use Rattle.disk_tree.proofs.InodesRead.{inode_at_record}
 use Rattle.disk_tree.proofs.PointersJudged.{rule_by_kept, unread_tables}
-use Rattle.disk_tree.proofs.Refusals.{store_of, store_reads, refused_at, byte_rule, breaks_of}
+use Rattle.disk_tree.proofs.Refusals.{store_of, store_reads, refused_at, byte_rule}
 
 -- the part of a record whose indirect blocks were read, and nothing else of it
 module _ (told : Option (List ℕ)) (raw : List ℕ) (tables : List Table) (has : HasTables told (inode_of raw) tables) where

@@ -1,12 +1,12 @@
 -- The rule on pointers, by what is kept of an inode.
-use Rattle.std.proofs.Common.{◌≡◌, ◌≢◌, ◌⊎◌, ℕ, ◌+◌, ◌-◌, ◌*◌, ◌/◌, ◌%◌, ◌<◌, ◌≤◌, Bool, true, false, not, ◌&&◌, ◌||◌, eqb, ltb, List, [], length, Option, None, Some, replicate, map, leb, filter_map, refl, sym, ap, subst, ◌∙◌, arith, inl, inr}
+use Rattle.std.proofs.Common.{◌≡◌, ◌≢◌, ◌⊎◌, ℕ, ◌+◌, ◌-◌, ◌*◌, ◌<◌, Bool, true, false, not, ◌&&◌, ◌||◌, eqb, ltb, List, [], length, Option, None, replicate, map, leb, refl, sym, ap, subst, ◌∙◌, arith, inl, inr}
 use Rattle.std.specs.Prelude.{slice_index, slice_index_or}
-use Rattle.std.specs.List.{find, range_with_len}
-use Rattle.std.proofs.lemmas.Bool.{cases_Bool, cases_lt, cond-true, cond-false, lt-ltb, le-ltb, eq-eqb, ne_eqb, eqb-true, eqb-false, or_from, or_parts, or_left, or_right, or_cases, ltb-true, and_left, and_parts}
+use Rattle.std.specs.List.{find}
+use Rattle.std.proofs.lemmas.Bool.{cases_Bool, cases_lt, cond-true, cond-false, lt-ltb, le-ltb, eq-eqb, ne_eqb, eqb-true, or_from, or_parts, or_left, or_right, or_cases, ltb-true, and_left, and_parts}
 use Rattle.sfs_base.proofs.BasicTruth.{not_both_of, not_false}
 use Rattle.sfs_base.proofs.BasicLists.{zeros_read}
 use Rattle.sfs_image.specs.Inode.{Inode, Table, pointers_of, table_of, entry_of, IsFree, IsInode}
-use Rattle.sfs_image.specs.Part.{Part, inode_in, pointer_at, block_pointer, is_free_part, read_block}
+use Rattle.sfs_image.specs.Part.{Part, inode_in, pointer_at, is_free_part, read_block}
 use Rattle.sfs_image.specs.Rules.{any_below, is_data_block, is_good_pointer, first_covered, breaks_pointers}
 use Rattle.sfs_image.specs.Seen.{FILE_BLOCKS, PLACES}
 use Rattle.sfs_image.specs.Super.{Layout, IsLayout, data_start}

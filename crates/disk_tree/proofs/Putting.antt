@@ -1,5 +1,5 @@
 -- How rows are put into a tree one after another.
-use Rattle.std.proofs.Common.{◌≡◌, ℕ, ◌+◌, ◌<◌, ◌≤◌, Bool, true, List, [], ◌∷◌, ◌++◌, length, take, drop, get_or, count_by, nat_eq, None, IsSome, refl, sym, ap, subst, ◌∙◌, arith}
+use Rattle.std.proofs.Common.{◌≡◌, ℕ, ◌+◌, ◌<◌, ◌≤◌, Bool, true, List, length, take, drop, count_by, nat_eq, None, IsSome, refl, sym, ap, ◌∙◌, arith}
 use Rattle.std.specs.Prelude.{slice_index_or}
 use Rattle.std.specs.FinMap.{FinMap, get, insert, len, from_entries, from_entries_push, get-from_entries}
 use Rattle.std.proofs.lemmas.List.{take-append-drop}
@@ -9,12 +9,12 @@ use Rattle.sfs_base.specs.Lists.{Roomy}
 use Rattle.sfs_base.specs.Name.{bucket}
 use Rattle.sfs_image.specs.Slot.{Row}
 use Rattle.sfs_tree.specs.Build.{with_row}
-use Rattle.sfs_tree.specs.Order.{Key, key_cmp}
+use Rattle.sfs_tree.specs.Order.{Key}
 use Rattle.sfs_tree.specs.Tree.{TreeState, row_of, is_directory, bucket_rows}
 use Rattle.sfs_tree.proofs.Joined.{key_cmp_total, key_cmp-IsAntisymmetric}
-use Rattle.disk_tree.specs.Built.{row_entry, row_entries, entries_to, MayPut, with_entries}
+use Rattle.disk_tree.specs.Built.{entries_to, MayPut, with_entries}
 use Rattle.disk_tree.specs.Reached.{row_at}
-use Rattle.disk_tree.specs.Rows.{NO_ROW, rows_at, rows_in_bucket}
+use Rattle.disk_tree.specs.Rows.{NO_ROW, rows_at}
 use Rattle.disk_tree.proofs.Entries.{fresh_entry, entry_more, own_entries_to, counted_from, len-names_where, entries_of_to, count_append}
 
 count_take : {X : Type 0} (p : X → Bool) (xs : List X) (k : ℕ) → count_by p (take k xs) ≤ count_by p xs

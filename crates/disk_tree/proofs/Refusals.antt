@@ -1,10 +1,10 @@
 -- How the first fault of parts is found: rule by rule.
-use Rattle.std.proofs.Common.{◌⊎◌, ◌≡◌, ◌≢◌, ℕ, zero, suc, ◌+◌, ◌*◌, ◌<◌, ◌≤◌, Bool, true, false, cond, ltb, List, [], length, Option, None, Some, refl, sym, ap, subst, ◌∙◌, arith, inl, inr}
-use Rattle.std.specs.Prelude.{slice_index, slice_index_or}
-use Rattle.std.proofs.lemmas.Bool.{cases_order, cond-true, cond-false, lt-ltb, le-ltb, cases_Bool, eq-eqb, eqb-true, eqb-false, ne_eqb}
+use Rattle.std.proofs.Common.{◌⊎◌, ◌≡◌, ℕ, ◌<◌, ◌≤◌, Bool, false, ltb, List, Option, None, Some, refl, sym, ap, subst, ◌∙◌, inl, inr}
+use Rattle.std.specs.Prelude.{slice_index}
+use Rattle.std.proofs.lemmas.Bool.{cases_order, cond-true, cond-false, lt-ltb, le-ltb}
 use Rattle.sfs_base.proofs.BasicTruth.{not_both_of}
 use Rattle.sfs_image.specs.Bytes.{zeros}
-use Rattle.sfs_image.specs.Inode.{Inode, inode_of}
+use Rattle.sfs_image.specs.Inode.{inode_of}
 use Rattle.sfs_image.specs.Part.{Part, part_of, block_pointer, read_block}
 use Rattle.sfs_image.specs.Rules.{breaks_bytes_rule}
 use Rattle.sfs_image.specs.Settled.{image_block}
@@ -17,8 +17,8 @@ use Rattle.std.proofs.lemmas.List.{length-map}
 use Rattle.image_tree.specs.Image.{inodes_shown}
 use Rattle.image_tree.specs.Rules.{TreeFault, BYTE_RULES, RULES, breaks_tree_rule, breaks_rule, first_fault, FindsFault, IsLeastFault}
 use Rattle.image_tree.proofs.FirstFault.{first_fault_is_least}
-use Rattle.disk_tree.specs.First.{IsFirst, NonePasses}
-use Rattle.disk_tree.specs.Reading.{IsReadBlock, AreReadTables}
+use Rattle.disk_tree.specs.First.{IsFirst}
+use Rattle.disk_tree.specs.Reading.{IsReadBlock}
 use Rattle.disk_tree.specs.Judged.{IsReadPart, AreReadParts, fault_of_parts, Refused}
 
 -- a fault that is the least is found

@@ -5,18 +5,17 @@ use Rattle.std.specs.List.{list_any}
 use Rattle.std.specs.Option.{option_map_or}
 use Rattle.std.proofs.lemmas.Bool.{cases_Bool, eq-eqb, ne_eqb, eqb-true, eqb-false}
 use Rattle.sfs_base.specs.Lists.{Roomy}
-use Rattle.sfs_base.specs.declared.numbers.Kind.TheVariants.{Directory}
 use Rattle.sfs_image.specs.Inode.{Inode}
 use Rattle.sfs_image.specs.Seen.{SeenInodes}
 use Rattle.sfs_image.specs.Slot.{Row, kind_byte}
 use Rattle.sfs_tree.proofs.Joined.{count-cons}
 use Rattle.image_tree.specs.ImageTree.{shows_directory}
-use Rattle.image_tree.specs.Rules.{some_row, is_misplaced, breaks_tree_rule}
+use Rattle.image_tree.specs.Rules.{some_row, is_misplaced}
 use Rattle.image_tree.specs.Slots.{has_name, name_count}
 use Rattle.disk_tree.specs.Inodes.{inode_at}
 use Rattle.disk_tree.specs.Rows.{rows_at, rows_in_slots, is_misplaced_by}
 use Rattle.disk_tree.specs.Shown.{ShowsRows, AreRowTests, RowTestsAreRules}
-use Rattle.disk_tree.specs.Tests.{rows_named, has_twice, breaks_eighth, breaks_tenth, breaks_eleventh}
+use Rattle.disk_tree.specs.Tests.{rows_named, has_twice}
 
 -- a row in a slot passes a test where one of the rows does
 any_row : (test : Row → Bool) (slots : List (Option Row)) → list_any (λ slot. option_map_or test slot false) slots ≡ list_any test (rows_in_slots slots)

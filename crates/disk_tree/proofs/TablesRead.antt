@@ -13,7 +13,7 @@ use Rattle.sfs_image.proofs.PartLaws.{hole_is_read, block_behind}
 use Rattle.block_map.proofs.KeptPointers.{kept_at_place}
 use Rattle.sfs_image.specs.Inode.{Inode, Table, pointers_of}
 use Rattle.block_map.specs.Kept.{table_kept, tables_kept}
-use Rattle.disk_tree.specs.Reading.{IsReadBlock, AreReadTables, table_in, HasTables, IsNextTable}
+use Rattle.disk_tree.specs.Reading.{IsReadBlock, table_in, HasTables, IsNextTable}
 
 -- the numbers from a on, one more
 pub range_more : (a n : ℕ) → range_with_len a (n + 1) ≡ range_with_len a n ++ (a + n) ∷ []

@@ -1,5 +1,5 @@
 -- What was read of the inodes of an image, and how it is judged.
-use Rattle.std.specs.Prelude.{◌≡◌, ℕ, ◌<◌, List, [], length, slice_index_or, Option, None, Some, Bool}
+use Rattle.std.specs.Prelude.{◌≡◌, ℕ, ◌<◌, List, [], length, slice_index_or, Option, Some}
 use Rattle.sfs_image.specs.Inode.{inode_of}
 use Rattle.sfs_image.specs.Part.{Part, block_pointer}
 use Rattle.sfs_image.specs.Rules.{breaks_bytes_rule}

@@ -1,5 +1,5 @@
 -- Which directories a walk from the root reaches.
-use Rattle.std.specs.Prelude.{◌≡◌, ◌⊎◌, ℕ, zero, suc, ◌+◌, ◌<◌, Bool, true, false, List, [], ◌∷◌, length, slice_index, slice_index_or, slice_set, ◌++◌}
+use Rattle.std.specs.Prelude.{◌≡◌, ◌⊎◌, ℕ, suc, ◌+◌, ◌<◌, Bool, true, false, List, [], ◌∷◌, length, slice_index, slice_index_or, slice_set, ◌++◌}
 use Rattle.sfs_base.specs.Lists.{Roomy}
 use Rattle.sfs_image.specs.Slot.{Row}
 use Rattle.sfs_tree.specs.Tree.{is_directory_kind}

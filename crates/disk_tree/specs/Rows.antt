@@ -1,9 +1,9 @@
 -- The rows of the directories, one directory after another, and the rules on them.
-use Rattle.std.specs.Prelude.{◌≡◌, ◌≢◌, ℕ, zero, suc, ◌+◌, ◌<◌, ◌==◌, ◌||◌, ◌&&◌, nat_lt, not, Bool, true, false, List, [], ◌++◌, filter_map, length, take, slice_index, slice_index_or, count_by, Option, if◌then◌else◌}
+use Rattle.std.specs.Prelude.{◌≡◌, ◌≢◌, ℕ, zero, suc, ◌+◌, ◌<◌, ◌==◌, ◌||◌, nat_lt, not, Bool, true, false, List, [], filter_map, length, take, slice_index, slice_index_or, count_by, Option}
 use Rattle.std.specs.List.{range_with_len, list_any, flat_map}
 use Rattle.sfs_base.specs.Lists.{Roomy}
 use Rattle.sfs_base.specs.Name.{bucket}
-use Rattle.sfs_base.specs.declared.numbers.Kind.TheVariants.{File, Directory}
+use Rattle.sfs_base.specs.declared.numbers.Kind.TheVariants.{File}
 use Rattle.sfs_image.specs.Inode.{Inode}
 use Rattle.sfs_image.specs.Slot.{Row, kind_byte}
 use Rattle.sfs_tree.specs.Tree.{is_directory_kind, BUCKET_ROWS}

@@ -1,13 +1,18 @@
 -- What the inodes of an image show, by what was read of them, and which tests the rules across inodes are then.
-use Rattle.std.specs.Prelude.{◌≡◌, ◌≢◌, ℕ, ◌<◌, List, [], length}
+use Rattle.std.specs.Prelude.{◌≡◌, ◌≢◌, ℕ, ◌<◌, Bool, List, [], length, map, All, Option}
 use Rattle.sfs_base.specs.Lists.{Roomy}
-use Rattle.sfs_image.specs.Inode.{Inode}
+use Rattle.sfs_image.specs.Inode.{Inode, IsInode, Table, inode_of}
+use Rattle.sfs_image.specs.Super.{Layout}
+use Rattle.image_tree.specs.Image.{inodes_shown}
+use Rattle.disk_tree.specs.Blocks.{ReadWell}
+use Rattle.disk_tree.specs.Gathered.{KeepPointerRules}
 use Rattle.sfs_image.specs.Seen.{SeenInodes}
 use Rattle.sfs_image.specs.Slot.{Row}
 use Rattle.image_tree.specs.Rules.{breaks_tree_rule}
 use Rattle.disk_tree.specs.Inodes.{inode_at}
-use Rattle.disk_tree.specs.Rows.{rows_at, rows_in_slots}
-use Rattle.disk_tree.specs.Tests.{breaks_eighth, breaks_ninth, breaks_tenth, breaks_eleventh, breaks_twelfth, breaks_thirteenth}
+use Rattle.disk_tree.specs.Rows.{AreRowLists, rows_at, rows_in_slots}
+use Rattle.disk_tree.specs.Tests.{breaks_eighth, breaks_ninth, breaks_tenth, breaks_eleventh, breaks_twelfth, breaks_thirteenth, breaks_fourteenth}
+use Rattle.disk_tree.specs.Reached.{MarksReached}
 use Rattle.disk_tree.specs.First.{NonePasses}
 
 -- The inodes of an image are these, and the rows in their slots are these; what is no directory has none.
@@ -39,3 +44,17 @@ pub record AreCountTests (image : SeenInodes) (inodes : List Inode) (rows : List
 abbrev pub CountTestsAreRules : Type 0
 CountTestsAreRules = (image : SeenInodes) (inodes : List Inode) (rows : List (Roomy Row)) → ShowsRows image inodes rows → length rows ≡ length inodes
     → NonePasses image.count (breaks_eighth rows) → AreCountTests image inodes rows
+
+-- The rule on walks from the root is a test by the marks of what a walk reaches, where the rules before it on rows hold.
+abbrev pub ReachedTestIsRule : Type 0
+ReachedTestIsRule = (image : SeenInodes) (inodes : List Inode) (rows : List (Roomy Row)) (reached : List Bool) → ShowsRows image inodes rows → length rows ≡ length inodes
+    → NonePasses image.count (breaks_eighth rows) → NonePasses image.count (breaks_tenth inodes rows) → NonePasses image.count (breaks_eleventh rows)
+    → NonePasses image.count (breaks_twelfth inodes rows (length inodes)) → MarksReached rows (length rows) reached → 0 < image.count → (image.seen 0).kind ≡ 2
+    → (i : ℕ) → i < image.count → breaks_tree_rule image 14 i ≡ breaks_fourteenth inodes reached i
+
+-- What was read of an image shows its rows: the parts that were read, with the rows in their slots.
+abbrev pub ReadPartsShowRows : Type 0
+ReadPartsShowRows = (told : Option (List ℕ)) (layout : Layout) (records : List (List ℕ)) (inodes : List Inode) (tables : List (Roomy Table)) (contents : List (Roomy ℕ))
+    (slots : List (Roomy (List (Option Row)))) (rows : List (Roomy Row)) → length records ≡ layout.inodes → inodes ≡ map inode_of records → All IsInode inodes
+    → KeepPointerRules told layout records tables → (well : ReadWell told layout records inodes tables contents slots) → AreRowLists slots layout.inodes rows
+    → ShowsRows (inodes_shown layout well.parts) inodes rows

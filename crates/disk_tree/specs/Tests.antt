@@ -1,5 +1,5 @@
 -- The rules across inodes as tests, by the inodes, the rows and what was counted.
-use Rattle.std.specs.Prelude.{◌≡◌, ℕ, ◌+◌, ◌<◌, ◌==◌, ◌&&◌, nat_lt, not, bytes_eq, Bool, true, false, List, count_by, if◌then◌else◌}
+use Rattle.std.specs.Prelude.{ℕ, ◌+◌, ◌==◌, ◌&&◌, nat_lt, not, bytes_eq, Bool, List, count_by, if◌then◌else◌}
 use Rattle.std.specs.List.{list_any}
 use Rattle.sfs_base.specs.Lists.{Roomy}
 use Rattle.sfs_image.specs.Inode.{Inode}

@@ -1,5 +1,5 @@
 // What is proved of the definitions: each function's contract is a law.
-ghost use Rattle.disk_tree.specs.Shown.{RowTestsAreRules, CountTestsAreRules};
+ghost use Rattle.disk_tree.specs.Shown.{RowTestsAreRules, CountTestsAreRules, ReachedTestIsRule, ReadPartsShowRows};
 
 /// The rules on the rows of a directory are tests on its rows.
 pub fn row_tests_are_rules()
@@ -9,4 +9,14 @@ pub fn row_tests_are_rules()
 /// The rules that count rows are tests by the numbers that were counted.
 pub fn count_tests_are_rules()
     ensures { CountTestsAreRules }
+{}
+
+/// The rule on walks from the root is a test by the marks of what a walk reaches.
+pub fn reached_test_is_rule()
+    ensures { ReachedTestIsRule }
+{}
+
+/// What was read of an image shows its rows.
+pub fn read_parts_show_rows()
+    ensures { ReadPartsShowRows }
 {}

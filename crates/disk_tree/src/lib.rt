@@ -16,4 +16,6 @@ mod rows;
 mod stages;
 
 pub use fault::TreeFault;
-pub use laws::{count_tests_are_rules, row_tests_are_rules};
+pub use laws::{
+    count_tests_are_rules, reached_test_is_rule, read_parts_show_rows, row_tests_are_rules,
+};

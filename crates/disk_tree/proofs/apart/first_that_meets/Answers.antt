@@ -1,9 +1,8 @@
-use Rattle.std.proofs.Common.{◌≡◌, ℕ, ◌<◌, List, Bool, length, sym, subst, arith}
-use Rattle.std.proofs.lemmas.List.{get_or_read}
+use Rattle.std.proofs.Common.{ℕ, sym, subst, arith}
 use Rattle.std.proofs.lemmas.List.Elements.{All-get_or}
-use Rattle.sfs_image.specs.Inode.{Inode, IsInode}
+use Rattle.sfs_image.specs.Inode.{IsInode}
 use Rattle.sfs_image.specs.Seen.{PLACES}
-use Rattle.disk_tree.specs.Apart.{Meets, MarksEach, pointer_in}
+use Rattle.disk_tree.specs.Apart.{Meets, pointer_in}
 use Rattle.disk_tree.proofs.HeldOnce.{none_held, held_more, same_pointers, marks_same}
 use Rattle.disk_tree.proofs.apart.first_that_meets.Goals as goal
 

@@ -1,4 +1,3 @@
-use Rattle.std.proofs.Common.{◌≡◌, length}
 use Rattle.disk_tree.specs.Apart.{HoldOnce}
 use Rattle.disk_tree.proofs.apart.first_that_meets.Given as goal
 

@@ -1,4 +1,4 @@
-use Rattle.std.proofs.Common.{◌≡◌, ℕ, ◌+◌, ◌*◌, ◌<◌, List, Bool, Option, length, sym, ap, subst, ◌∙◌, arith}
+use Rattle.std.proofs.Common.{◌≡◌, ℕ, ◌+◌, ◌*◌, ◌<◌, List, Option, length, sym, ap, subst, arith}
 use Rattle.sfs_image.specs.Inode.{Inode, Table}
 use Rattle.std.specs.Prelude.{slice_index}
 use Rattle.block_map.specs.Kept.{pointer_kept}

@@ -1,4 +1,4 @@
-use Rattle.std.proofs.Common.{List, ℕ, sym, ap, ◌∙◌, arith}
+use Rattle.std.proofs.Common.{sym, ap, ◌∙◌, arith}
 use Rattle.sfs_image.specs.Inode.{Inode}
 use Rattle.disk_tree.specs.Blocks.{tail_badly, breaks_tail_at}
 use Rattle.disk_tree.specs.Inodes.{inode_at}

@@ -1,4 +1,4 @@
-use Rattle.std.proofs.Common.{◌≡◌, ap, sym, subst, ◌∙◌, map, arith, rules}
+use Rattle.std.proofs.Common.{ap, sym, subst, ◌∙◌, map, arith, rules}
 use Rattle.std.specs.List.{list_any}
 use Rattle.fmt_slots.specs.Fault.{Names}
 use Rattle.fmt_slots.specs.declared.slot.SlotFault.{SlotFault}

@@ -1,11 +1,11 @@
-use Rattle.std.proofs.Common.{◌≡◌, ◌<◌, ℕ, List, true, None, IsSome, length, sym, ap, subst, ◌∙◌, arith, rules}
+use Rattle.std.proofs.Common.{◌≡◌, ◌<◌, ℕ, List, IsSome, length, sym, ap, subst, ◌∙◌, arith}
 use Rattle.std.specs.FinMap.{len, get}
 use Rattle.std.proofs.lemmas.List.{get_or_read}
 use Rattle.sfs_base.specs.Name.{bucket}
 use Rattle.sfs_image.specs.Slot.{Row}
 use Rattle.sfs_tree.specs.Build.{with_row}
 use Rattle.sfs_tree.specs.Tree.{TreeState, is_directory, row_of, bucket_rows}
-use Rattle.disk_tree.specs.Built.{with_entries, row_entries, entries_to}
+use Rattle.disk_tree.specs.Built.{with_entries, entries_to}
 use Rattle.disk_tree.specs.Reached.{row_at}
 use Rattle.disk_tree.specs.Rows.{NO_ROW, rows_at}
 use Rattle.disk_tree.proofs.Entries.{first_entries, whole_entries}

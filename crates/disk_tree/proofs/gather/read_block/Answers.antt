@@ -1,4 +1,4 @@
-use Rattle.std.proofs.Common.{◌*◌, refl, sym, ◌∙◌, arith}
+use Rattle.std.proofs.Common.{◌*◌, arith}
 use Rattle.disk_tree.proofs.TablesRead.{block_given}
 use Rattle.disk_tree.proofs.gather.read_block.Goals as goal
 

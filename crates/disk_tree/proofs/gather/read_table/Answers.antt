@@ -1,5 +1,5 @@
 use Rattle.std.proofs.Common.{rules}
-use Rattle.disk_tree.proofs.TablesRead.{next_hole, next_there}
+use Rattle.disk_tree.proofs.TablesRead.{next_hole}
 use Rattle.disk_tree.proofs.gather.read_table.Goals as goal
 
 pub returns-then-pointer-eq0-clause-ok : goal.returns-then-pointer-eq0-clause-ok

@@ -1,4 +1,4 @@
-use Rattle.std.proofs.Common.{ℕ, sym, subst, arith, ◌≡◌}
+use Rattle.std.proofs.Common.{ℕ, subst, arith, ◌≡◌}
 use Rattle.disk_tree.proofs.ReadRuns.{read_more}
 use Rattle.disk_tree.proofs.TablesRead.{TablesSoFar, all_below, next_table, told_same, all_tables}
 use Rattle.disk_tree.proofs.gather.read_tables.Goals as goal

@@ -1,6 +1,5 @@
-use Rattle.std.proofs.Common.{◌≡◌, ℕ, List, ◌∙◌, sym, subst, length, eqb, true, false}
-use Rattle.std.specs.Prelude.{slice_index_or}
-use Rattle.sfs_image.specs.Inode.{Inode, inode_of}
+use Rattle.std.proofs.Common.{◌≡◌, List, ◌∙◌, sym, subst, length, eqb, true, false}
+use Rattle.sfs_image.specs.Inode.{Inode}
 use Rattle.std.proofs.lemmas.Bool.{eqb-true, eqb-false}
 use Rattle.disk_tree.specs.Inodes.{inode_at, breaks_size_by}
 use Rattle.disk_tree.specs.First.{IsFirst, NonePasses}

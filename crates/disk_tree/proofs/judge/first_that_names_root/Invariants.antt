@@ -1,4 +1,3 @@
-use Rattle.std.proofs.Common.{length}
 use Rattle.disk_tree.specs.First.{NonePasses}
 use Rattle.disk_tree.specs.Tests.{breaks_eleventh}
 use Rattle.disk_tree.proofs.judge.first_that_names_root.Given as goal

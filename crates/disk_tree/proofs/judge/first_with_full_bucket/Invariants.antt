@@ -1,4 +1,3 @@
-use Rattle.std.proofs.Common.{length}
 use Rattle.disk_tree.specs.First.{NonePasses}
 use Rattle.disk_tree.specs.Tests.{breaks_ninth}
 use Rattle.disk_tree.proofs.judge.first_with_full_bucket.Given as goal

@@ -1,4 +1,3 @@
-use Rattle.std.proofs.Common.{length}
 use Rattle.disk_tree.specs.First.{NonePasses}
 use Rattle.disk_tree.specs.Tests.{breaks_tenth}
 use Rattle.disk_tree.proofs.judge.first_with_misplaced_row.Given as goal

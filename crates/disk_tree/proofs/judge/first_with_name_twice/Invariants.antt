@@ -1,4 +1,3 @@
-use Rattle.std.proofs.Common.{length}
 use Rattle.disk_tree.specs.First.{NonePasses}
 use Rattle.disk_tree.specs.Tests.{breaks_eighth}
 use Rattle.disk_tree.proofs.judge.first_with_name_twice.Given as goal

@@ -1,4 +1,4 @@
-use Rattle.std.proofs.Common.{Option, None, Some, List, [], ℕ, sym, subst, arith}
+use Rattle.std.proofs.Common.{Option, None, Some, [], subst, arith}
 use Rattle.sfs_base.specs.Lists.{Roomy}
 use Rattle.sfs_image.specs.Inode.{Table}
 use Rattle.disk_tree.specs.Pointers.{FindsTables}

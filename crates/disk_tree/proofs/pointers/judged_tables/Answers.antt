@@ -1,6 +1,6 @@
-use Rattle.std.proofs.Common.{◌∙◌, sym, subst, false, arith, rules}
+use Rattle.std.proofs.Common.{◌∙◌, sym, subst, false, rules}
 use Rattle.disk_tree.specs.Pointers.{AreJudgedTables}
-use Rattle.disk_tree.proofs.PointersJudged.{free_judged, record_judged, tables_judged, indirect_within}
+use Rattle.disk_tree.proofs.PointersJudged.{free_judged, record_judged, indirect_within}
 use Rattle.disk_tree.proofs.pointers.judged_tables.Goals as goal
 
 pub returns-then-inode-eq0-clause-ok : goal.returns-then-inode-eq0-clause-ok

@@ -1,4 +1,4 @@
-use Rattle.std.proofs.Common.{List, ◌<◌, length, ◌∙◌, arith, subst, sym}
+use Rattle.std.proofs.Common.{◌<◌, length, arith, subst, sym}
 use Rattle.std.proofs.lemmas.List.{get_or_read}
 use Rattle.std.proofs.lemmas.List.Elements.{All-get_or}
 use Rattle.sfs_image.specs.Slot.{Row}

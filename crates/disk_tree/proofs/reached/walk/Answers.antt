@@ -1,9 +1,9 @@
-use Rattle.std.proofs.Common.{ℕ, List, ◌<◌, length, ◌∙◌, arith, All, ap, subst, sym}
+use Rattle.std.proofs.Common.{ℕ, List, ◌<◌, length, ◌∙◌, All, subst, sym}
 use Rattle.sfs_image.specs.Slot.{Row}
 use Rattle.disk_tree.specs.Reached.{Visits}
 use Rattle.disk_tree.specs.Rows.{rows_at}
 use Rattle.disk_tree.proofs.RowsCounted.{rows_of_number}
-use Rattle.disk_tree.proofs.Visited.{root_frontier, next_frontier, popped_within, less_work}
+use Rattle.disk_tree.proofs.Visited.{root_frontier, next_frontier, popped_within}
 use Rattle.disk_tree.proofs.reached.walk.Goals as goal
 
 pub loop-directory-init : goal.loop-directory-init

@@ -1,6 +1,6 @@
-use Rattle.std.proofs.Common.{◌≡◌, List, ℕ, All, ◌+◌, ◌<◌, length, sym, ap, subst, ◌∙◌, arith}
+use Rattle.std.proofs.Common.{ℕ, All, ◌<◌, length, sym, ap, subst, ◌∙◌, arith}
 use Rattle.sfs_image.specs.Slot.{Row}
-use Rattle.disk_tree.specs.Rows.{rows_at, Counts}
+use Rattle.disk_tree.specs.Rows.{rows_at}
 use Rattle.disk_tree.proofs.RowsCounted.{rows_below, more_counted, rows_of_number}
 use Rattle.disk_tree.proofs.rows.count_all.Goals as goal
 

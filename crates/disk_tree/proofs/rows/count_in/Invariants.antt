@@ -1,4 +1,4 @@
-use Rattle.std.proofs.Common.{◌≤◌, ◌+◌, ◌<◌, ℕ}
+use Rattle.std.proofs.Common.{◌≤◌, ◌+◌, ℕ}
 use Rattle.std.specs.Prelude.{slice_index}
 use Rattle.disk_tree.specs.Rows.{Counts}
 use Rattle.disk_tree.proofs.rows.count_in.Given as goal

@@ -1,10 +1,9 @@
 use Rattle.std.proofs.Common.{◌≡◌, ◌+◌, ℕ, List, sym, ap, subst, ◌∙◌, arith, rules, None}
 use Rattle.std.proofs.lemmas.List.{get_or_read}
-use Rattle.std.specs.FinMap.{FinMap, get, insert}
-use Rattle.sfs_tree.specs.Order.{name_cmp}
+use Rattle.std.specs.FinMap.{get, insert}
 use Rattle.sfs_image.specs.Slot.{Row}
 use Rattle.disk_tree.specs.Rows.{NO_ROW}
-use Rattle.disk_tree.proofs.NamesMet.{NamesSoFar, no_names, one_more_name, met_twice}
+use Rattle.disk_tree.proofs.NamesMet.{NamesSoFar, no_names, one_more_name}
 use Rattle.disk_tree.proofs.rows.have_one_name.Goals as goal
 
 pub loop-row-init : goal.loop-row-init

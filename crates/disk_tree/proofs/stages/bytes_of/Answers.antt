@@ -1,4 +1,4 @@
-use Rattle.std.proofs.Common.{◌≡◌, ℕ, ◌<◌, List, length, ap, sym, subst, ◌∙◌, arith}
+use Rattle.std.proofs.Common.{ℕ, List, length, subst, arith}
 use Rattle.sfs_base.specs.Lists.{Roomy}
 use Rattle.disk_tree.specs.Blocks.{breaks_tail_at, AreSlotLists, BreaksSeventh}
 use Rattle.disk_tree.specs.First.{IsFirst, NonePasses}
