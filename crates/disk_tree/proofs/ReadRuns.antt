@@ -3,7 +3,7 @@ use Rattle.std.proofs.Common.{◌≡◌, ℕ, Result, Ok, Err, refl, ◌∙◌, 
 use Rattle.sfs_base.specs.Ends.{HasRisen}
 use Rattle.sfs_dev.specs.Disk.{View, images}
 use Rattle.sfs_dev.specs.Run.{CountsOn, Advances, Unwritten}
-use Rattle.sfs_dev.proofs.Runs.{GoesOn-refl, GoesOn-trans, Rests-refl, EachMoment-trans}
+use Rattle.sfs_dev.proofs.Runs.{GoesOn-refl, GoesOn-trans, Rests-refl, EachMoment-trans, Rests-trans, ReadSoFar, none_read}
 use Rattle.disk_tree.specs.Cause.{OnlyReads, HasReadCause}
 use Rattle.disk_tree.specs.declared.fault.TreeFault.{TreeFault}
 use Rattle.disk_tree.specs.declared.fault.TreeFault.TheVariants.{DiskFailed, BadImage, NoMemory}
@@ -14,26 +14,6 @@ refused fault = Err fault
 
 abbrev pub answered : {V : Type 0} → V → Result V TreeFault
 answered value = Ok value
-
--- nothing was written, and no call failed
-pub record ReadSoFar (old new : View) : Type 0 where
-  pub advances : Advances old new
-  pub unwritten : Unwritten old new
-  pub kept : new.faults ≡ old.faults
-
-pub none_read : (disk : View) → ReadSoFar disk disk
-none_read disk = record { advances = GoesOn-refl disk; unwritten = Rests-refl disk; kept = refl }
-
--- one run that writes nothing after another
-pub Rests-trans : (old mid new : View) → Unwritten old mid → Advances mid new → Unwritten mid new → Unwritten old new
-Rests-trans old mid new first goes second = record {
-  content = second.content ∙ first.content;
-  left = λ image. (λ left. (first.left image).0 ((second.left image).0 left), λ left. (second.left image).1 ((first.left image).1 left));
-  at_each_moment = λ counts.
-      let counted : CountsOn mid = omega (arith, counts, goes.later) in
-      EachMoment-trans old mid new (λ _ image. images old image) counts goes (first.at_each_moment counted)
-      (λ k image more le left. (first.left image).0 (second.at_each_moment counts k image (omega arith) le left));
-}
 
 module _ {V : Type 0} (old mid new : View) (before : ReadSoFar old mid) where
   -- another run, which went well

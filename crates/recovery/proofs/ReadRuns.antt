@@ -4,31 +4,11 @@ use Rattle.std.specs.Result.{IsErrAnd, IfErr}
 use Rattle.sfs_base.specs.Ends.{HasRisen}
 use Rattle.sfs_dev.specs.Disk.{View, SameImages, images, IsDeviceCall}
 use Rattle.sfs_dev.specs.Run.{CountsOn, Advances, EachMoment, Unwritten}
-use Rattle.sfs_dev.proofs.Runs.{GoesOn-refl, GoesOn-trans, Rests-refl, Rests-call, EachMoment-trans}
+use Rattle.sfs_dev.proofs.Runs.{GoesOn-refl, GoesOn-trans, Rests-refl, Rests-call, EachMoment-trans, Rests-trans, ReadSoFar, none_read}
 use Rattle.recovery.specs.Cause.{OnlyReads, HasRecoverCause}
 use Rattle.recovery.specs.declared.fault.RecoverFault.{RecoverFault}
 use Rattle.recovery.specs.declared.fault.RecoverFault.TheVariants.{DiskFailed, BadSuper, BadJournal, BadImage, NoMemory}
 use Rattle.recovery.proofs.Undisturbed.{call_advances}
-
--- nothing was written, and no call failed
-pub record ReadSoFar (old new : View) : Type 0 where
-  pub advances : Advances old new
-  pub unwritten : Unwritten old new
-  pub kept : new.faults ≡ old.faults
-
-pub none_read : (disk : View) → ReadSoFar disk disk
-none_read disk = record { advances = GoesOn-refl disk; unwritten = Rests-refl disk; kept = refl }
-
--- one run that writes nothing after another
-pub Rests-trans : (old mid new : View) → Unwritten old mid → Advances mid new → Unwritten mid new → Unwritten old new
-Rests-trans old mid new first goes second = record {
-  content = second.content ∙ first.content;
-  left = λ image. (λ left. (first.left image).0 ((second.left image).0 left), λ left. (second.left image).1 ((first.left image).1 left));
-  at_each_moment = λ counts.
-      let counted : CountsOn mid = omega (arith, counts, goes.later) in
-      EachMoment-trans old mid new (λ _ image. images old image) counts goes (first.at_each_moment counted)
-      (λ k image more le left. (first.left image).0 (second.at_each_moment counts k image (omega arith) le left));
-}
 
 -- one read more
 pub read_call : {V E : Type 0} (old mid new : View) (v : V) → mid.now < 2 ^ 64 → ReadSoFar old mid → new.content ≡ mid.content → SameImages (images mid) (images new)

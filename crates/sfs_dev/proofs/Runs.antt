@@ -70,3 +70,23 @@ Rests-call old mid new goes time told same rests = record {
       let counted : CountsOn mid = omega (arith, counts, goes.later) in
       EachMoment-call old mid new (λ _ image. images old image) counts goes time (rests.at_each_moment counted) (λ image left. (rests.left image).0 ((same image).0 left));
 }
+
+-- one run that writes nothing after another
+pub Rests-trans : (old mid new : View) → Unwritten old mid → Advances mid new → Unwritten mid new → Unwritten old new
+Rests-trans old mid new first goes second = record {
+  content = second.content ∙ first.content;
+  left = λ image. (λ left. (first.left image).0 ((second.left image).0 left), λ left. (second.left image).1 ((first.left image).1 left));
+  at_each_moment = λ counts.
+      let counted : CountsOn mid = omega (arith, counts, goes.later) in
+      EachMoment-trans old mid new (λ _ image. images old image) counts goes (first.at_each_moment counted)
+      (λ k image more le left. (first.left image).0 (second.at_each_moment counts k image (omega arith) le left));
+}
+
+-- nothing was written, and no call failed
+pub record ReadSoFar (old new : View) : Type 0 where
+  pub advances : Advances old new
+  pub unwritten : Unwritten old new
+  pub kept : new.faults ≡ old.faults
+
+pub none_read : (disk : View) → ReadSoFar disk disk
+none_read disk = record { advances = GoesOn-refl disk; unwritten = Rests-refl disk; kept = refl }

@@ -1,5 +1,5 @@
 use Rattle.disk_tree.specs.Contents.{AreContents}
-use Rattle.disk_tree.proofs.ReadRuns.{ReadSoFar}
+use Rattle.sfs_dev.proofs.Runs.{ReadSoFar}
 use Rattle.disk_tree.proofs.contents.gather_contents.Given as goal
 
 abbrev pub invariant-loop-place : goal.invariant-loop-place

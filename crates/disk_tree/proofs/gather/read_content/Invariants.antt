@@ -1,5 +1,5 @@
 use Rattle.disk_tree.specs.Reading.{HasContent}
-use Rattle.disk_tree.proofs.ReadRuns.{ReadSoFar}
+use Rattle.sfs_dev.proofs.Runs.{ReadSoFar}
 use Rattle.disk_tree.proofs.gather.read_content.Given as goal
 
 abbrev pub invariant-loop-n : goal.invariant-loop-n

@@ -1,4 +1,4 @@
-use Rattle.disk_tree.proofs.ReadRuns.{ReadSoFar}
+use Rattle.sfs_dev.proofs.Runs.{ReadSoFar}
 use Rattle.disk_tree.proofs.TablesRead.{TablesSoFar}
 use Rattle.disk_tree.proofs.gather.read_tables.Given as goal
 

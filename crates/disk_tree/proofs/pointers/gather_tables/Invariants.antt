@@ -1,5 +1,5 @@
 use Rattle.disk_tree.specs.Gathered.{AreTables}
-use Rattle.disk_tree.proofs.ReadRuns.{ReadSoFar}
+use Rattle.sfs_dev.proofs.Runs.{ReadSoFar}
 use Rattle.disk_tree.proofs.pointers.gather_tables.Given as goal
 
 abbrev pub invariant-loop-place : goal.invariant-loop-place

@@ -2,7 +2,8 @@
 use Rattle.std.proofs.Common.{◌≡◌, ◌∙◌, ℕ, List, sym, ap}
 use Rattle.sfs_image.specs.Super.{super_of, super_fault}
 use Rattle.recovery.proofs.OpenRead.{super_read, no_super, block_given}
-use Rattle.recovery.proofs.ReadRuns.{none_read, read_call, read_well, read_refused_super}
+use Rattle.sfs_dev.proofs.Runs.{none_read}
+use Rattle.recovery.proofs.ReadRuns.{read_call, read_well, read_refused_super}
 use Rattle.recovery.proofs.journals.read_layout.Goals as goal
 
 pub returns-then-len-eq0-clause-err : goal.returns-then-len-eq0-clause-err

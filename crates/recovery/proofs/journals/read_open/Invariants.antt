@@ -4,7 +4,7 @@ use Rattle.sfs_dev.specs.Steps.{IfTold}
 use Rattle.sfs_image.specs.Settled.{slot_count}
 use Rattle.recovery.specs.declared.journals.OpenSlot.{OpenSlot}
 use Rattle.recovery.specs.Open.{AreOpen, IsGoodSlot}
-use Rattle.recovery.proofs.ReadRuns.{ReadSoFar}
+use Rattle.sfs_dev.proofs.Runs.{ReadSoFar}
 use Rattle.recovery.proofs.journals.read_open.Given as goal
 
 abbrev pub invariant-loop-number : goal.invariant-loop-number

@@ -2,7 +2,8 @@
 use Rattle.std.proofs.Common.{◌≡◌, ◌-◌, ◌<◌, ◌≤◌, ◌∙◌, ℕ, suc, length, refl, sym, arith}
 use Rattle.recovery.specs.Open.{IsOpenSlot, IsGoodSlot}
 use Rattle.recovery.specs.Settling.{best_of, bodies_read}
-use Rattle.recovery.proofs.ReadRuns.{none_read, read_more}
+use Rattle.sfs_dev.proofs.Runs.{none_read}
+use Rattle.recovery.proofs.ReadRuns.{read_more}
 use Rattle.recovery.proofs.SettledRead.{slot_settled, none_settled, found_has}
 use Rattle.recovery.proofs.settled.settle.Goals as goal
 

@@ -4,7 +4,7 @@ use Rattle.sfs_dev.specs.Steps.{IfTold}
 use Rattle.sfs_image.specs.Settled.{table_record}
 use Rattle.recovery.specs.Open.{IsOpenSlot}
 use Rattle.recovery.specs.Settling.{AreSettled, HaveCounts, best_of, bodies_read}
-use Rattle.recovery.proofs.ReadRuns.{ReadSoFar}
+use Rattle.sfs_dev.proofs.Runs.{ReadSoFar}
 use Rattle.recovery.proofs.settled.settle.Given as goal
 
 abbrev pub invariant-loop-left : goal.invariant-loop-left
