@@ -36,7 +36,10 @@ numbers_piece job =
 -- the records, in the blocks behind those
 abbrev pub records_piece : Job → Piece
 records_piece job =
-    record { at = slot_byte job.place.layout job.place.slot + record_byte job.place.layout.inodes 0; bytes = flat_map (λ (entry : Entry). entry.bytes) job.entries }
+    record {
+      at = slot_byte job.place.layout job.place.slot + record_byte job.place.layout.inodes 0;
+      bytes = flat_map (λ (entry : Entry). entry.bytes) job.entries;
+    }
 
 -- the count and the commit stamp, in the slot's first block, behind the gate
 abbrev pub head_piece : Job → Piece
@@ -74,6 +77,10 @@ table_piece job k =
 -- the byte of the gate: 1 opens it, 0 shuts it
 abbrev pub gate_piece : Place → ℕ → Piece
 gate_piece place byte = record { at = slot_byte place.layout place.slot; bytes = byte ∷ [] }
+
+-- the bytes of a piece lie on a disk of this layout
+abbrev pub LiesOn : Layout → Piece → Type 0
+LiesOn layout piece = piece.at + length piece.bytes ≤ 4096 * layout.blocks
 
 -- the slot is one of a layout that a disk of its blocks can have
 pub record IsPlace (place : Place) : Type 0 where

@@ -4,7 +4,8 @@ use Rattle.sfs_image.specs.Bytes.{part}
 use Rattle.sfs_image.specs.Journal.{head_of, numbers_of, numbers_fault}
 use Rattle.sfs_image.specs.Laws.{record_at}
 use Rattle.sfs_image.specs.Settled.{Body, Stamped, body_in, record_in, journal_slot, slot_count, settled, table_record}
-use Rattle.journal_one.specs.Job.{Job, fill_count, fill_piece, table_piece, no_entry, IsJob}
+use Rattle.sfs_dev.specs.Ranges.{Apart}
+use Rattle.journal_one.specs.Job.{Job, fill_count, fill_piece, table_piece, gate_piece, no_entry, IsJob}
 use Rattle.journal_one.specs.Known.{StandsIn, IsOpenIn}
 
 -- the body of a commit: its stamp and its records
@@ -29,8 +30,14 @@ BodiesAreRead = (job : Job) (image : List ℕ) → IsJob job → HasPieces job i
 abbrev pub OpenSlotsSettle : Type 0
 OpenSlotsSettle = (job : Job) (image : List ℕ) (i : ℕ) (ours : Stamped (List ℕ)) → IsJob job → HasPieces job image → IsOpenIn job.place image
     → record_in i (job_body job) ≡ Some ours
-    → ((k : ℕ) (other : Stamped (List ℕ)) → k < slot_count job.place.layout → k ≢ job.place.slot → record_at job.place.layout image i k ≡ Some other → other.stamp < ours.stamp)
+    → ((k : ℕ) (other : Stamped (List ℕ)) → k < slot_count job.place.layout → k ≢ job.place.slot
+    → record_at job.place.layout image i k ≡ Some other → other.stamp < ours.stamp)
     → settled job.place.layout image i ≡ ours.value
+
+-- No piece that fills a slot covers its gate.
+abbrev pub PiecesLeaveTheGate : Type 0
+PiecesLeaveTheGate = (job : Job) (k byte : ℕ) → IsJob job
+    → Apart (fill_piece job k).at (length (fill_piece job k).bytes) (gate_piece job.place byte).at 1
 
 -- A record that stands at its place is the table's.
 abbrev pub PlacedRecordsAreInTheTable : Type 0

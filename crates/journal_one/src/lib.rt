@@ -11,7 +11,8 @@ mod work;
 pub use close::{Closing, Copied, Placed};
 pub use doubt::{Doubt, sync};
 pub use laws::{
-    bodies_are_read, fillings_begin, open_slots_settle, placed_records_are_in_the_table,
+    bodies_are_read, fillings_begin, open_slots_settle, pieces_leave_the_gate,
+    placed_records_are_in_the_table,
 };
 pub use packed::Packed;
 pub use slot::{Durable, Fill, Filled, Filling, Idle, Opened, Put, Sealed};

@@ -5,7 +5,7 @@ ghost use Rattle.sfs_image.specs.Settled.{slot_byte};
 ghost use Rattle.sfs_image.specs.Journal.{record_byte as record_at};
 ghost use Rattle.sfs_image.specs.Super.{IsLayout};
 ghost use Rattle.journal_one.specs.Calls.{IsWrite};
-ghost use Rattle.journal_one.specs.Job.{IsPlace, IsJob, LiesInData, gate_piece, fill_count, fill_piece, body_piece, table_piece};
+ghost use Rattle.journal_one.specs.Job.{IsPlace, IsJob, LiesInData, LiesOn, gate_piece, fill_count, fill_piece, body_piece, table_piece};
 
 use crate::doubt::put;
 use crate::{Doubt, Packed};
@@ -33,7 +33,12 @@ pub(crate) struct Work {
     stamp: u64,
     // the count and the commit stamp, as they stand in the slot
     head: [u8; 16],
-    ghost sound: { IsJob (record { place = record { layout = spot.layout; slot = spot.slot }; stamp = stamp; entries = packed.entries; fresh = packed.fresh }) },
+    ghost sound: { IsJob (record {
+      place = record { layout = spot.layout; slot = spot.slot };
+      stamp = stamp;
+      entries = packed.entries;
+      fresh = packed.fresh;
+    }) },
     ghost headed: { head ≡ u32_bytes (length packed.entries) ++ zeros 4 ++ u64_bytes stamp },
 }
 
@@ -113,7 +118,7 @@ impl Work {
         requires large { (job_of self.now).place.layout.blocks ≤ (D.view disk.old).size }
         requires number { number < fill_count (job_of self.now) }
         ensures write { IsWrite (fill_piece (job_of self.now) number) (D.view disk.old) (D.view disk.new) result }
-        ensures within { (fill_piece (job_of self.now) number).at + length (fill_piece (job_of self.now) number).bytes ≤ 4096 * (job_of self.now).place.layout.blocks }
+        ensures within { LiesOn (job_of self.now).place.layout (fill_piece (job_of self.now) number) }
         ensures whole { number < length (job_of self.now).fresh → length (fill_piece (job_of self.now) number).bytes ≡ 4096 }
         ensures faults { IfErr result (λ doubt. doubt.faults ≡ (D.view disk.new).faults) }
     {
@@ -126,7 +131,7 @@ impl Work {
         requires large { (job_of self.now).place.layout.blocks ≤ (D.view disk.old).size }
         requires number { number < length (job_of self.now).entries }
         ensures write { IsWrite (table_piece (job_of self.now) number) (D.view disk.old) (D.view disk.new) result }
-        ensures within { (table_piece (job_of self.now) number).at + length (table_piece (job_of self.now) number).bytes ≤ 4096 * (job_of self.now).place.layout.blocks }
+        ensures within { LiesOn (job_of self.now).place.layout (table_piece (job_of self.now) number) }
         ensures faults { IfErr result (λ doubt. doubt.faults ≡ (D.view disk.new).faults) }
     {
         let (at, bytes) = self.table_piece(number);
