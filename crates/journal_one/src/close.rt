@@ -94,6 +94,7 @@ impl Placed {
         ensures err { OnErr result (IsPlaced self (D.view disk.old) → IsBetween self (D.view disk.new)) }
     {
         let Placed { work } = self;
+        // The records have to be on the disk first: behind a closed gate those of the table count.
         sync(disk)?;
         let Closing { work } = Copied { work }.shut_gate(disk)?;
         sync(disk)?;
