@@ -1,3 +1,4 @@
+pub mod Built
 pub mod Coming
 pub mod CountNets
 pub mod Directory

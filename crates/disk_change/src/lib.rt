@@ -11,6 +11,7 @@ mod files;
 mod kinds;
 mod links;
 mod net_list;
+mod node_built;
 mod numbers;
 mod old;
 mod pages;
