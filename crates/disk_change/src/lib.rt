@@ -8,6 +8,7 @@ mod directory;
 mod directory_net;
 mod enter;
 mod files;
+mod fresh;
 mod kinds;
 mod links;
 mod net_list;
