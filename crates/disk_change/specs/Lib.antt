@@ -1,6 +1,8 @@
+pub mod Built
 pub mod Coming
 pub mod CountNets
 pub mod Directory
+pub mod Fresh
 pub mod Links
 pub mod Lists
 pub mod Nodes

@@ -1,4 +1,4 @@
-use Rattle.std.proofs.Common.{◌≡◌, ◌<◌, length, sym, ap, ◌∙◌, arith, None}
+use Rattle.std.proofs.Common.{ap, ◌∙◌, arith, None}
 use Rattle.std.proofs.lemmas.List.{take_all}
 use Rattle.disk_change.specs.Numbered.{number_in}
 use Rattle.disk_change.specs.declared.numbers.NodeNumber.{NodeNumber}

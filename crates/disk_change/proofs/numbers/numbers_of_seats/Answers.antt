@@ -1,6 +1,6 @@
-use Rattle.std.proofs.Common.{◌≡◌, ◌<◌, ◌++◌, ◌∷◌, [], length, sym, ap, ◌∙◌, arith}
+use Rattle.std.proofs.Common.{◌<◌, ◌++◌, ◌∷◌, [], length, sym, ◌∙◌, arith}
 use Rattle.disk_change.specs.Seated.{Seated}
-use Rattle.disk_change.specs.Numbered.{number_given, grant_left, grant_behind}
+use Rattle.disk_change.specs.Numbered.{number_given, grant_left}
 use Rattle.disk_change.proofs.Numbering.{numbers_more, behind_more}
 use Rattle.disk_change.proofs.numbers.numbers_of_seats.Goals as goal
 

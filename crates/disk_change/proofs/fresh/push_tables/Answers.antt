@@ -1,0 +1,24 @@
+use Rattle.std.proofs.Common.{◌++◌, ◌+◌, ◌≡◌, ℕ, [], ◌∷◌, Option, Some, None, refl, sym, ap, ◌∙◌, filter_map}
+use Rattle.std.specs.Prelude.{option_to_list}
+use Rattle.std.specs.List.{range_with_len, cons_option}
+use Rattle.std.proofs.lemmas.List.{append_assoc}
+use Rattle.std.proofs.lemmas.List.Elements.{filter_map-append}
+use Rattle.sfs_base.proofs.BasicNumbers.{zero_plus}
+use Rattle.block_map.proofs.Places.{range_more}
+use Rattle.disk_change.specs.Fresh.{table_of_place}
+use Rattle.disk_change.proofs.fresh.push_tables.Goals as goal
+
+one_more : {Y : Type 0} (f : ℕ → Option Y) (k : ℕ) → filter_map f (range_with_len 0 (k + 1)) ≡ filter_map f (range_with_len 0 k) ++ option_to_list (f k)
+one_more f k =
+    ap (filter_map f) (range_more 0 k ∙ ap (λ m. range_with_len 0 k ++ m ∷ []) (zero_plus k)) ∙ filter_map-append f (range_with_len 0 k) (k ∷ []) ∙ ap (λ rest. filter_map f (range_with_len 0 k) ++ rest) (alone (f k))
+  where
+    alone : {Y : Type 0} (o : Option Y) → cons_option o [] ≡ option_to_list o
+    alone None = refl
+    alone (Some y) = refl
+
+pub loop-k-preserved : goal.loop-k-preserved
+loop-k-preserved c =
+    let f = table_of_place c.args.built.now in
+    let front = c.args.fresh.now.items in
+    c.in_ok-push_block.ensures ∙ (λ j. c.loop-k.invariant j ++ option_to_list (c.table_block.ensures j))
+    ∙ append_assoc front (filter_map f (range_with_len 0 c.loop-k.k)) (option_to_list (f c.loop-k.k)) ∙ ap (λ rest. front ++ rest) (sym (one_more f c.loop-k.k))
