@@ -1,5 +1,8 @@
 // A commit through a journal slot: a directory `a`, inode 1, in the root of a disk of 32 blocks with 64 inodes and 2 cores that is
 // just made. Block 29 gets the root's rows. The slot begins at byte 4,096, the inode table at 86,016, block 29 at 118,784.
+ghost use Rattle.std.specs.Prelude.{◌<◌, All, IfOk};
+ghost use Rattle.sfs_image.specs.Journal.{Entry};
+ghost use Rattle.journal_one.specs.Job.{LiesInData};
 
 use crate::images::{directory, rows};
 use crate::making::made_with;
@@ -70,8 +73,13 @@ const ACTS: [Act; 12] = [
     Act::Sync,
 ];
 
-// The records of the root with `a` and of `a`, and the block of the root.
-fn packed(alloc: Global) -> Result<Packed, Fail> {
+// The records of the root with `a` and of `a`, and the block of the root, for a disk of this layout.
+fn packed(rt: &impl Abort, alloc: Global, layout: &Layout) -> Result<Packed, Fail>
+    ensures below { IfOk result (λ packed. All (λ (entry : Entry). entry.inode < layout.now.inodes) packed.entries) }
+    ensures in_data { IfOk result (λ packed. All (LiesInData layout.now) packed.fresh) }
+{
+    assert!(rt; layout.is_valid(32));
+    assert!(rt; layout.data_at() <= 29 && 29 < layout.blocks && 1 < layout.inodes);
     let mut records = RoomyList::<TxRecord>::new(alloc);
     records.reserve(2)?;
     records.push(TxRecord {
@@ -101,7 +109,7 @@ fn packed(alloc: Global) -> Result<Packed, Fail> {
 fn committed(rt: &impl Abort, alloc: Global) -> Result<Memory, Fail> {
     let mut disk = made_with(rt, alloc, &LAYOUT)?;
     assert!(rt; LAYOUT.is_valid(32) && disk.len() == 32);
-    let packed = packed(alloc)?;
+    let packed = packed(rt, alloc, &LAYOUT)?;
     let idle = Idle::at(&disk, &LAYOUT, 0, 0);
     match commit(&mut disk, idle, packed, 1) {
         Ok(Committed { idle, moment }) => {

@@ -192,8 +192,9 @@ fn a_disk_that_is_made_has_its_bytes(rt: HostRuntime) -> Result<(), Fail> {
     assert_eq!(rt; &bytes[..28], FRONT.as_slice());
     assert_eq!(rt; first_nonzero(bytes, 28, 4_096), None);
     assert_eq!(rt; (bytes[4_096], bytes[45_056]), (0, 0));
-    assert_eq!(rt; &bytes[86_016..86_024], [2, 0, 0, 0, 2, 0, 0, 0].as_slice());
-    assert_eq!(rt; first_nonzero(bytes, 86_024, 118_784), None);
+    assert_eq!(rt; (bytes[86_016], bytes[86_020]), (2, 2));
+    assert_eq!(rt; first_nonzero(bytes, 86_017, 86_020), None);
+    assert_eq!(rt; first_nonzero(bytes, 86_021, 118_784), None);
     // What stands elsewhere is left.
     assert_eq!(rt; (bytes[4_097], bytes[118_784]), (255, 255));
     assert_eq!(rt; disk.calls().len(), 5);
