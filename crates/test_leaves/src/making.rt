@@ -189,7 +189,7 @@ fn a_disk_that_is_made_has_its_bytes(rt: HostRuntime) -> Result<(), Fail> {
     let disk = just_made(&rt, rt.alloc())?;
     let bytes = disk.bytes();
     assert_eq!(rt; bytes.len(), 4_194_304);
-    assert_eq!(rt; &bytes[..28], FRONT.as_slice());
+    assert!(rt; bytes.starts_with(&FRONT));
     assert_eq!(rt; first_nonzero(bytes, 28, 4_096), None);
     assert_eq!(rt; (bytes[4_096], bytes[45_056]), (0, 0));
     assert_eq!(rt; (bytes[86_016], bytes[86_020]), (2, 2));
