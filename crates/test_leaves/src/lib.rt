@@ -30,3 +30,5 @@ mod slots;
 mod space;
 #[cfg(test)]
 mod superblock;
+#[cfg(test)]
+mod turns;

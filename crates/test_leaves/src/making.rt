@@ -149,6 +149,11 @@ pub(crate) fn made_with(rt: &impl Abort, alloc: Global, layout: &Layout) -> Resu
     Ok(disk)
 }
 
+// A disk of 1,024 blocks of zeros.
+fn blank(alloc: Global) -> Result<Memory, Fail> {
+    Ok(Memory::new(alloc, 1024)?)
+}
+
 // Makes edits.
 fn edit(rt: &impl Abort, disk: &mut Memory, edits: &[Edit]) {
     for (at, bytes) in edits {
@@ -251,7 +256,7 @@ fn the_first_wrong_byte_is_named(rt: HostRuntime) -> Result<(), Fail> {
 fn a_failing_call_is_a_fault(rt: HostRuntime) -> Result<(), Fail> {
     let alloc = rt.alloc();
     // The superblock, written by call 3, is lost.
-    let mut disk = FailAt::new(Memory::new(alloc, 1024)?, vec![in alloc; 3u64; 1]?);
+    let mut disk = FailAt::new(blank(alloc)?, vec![in alloc; 3u64; 1]?);
     assert!(rt; LAYOUT.is_valid(disk.len()));
     assert_eq!(rt; mkfs(alloc, &mut disk, &LAYOUT), Err(MkfsFault::DiskFailed));
     assert_eq!(rt; (disk.now(), disk.faults()), (4, 1));
