@@ -1,4 +1,5 @@
 pub mod Cause
 pub mod Mkfs
 pub mod Open
+pub mod Recovering
 pub mod Settling

@@ -1,7 +1,9 @@
 //! Making a disk, and recovering it: what an image settles, and how its slots are closed.
 #![tactic(auto)]
 
+mod closing;
 mod fault;
+mod homing;
 mod journals;
 mod making;
 mod newest;

@@ -1,0 +1,17 @@
+use Rattle.std.proofs.Common.{◌≡◌, ℕ, Option}
+use Rattle.sfs_image.specs.ImageOf.{Transaction, IsImageOf}
+use Rattle.sfs_image.specs.Part.{Part}
+use Rattle.journal_one.specs.Known.{EachLeft}
+use Rattle.commit_one.specs.Carried.{Keeps}
+use Rattle.recovery.specs.Cause.{Undisturbed}
+use Rattle.recovery.specs.Recovering.{AreHome, AreNewestOf}
+use Rattle.recovery.proofs.homing.bring_home.Given as goal
+
+abbrev pub invariant-loop-inode : goal.invariant-loop-inode
+invariant-loop-inode g l = let view = g.D.Disk.view in record {
+  end : l.inode-end ≡ l.layout.inodes;
+  so_far : Undisturbed (view l.fn.disk) (view l.disk);
+  keeps : (opened : ℕ → Option Transaction) (parts : ℕ → Part) → AreNewestOf l.layout opened parts l.newest → EachLeft (view l.fn.disk) (IsImageOf l.layout opened parts)
+      → Keeps (IsImageOf l.layout opened parts) (view l.fn.disk) (view l.disk);
+  home : AreHome l.layout l.newest l.inode (view l.disk);
+}
