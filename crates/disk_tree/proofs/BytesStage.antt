@@ -13,7 +13,7 @@ use Rattle.sfs_image.proofs.RuleFacts.{sizes_say}
 use Rattle.sfs_image.proofs.RuleLaws.{good_from_rule}
 use Rattle.block_map.specs.Kept.{block_kept, kept_tables}
 use Rattle.disk_tree.specs.Blocks.{breaks_tail_at, breaks_slots_at, AreSlotLists, BreaksSeventh, ReadWell}
-use Rattle.disk_tree.specs.Contents.{blocks_of_size, AreContents, HoldContents}
+use Rattle.disk_tree.specs.Contents.{blocks_of_size, AreReadContents, HoldContents}
 use Rattle.disk_tree.specs.First.{IsFirst, NonePasses}
 use Rattle.disk_tree.specs.Gathered.{tables_at, KeepTables, KeepPointerRules}
 use Rattle.disk_tree.specs.Inodes.{inode_at, KeepRecordRules}
@@ -91,7 +91,7 @@ module _ (told : Option (List ℕ)) (layout : Layout) (records : List (List ℕ)
             omega arith)
       ])
 
-  module _ (contents : List (Roomy ℕ)) (all : AreContents told inodes tables layout.inodes contents) where
+  module _ (contents : List (Roomy ℕ)) (all : AreReadContents told inodes tables layout.inodes contents) where
     few_blocks : (i : ℕ) → i < layout.inodes → blocks_of_size (inode_of (slice_index_or records i [])).size ≤ FILE_BLOCKS
     few_blocks i within = (let h = sizes_fit i within in let e = ap (λ (inode : Inode). inode.size) (own i within) in omega arith)
 

@@ -15,8 +15,8 @@ use Rattle.sfs_image.specs.Inode.{Inode}
 use Rattle.sfs_tree.specs.Build.{with_node}
 use Rattle.sfs_tree.specs.Tree.{TreeState, Node}
 use Rattle.sfs_tree.proofs.Joined.{find-append}
-use Rattle.disk_tree.specs.Built.{node_entry, node_at, node_entries, with_nodes, with_node_of}
-use Rattle.disk_tree.specs.Contents.{bytes_at}
+use Rattle.disk_tree.specs.Built.{node_by_inode, node_at, node_entries, with_nodes, with_node_of}
+use Rattle.disk_tree.specs.Contents.{bytes_of_inode}
 use Rattle.disk_tree.specs.Inodes.{inode_at}
 use Rattle.disk_tree.proofs.TablesRead.{range_more}
 
@@ -33,7 +33,7 @@ module _ (inodes : List Inode) (named : List ℕ) (contents : List (Roomy ℕ)) 
       ∙ ap (λ (xs : List (ℕ × Node)). flat_map (node_at inodes named contents) (range_with_len 0 n) ++ xs) (append-nil (node_at inodes named contents n))
 
 -- one key or none, which is another
-other_key : (inode : Inode) (count : ℕ) (bytes : List ℕ) (i q : ℕ) → q ≢ i → find nat_cmp q (node_entry inode count bytes i) ≡ None
+other_key : (inode : Inode) (count : ℕ) (bytes : List ℕ) (i q : ℕ) → q ≢ i → find nat_cmp q (node_by_inode inode count bytes i) ≡ None
 other_key inode count bytes i q other = by (nat_eq inode.kind 2) (nat_eq inode.kind 1 && not (nat_eq count 0))
   where
     apart : (node : Node) → find nat_cmp q ((i, node) ∷ []) ≡ None
@@ -51,12 +51,12 @@ module _ (inodes : List Inode) (named : List ℕ) (contents : List (Roomy ℕ)) 
       (let e : suc n ≡ n + 1 = omega arith in ap (λ (k : ℕ). find nat_cmp q (node_entries inodes named contents k)) e)
       ∙ ap (find nat_cmp q) (more_nodes inodes named contents n) ∙ find-append nat_cmp q (node_entries inodes named contents n) (node_at inodes named contents n)
       ∙ ap (λ o. option_or o (find nat_cmp q (node_at inodes named contents n))) (fresh_node n q (omega arith))
-      ∙ other_key (inode_at inodes n) (slice_index named n) (bytes_at contents n) n q (λ same. omega arith)
+      ∙ other_key (inode_at inodes n) (slice_index named n) (bytes_of_inode contents n) n q (λ same. omega arith)
 
   pub absent_node : (n : ℕ) → get (from_entries {R = nat_cmp} (node_entries inodes named contents n)) n ≡ None
   absent_node n = get-from_entries nat_cmp_total (node_entries inodes named contents n) n ∙ fresh_node n n (omega arith)
 
-  pub put_node_more : (start : TreeState) (n : ℕ) → with_node_of (with_nodes start (node_entries inodes named contents n)) (inode_at inodes n) (slice_index named n) (bytes_at contents n) n
+  pub put_node_more : (start : TreeState) (n : ℕ) → with_node_of (with_nodes start (node_entries inodes named contents n)) (inode_at inodes n) (slice_index named n) (bytes_of_inode contents n) n
       ≡ with_nodes start (node_entries inodes named contents (n + 1))
   put_node_more start n =
       by (nat_eq (inode_at inodes n).kind 2) (nat_eq (inode_at inodes n).kind 1 && not (nat_eq (slice_index named n) 0)) ∙ ap (with_nodes start) (sym (more_nodes inodes named contents n))
@@ -70,8 +70,8 @@ module _ (inodes : List Inode) (named : List ℕ) (contents : List (Roomy ℕ)) 
           sym (from_entries_push nat_cmp_total nat_cmp-IsAntisymmetric (node_entries inodes named contents n) n node (fresh_node n n (omega arith))) in
           λ j. record { rows = start.rows; nodes = here j; first = start.first; share = start.share; made = start.made }
 
-      by : (a b : Bool) → cond a (with_node (with_nodes start (node_entries inodes named contents n)) n Directory []) (cond b (with_node (with_nodes start (node_entries inodes named contents n)) n File (take (inode_at inodes n).size (bytes_at contents n))) (with_nodes start (node_entries inodes named contents n)))
-          ≡ with_nodes start (node_entries inodes named contents n ++ cond a ((n, record { kind = Directory; bytes = [] }) ∷ []) (cond b ((n, record { kind = File; bytes = take (inode_at inodes n).size (bytes_at contents n) }) ∷ []) []))
+      by : (a b : Bool) → cond a (with_node (with_nodes start (node_entries inodes named contents n)) n Directory []) (cond b (with_node (with_nodes start (node_entries inodes named contents n)) n File (take (inode_at inodes n).size (bytes_of_inode contents n))) (with_nodes start (node_entries inodes named contents n)))
+          ≡ with_nodes start (node_entries inodes named contents n ++ cond a ((n, record { kind = Directory; bytes = [] }) ∷ []) (cond b ((n, record { kind = File; bytes = take (inode_at inodes n).size (bytes_of_inode contents n) }) ∷ []) []))
       by true b = push (record { kind = Directory; bytes = [] })
-      by false true = push (record { kind = File; bytes = take (inode_at inodes n).size (bytes_at contents n) })
+      by false true = push (record { kind = File; bytes = take (inode_at inodes n).size (bytes_of_inode contents n) })
       by false false = ap (with_nodes start) (sym (append-nil (node_entries inodes named contents n)))

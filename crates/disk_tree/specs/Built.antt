@@ -9,18 +9,18 @@ use Rattle.sfs_base.specs.declared.numbers.Kind.TheVariants.{File, Directory}
 use Rattle.sfs_image.specs.Inode.{Inode}
 use Rattle.sfs_tree.specs.Build.{with_node}
 use Rattle.sfs_tree.specs.Tree.{TreeState, Node, is_directory}
-use Rattle.disk_tree.specs.Contents.{bytes_at}
+use Rattle.disk_tree.specs.Contents.{bytes_of_inode}
 use Rattle.disk_tree.specs.Inodes.{inode_at}
 use Rattle.disk_tree.specs.Reached.{row_at}
-use Rattle.disk_tree.specs.Rows.{rows_at, rows_in_bucket, HaveOwnNames}
+use Rattle.disk_tree.specs.Rows.{rows_of_inode, rows_in_bucket, HaveOwnNames}
 
 -- the row of a directory, as a tree has it
-abbrev pub row_entry : ℕ → Row → Key × ℕ
-row_entry directory row = ((directory, row.name), row.inode)
+abbrev pub entry_of_row : ℕ → Row → Key × ℕ
+entry_of_row directory row = ((directory, row.name), row.inode)
 
 -- the rows of the inode of a number
 abbrev pub entries_at : List (Roomy Row) → ℕ → List (Key × ℕ)
-entries_at rows i = map (row_entry i) (rows_at rows i)
+entries_at rows i = map (entry_of_row i) (rows_of_inode rows i)
 
 -- the rows of the first n inodes
 unfoldable pub row_entries : List (Roomy Row) → ℕ → List (Key × ℕ)
@@ -28,29 +28,29 @@ row_entries rows n = flat_map (entries_at rows) (range_with_len 0 n)
 
 -- the rows of the inodes below a number, and the first k of its own
 abbrev pub entries_to : List (Roomy Row) → ℕ → ℕ → List (Key × ℕ)
-entries_to rows i k = row_entries rows i ++ map (row_entry i) (take k (rows_at rows i))
+entries_to rows i k = row_entries rows i ++ map (entry_of_row i) (take k (rows_of_inode rows i))
 
 -- Rows may be put into a tree that has none: each stands in a directory of it and names a node of it, no two of one directory have one
 -- name, and no bucket gets more rows than it may have.
 pub record MayPut (tree : TreeState) (rows : List (Roomy Row)) : Type 0 where
-  pub directories : (i k : ℕ) → k < length (rows_at rows i) → is_directory tree i ≡ true
-  pub children : (i k : ℕ) → k < length (rows_at rows i) → IsSome (get tree.nodes (row_at (rows_at rows i) k).inode)
-  pub own : (i : ℕ) → HaveOwnNames (rows_at rows i) (length (rows_at rows i))
-  pub room : (i number : ℕ) → rows_in_bucket (rows_at rows i) number ≤ 4096
+  pub directories : (i k : ℕ) → k < length (rows_of_inode rows i) → is_directory tree i ≡ true
+  pub children : (i k : ℕ) → k < length (rows_of_inode rows i) → IsSome (get tree.nodes (row_at (rows_of_inode rows i) k).inode)
+  pub own : (i : ℕ) → HaveOwnNames (rows_of_inode rows i) (length (rows_of_inode rows i))
+  pub room : (i number : ℕ) → rows_in_bucket (rows_of_inode rows i) number ≤ 4096
 
 -- a tree with these entries as its rows
 abbrev pub with_entries : TreeState → List (Key × ℕ) → TreeState
 with_entries tree es = record tree { rows = from_entries es }
 
 -- the node that an inode is, by the number of rows that name it and its bytes: a directory is one, and a file that a row names
-abbrev pub node_entry : Inode → ℕ → List ℕ → ℕ → List (ℕ × Node)
-node_entry inode named bytes i =
+abbrev pub node_by_inode : Inode → ℕ → List ℕ → ℕ → List (ℕ × Node)
+node_by_inode inode named bytes i =
     if inode.kind == 2 then (i, record { kind = Directory; bytes = [] }) ∷ []
     else if inode.kind == 1 && not (named == 0) then (i, record { kind = File; bytes = take inode.size bytes }) ∷ [] else []
 
 -- the same, of the inode of a number
 abbrev pub node_at : List Inode → List ℕ → List (Roomy ℕ) → ℕ → List (ℕ × Node)
-node_at inodes named contents i = node_entry (inode_at inodes i) (slice_index named i) (bytes_at contents i) i
+node_at inodes named contents i = node_by_inode (inode_at inodes i) (slice_index named i) (bytes_of_inode contents i) i
 
 -- the nodes of the first n inodes
 unfoldable pub node_entries : List Inode → List ℕ → List (Roomy ℕ) → ℕ → List (ℕ × Node)

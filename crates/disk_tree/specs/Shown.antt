@@ -10,7 +10,7 @@ use Rattle.sfs_image.specs.Seen.{SeenInodes}
 use Rattle.sfs_image.specs.Slot.{Row}
 use Rattle.image_tree.specs.Rules.{breaks_tree_rule}
 use Rattle.disk_tree.specs.Inodes.{inode_at}
-use Rattle.disk_tree.specs.Rows.{AreRowLists, rows_at, rows_in_slots}
+use Rattle.disk_tree.specs.Rows.{AreRowLists, rows_of_inode, rows_in_slots}
 use Rattle.disk_tree.specs.Tests.{breaks_eighth, breaks_ninth, breaks_tenth, breaks_eleventh, breaks_twelfth, breaks_thirteenth, breaks_fourteenth}
 use Rattle.disk_tree.specs.Reached.{MarksReached}
 use Rattle.disk_tree.specs.First.{NonePasses}
@@ -20,8 +20,8 @@ pub record ShowsRows (image : SeenInodes) (inodes : List Inode) (rows : List (Ro
   pub count : image.count ≡ length inodes
   pub kind : (i : ℕ) → i < image.count → (image.seen i).kind ≡ (inode_at inodes i).kind
   pub links : (i : ℕ) → i < image.count → (image.seen i).links ≡ (inode_at inodes i).links
-  pub slots : (i : ℕ) → i < image.count → (image.seen i).kind ≡ 2 → rows_at rows i ≡ rows_in_slots (image.seen i).slots
-  pub others : (i : ℕ) → i < image.count → (image.seen i).kind ≢ 2 → rows_at rows i ≡ []
+  pub slots : (i : ℕ) → i < image.count → (image.seen i).kind ≡ 2 → rows_of_inode rows i ≡ rows_in_slots (image.seen i).slots
+  pub others : (i : ℕ) → i < image.count → (image.seen i).kind ≢ 2 → rows_of_inode rows i ≡ []
 
 -- The rules on the rows of one directory are tests on its rows; that on buckets where no directory has a name twice.
 pub record AreRowTests (image : SeenInodes) (inodes : List Inode) (rows : List (Roomy Row)) : Type 0 where

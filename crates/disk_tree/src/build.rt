@@ -2,7 +2,7 @@
 ghost use Rattle.std.specs.Prelude.{◌≡◌, ℕ, ◌+◌, ◌<◌, ◌≤◌, length, [], None, OnOk};
 ghost use Rattle.std.specs.FinMap as finmap;
 ghost use Rattle.disk_tree.specs.Built.{MayPut, with_entries, row_entries, with_nodes, node_entries, with_node_of};
-ghost use Rattle.disk_tree.specs.Contents.{bytes_at};
+ghost use Rattle.disk_tree.specs.Contents.{bytes_of_inode};
 ghost use Rattle.disk_tree.specs.Inodes.{inode_at};
 
 use crate::contents::Content;
@@ -27,7 +27,7 @@ pub fn put_nodes(
     requires counts { (length named.now ≡ length inodes.now) × (length contents.now ≡ length inodes.now) }
     requires start { tree.old ≡ with_nodes tree.old (node_entries inodes.now named.now contents.now 1) }
     requires sizes { (i : ℕ) → i < length inodes.now → (inode_at inodes.now i).size ≤ 67551232 }
-    requires bytes { (i : ℕ) → i < length inodes.now → (inode_at inodes.now i).size ≤ length (bytes_at contents.now i) }
+    requires bytes { (i : ℕ) → i < length inodes.now → (inode_at inodes.now i).size ≤ length (bytes_of_inode contents.now i) }
     ensures { OnOk result (tree.new ≡ with_nodes tree.old (node_entries inodes.now named.now contents.now (length inodes.now))) }
 {
     for place in 1..inodes.len() {
