@@ -20,6 +20,7 @@ pub mod Refusals
 pub mod RowsCounted
 pub mod RowsGathered
 pub mod RowsShown
+pub mod RulesOrdered
 pub mod SlotsRead
 pub mod TablesGathered
 pub mod TablesRead

@@ -7,6 +7,7 @@ pub mod First
 pub mod Gathered
 pub mod Inodes
 pub mod Judged
+pub mod Ordered
 pub mod Pointers
 pub mod Reached
 pub mod Reading

@@ -10,6 +10,7 @@ mod gather;
 mod inodes;
 mod judge;
 mod laws;
+mod ordered;
 mod pointers;
 mod reached;
 mod rows;
