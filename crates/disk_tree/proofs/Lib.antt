@@ -21,6 +21,7 @@ pub mod RowsCounted
 pub mod RowsGathered
 pub mod RowsShown
 pub mod RulesOrdered
+pub mod RulesJudged
 pub mod SlotsRead
 pub mod TablesGathered
 pub mod TablesRead
