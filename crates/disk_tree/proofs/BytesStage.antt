@@ -153,6 +153,7 @@ module _ (told : Option (List ℕ)) (layout : Layout) (records : List (List ℕ)
       read_well slots lists = record {
         parts = parts;
         hold = hold;
+        content_count = all.count;
         slots_are = subst (λ (n : ℕ). AreSlotLists inodes contents n slots) many lists;
         keep = λ rule i low high within. elim (cases_lt rule 7) [
           | inl less ↦ six rule i low (omega arith) within

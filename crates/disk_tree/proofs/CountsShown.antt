@@ -81,7 +81,7 @@ module _ (image : SeenInodes) (inodes : List Inode) (rows : List (Roomy Row)) (s
   pub count_is : (x : ℕ) → count_of (image_rows image) x ≡ naming_below rows (length inodes) x
   count_is x = counted (names_it x) ∙ entries_naming rows image.count x ∙ ap (λ (n : ℕ). naming_below rows n x) shows.count
 
-  bucket_is : (i number : ℕ) → i < image.count → len (bucket_rows i number (image_rows image)) ≡ rows_in_bucket (rows_of_inode rows i) number
+  pub bucket_is : (i number : ℕ) → i < image.count → len (bucket_rows i number (image_rows image)) ≡ rows_in_bucket (rows_of_inode rows i) number
   bucket_is i number within =
       len-names_where i (λ name. nat_eq (bucket name) number) (image_rows image)
       ∙ counted (λ e. nat_eq e.0.0 i && nat_eq (bucket e.0.1) number)

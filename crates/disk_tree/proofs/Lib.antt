@@ -10,8 +10,10 @@ pub mod MarksSet
 pub mod NamesMet
 pub mod NamesTwice
 pub mod NodesPut
+pub mod PartsKept
 pub mod PartsRead
 pub mod PartsShown
+pub mod PartsSound
 pub mod PointersJudged
 pub mod Putting
 pub mod ReachedShown
@@ -25,4 +27,6 @@ pub mod RulesJudged
 pub mod SlotsRead
 pub mod TablesGathered
 pub mod TablesRead
+pub mod TreeRead
+pub mod TreeShown
 pub mod Visited

@@ -1,18 +1,18 @@
 -- How nodes are put into a tree one after another.
-use Rattle.std.proofs.Common.{◌≡◌, ◌≢◌, ℕ, zero, suc, ◌+◌, ◌≤◌, Bool, true, false, cond, not, ◌&&◌, List, [], ◌∷◌, ◌++◌, take, nat_eq, None, Some, refl, sym, ap, ◌∙◌, arith}
+use Rattle.std.proofs.Common.{◌≡◌, ◌≢◌, ℕ, zero, suc, ◌+◌, ◌≤◌, Bool, true, false, cond, not, ◌&&◌, List, [], ◌∷◌, ◌++◌, take, replicate, eqb, nat_eq, None, Some, refl, sym, ap, ◌∙◌, arith}
 use Rattle.std.specs.Prelude.{slice_index}
 use Rattle.std.specs.List.{range_with_len, flat_map}
 use Rattle.std.specs.Option.{option_or}
 use Rattle.std.specs.Ordering.{nat_cmp}
 use Rattle.std.specs.Cmp.{nat_cmp_total, unsigned_ties}
-use Rattle.std.specs.FinMap.{find, get, insert, from_entries, from_entries_push, get-from_entries, nat_cmp-IsAntisymmetric}
-use Rattle.std.proofs.lemmas.Bool.{ne_eqb}
+use Rattle.std.specs.FinMap.{find, get, empty, insert, from_entries, from_entries_push, get-from_entries, nat_cmp-IsAntisymmetric}
+use Rattle.std.proofs.lemmas.Bool.{cond-true, eq-eqb, ne_eqb}
 use Rattle.std.proofs.lemmas.List.{append-nil}
 use Rattle.std.proofs.lemmas.Grind.{flat_map-append}
 use Rattle.sfs_base.specs.Lists.{Roomy}
 use Rattle.sfs_base.specs.declared.numbers.Kind.TheVariants.{File, Directory}
 use Rattle.sfs_image.specs.Inode.{Inode}
-use Rattle.sfs_tree.specs.Build.{with_node}
+use Rattle.sfs_tree.specs.Build.{with_node, root_alone}
 use Rattle.sfs_tree.specs.Tree.{TreeState, Node}
 use Rattle.sfs_tree.proofs.Joined.{find-append}
 use Rattle.disk_tree.specs.Built.{node_by_inode, node_at, node_entries, with_nodes, with_node_of}
@@ -75,3 +75,13 @@ module _ (inodes : List Inode) (named : List ℕ) (contents : List (Roomy ℕ)) 
       by true b = push (record { kind = Directory; bytes = [] })
       by false true = push (record { kind = File; bytes = take (inode_at inodes n).size (bytes_of_inode contents n) })
       by false false = ap (with_nodes start) (sym (append-nil (node_entries inodes named contents n)))
+
+-- a tree that has the root alone has the node of the first inode, which is a directory
+pub root_put : (inodes : List Inode) (named : List ℕ) (contents : List (Roomy ℕ)) (first share cores : ℕ) → (inode_at inodes 0).kind ≡ 2 →
+    root_alone first share cores ≡ with_nodes (root_alone first share cores) (node_entries inodes named contents 1)
+root_put inodes named contents first share cores kind =
+    let here : insert empty 0 (record { kind = Directory; bytes = [] }) ≡ from_entries {R = nat_cmp} (node_entries inodes named contents 1) =
+    sym (ap from_entries (more_nodes inodes named contents 0
+    ∙ ap (λ (xs : List (ℕ × Node)). xs ++ node_at inodes named contents 0) (no_nodes inodes named contents)
+    ∙ cond-true (eqb (inode_at inodes 0).kind 2) _ _ (eq-eqb _ _ kind))) in
+    λ j. record { rows = empty; nodes = here j; first = first; share = share; made = replicate cores 0 }

@@ -1,20 +1,16 @@
 -- What parts that were read show of their rows.
-use Rattle.std.proofs.Common.{◌≡◌, ◌≢◌, ℕ, ◌/◌, ◌<◌, eqb, List, [], ◌∷◌, ◌++◌, map, All, length, Option, refl, sym, ap, ◌∙◌}
-use Rattle.std.specs.Prelude.{slice_index_or}
+use Rattle.std.proofs.Common.{◌≡◌, ◌≢◌, ℕ, ◌/◌, ◌<◌, eqb, List, [], ◌∷◌, ◌++◌, map, Option, refl, sym, ap, ◌∙◌}
 use Rattle.std.specs.List.{flat_map}
 use Rattle.std.proofs.lemmas.Bool.{cond-true, cond-false, eq-eqb, ne_eqb}
-use Rattle.sfs_base.specs.Lists.{Roomy}
-use Rattle.sfs_image.specs.Inode.{Inode, IsInode, Table, inode_of}
-use Rattle.sfs_image.specs.Part.{Part, inode_in, directory_blocks, is_directory_part}
+use Rattle.sfs_image.specs.Inode.{Inode}
+use Rattle.sfs_image.specs.Part.{inode_in, directory_blocks, is_directory_part}
 use Rattle.sfs_image.specs.Slot.{Row}
 use Rattle.sfs_image.specs.SlotBlock.{slots_of}
-use Rattle.sfs_image.specs.Super.{Layout}
-use Rattle.disk_tree.specs.Blocks.{blocks_in, slots_at, slots_by, ReadWell}
+use Rattle.disk_tree.specs.Blocks.{blocks_in, slots_at}
 use Rattle.disk_tree.specs.Contents.{bytes_of_inode}
-use Rattle.disk_tree.specs.Gathered.{KeepPointerRules}
 use Rattle.disk_tree.specs.Inodes.{inode_at}
-use Rattle.disk_tree.specs.Rows.{AreRowLists, rows_of_inode, rows_in_slots, slots_together}
-use Rattle.disk_tree.specs.Shown.{ShowsRows, ReadPartsShowRows}
+use Rattle.disk_tree.specs.Rows.{rows_in_slots, slots_together}
+use Rattle.disk_tree.specs.Shown.{ReadPartsShowRows}
 use Rattle.disk_tree.proofs.BytesJudged.{part_inode, blocks_are}
 use Rattle.disk_tree.proofs.PartsRead.{inodes_count}
 

@@ -17,7 +17,7 @@ use Rattle.disk_tree.specs.Reached.{row_at}
 use Rattle.disk_tree.specs.Rows.{NO_ROW, rows_of_inode}
 use Rattle.disk_tree.proofs.Entries.{fresh_entry, entry_more, own_entries_to, counted_from, len-names_where, entries_of_to, count_append}
 
-count_take : {X : Type 0} (p : X → Bool) (xs : List X) (k : ℕ) → count_by p (take k xs) ≤ count_by p xs
+pub count_take : {X : Type 0} (p : X → Bool) (xs : List X) (k : ℕ) → count_by p (take k xs) ≤ count_by p xs
 count_take p xs k = (let a = count_append p (take k xs) (drop k xs) in let b = ap (count_by p) (take-append-drop k xs) in omega arith)
 
 module _ (start : TreeState) (rows : List (Roomy Row)) (may : MayPut start rows) (i k : ℕ) (less : k < length (rows_of_inode rows i)) where

@@ -1,11 +1,10 @@
 -- The first inode that breaks a rule across inodes, by what was read, is the first fault; and where none does there is no fault.
-use Rattle.std.proofs.Common.{◌≡◌, ℕ, ◌+◌, ◌*◌, ◌/◌, ◌<◌, ◌≤◌, Bool, false, eqb, List, [], ◌∷◌, length, map, take, Option, None, Some, All, refl, sym, ap, subst, ◌∙◌, arith, inl, inr}
-use Rattle.std.specs.Prelude.{filter_map, slice_index_or}
-use Rattle.std.proofs.lemmas.Bool.{cases_Bool, cases_lt, eq-eqb, eqb-true, eqb-false}
+use Rattle.std.proofs.Common.{◌≡◌, ℕ, ◌/◌, ◌<◌, ◌≤◌, Bool, false, eqb, List, [], ◌∷◌, length, map, Option, None, Some, All, refl, sym, ap, subst, ◌∙◌, arith, inl, inr}
+use Rattle.std.proofs.lemmas.Bool.{cases_Bool, cases_lt, eqb-true, eqb-false}
 use Rattle.std.proofs.lemmas.List.{get_or_past}
 use Rattle.sfs_base.specs.Lists.{Roomy}
 use Rattle.sfs_image.specs.Inode.{Inode, IsInode, Table, inode_of}
-use Rattle.sfs_image.specs.Part.{inode_in, directory_blocks, seen_of}
+use Rattle.sfs_image.specs.Part.{inode_in}
 use Rattle.sfs_image.specs.Seen.{SeenInodes}
 use Rattle.sfs_image.specs.Slot.{Row}
 use Rattle.sfs_image.specs.Super.{Layout}
@@ -15,14 +14,13 @@ use Rattle.image_tree.specs.Image.{inodes_shown}
 use Rattle.image_tree.specs.Rules.{breaks_tree_rule}
 use Rattle.image_tree.proofs.Parts.{root_shown}
 use Rattle.disk_tree.specs.Blocks.{ReadWell}
-use Rattle.disk_tree.specs.First.{IsFirst, NonePasses}
+use Rattle.disk_tree.specs.First.{NonePasses}
 use Rattle.disk_tree.specs.Gathered.{KeepPointerRules}
 use Rattle.disk_tree.specs.Judged.{Refused, IsRefusal, IsReadRefusal, fault_of_parts}
 use Rattle.disk_tree.specs.Ordered.{AreFewRows, BreaksFirst, KeepEarlier, KeepTreeRules, breaks_numbered}
 use Rattle.disk_tree.specs.Reached.{MarksReached}
-use Rattle.disk_tree.specs.Rows.{AreRowLists, rows_of_inode, rows_in_slots, row_of_slot}
+use Rattle.disk_tree.specs.Rows.{AreRowLists, rows_of_inode, rows_in_slots}
 use Rattle.disk_tree.specs.Shown.{ShowsRows, AreRowTests, AreCountTests}
-use Rattle.disk_tree.specs.Tests.{breaks_eighth, breaks_tenth, breaks_eleventh, breaks_twelfth}
 use Rattle.disk_tree.specs.declared.fault.TreeFault.{TreeFault}
 use Rattle.disk_tree.specs.declared.fault.TreeFault.TheVariants.{DiskFailed, BadImage, NoMemory}
 use Rattle.disk_tree.proofs.CountsShown.{count_tests_are_rules}
@@ -118,8 +116,8 @@ module _ (told : Option (List ℕ)) (layout : Layout) (records : List (List ℕ)
         (λ kept marks. (count_tests reached 12 (omega arith) kept).twelfth j within)
         (λ kept marks. (count_tests reached 13 (omega arith) kept).thirteenth (none_at reached 13 kept 10 (omega arith) (omega arith)) j within)
         (λ kept marks. reached_test_is_rule image inodes rows reached shows long (none_at reached 14 kept 8 (omega arith) (omega arith)) (none_at reached 14 kept 10 (omega arith) (omega arith))
-            (none_at reached 14 kept 11 (omega arith) (omega arith)) (none_at reached 14 kept 12 (omega arith) (omega arith)) (marks refl) some
-            (root_shown (well.parts 0) (well.keep 2 0 (omega arith) (omega arith) some)) j within)
+        (none_at reached 14 kept 11 (omega arith) (omega arith)) (none_at reached 14 kept 12 (omega arith) (omega arith)) (marks refl) some
+        (root_shown (well.parts 0) (well.keep 2 0 (omega arith) (omega arith) some)) j within)
 
     numbered_is : (reached : List Bool) (rule j : ℕ) → 8 ≤ rule → rule ≤ 14 → j < layout.inodes → KeepEarlier inodes rows reached rule → (rule ≡ 14 → MarksReached rows (length rows) reached) →
         breaks_of layout well.parts rule j ≡ breaks_numbered inodes rows reached rule j

@@ -67,5 +67,6 @@ pub record BreaksSeventh (inodes : List Inode) (contents : List (Roomy ℕ)) (in
 pub record ReadWell (told : Option (List ℕ)) (layout : Layout) (records : List (List ℕ)) (inodes : List Inode) (tables : List (Roomy Table)) (contents : List (Roomy ℕ)) (slots : List (Roomy (List (Option Row)))) : Type 0 where
   pub parts : ℕ → Part
   pub hold : HoldContents told layout records tables contents parts
+  pub content_count : length contents ≡ layout.inodes
   pub slots_are : AreSlotLists inodes contents layout.inodes slots
   pub keep : (rule i : ℕ) → 1 ≤ rule → rule ≤ 7 → i < layout.inodes → breaks_bytes_rule rule layout parts i ≡ false

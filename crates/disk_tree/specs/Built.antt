@@ -1,5 +1,5 @@
 -- The rows and nodes of a tree as lists.
-use Rattle.std.specs.Prelude.{◌≡◌, ℕ, ◌<◌, ◌≤◌, ◌==◌, ◌&&◌, not, true, List, [], ◌∷◌, length, map, ◌++◌, take, slice_index, IsSome, if◌then◌else◌}
+use Rattle.std.specs.Prelude.{◌≡◌, ℕ, ◌*◌, ◌<◌, ◌≤◌, ◌==◌, ◌&&◌, not, true, List, [], ◌∷◌, length, map, ◌++◌, take, slice_index, IsSome, if◌then◌else◌}
 use Rattle.std.specs.FinMap.{get, from_entries}
 use Rattle.std.specs.List.{range_with_len, flat_map}
 use Rattle.sfs_base.specs.Lists.{Roomy}
@@ -7,7 +7,9 @@ use Rattle.sfs_image.specs.Slot.{Row}
 use Rattle.sfs_tree.specs.Order.{Key}
 use Rattle.sfs_base.specs.declared.numbers.Kind.TheVariants.{File, Directory}
 use Rattle.sfs_image.specs.Inode.{Inode}
-use Rattle.sfs_tree.specs.Build.{with_node}
+use Rattle.sfs_image.specs.Seen.{FILE_BLOCKS}
+use Rattle.sfs_image.specs.Super.{Layout}
+use Rattle.sfs_tree.specs.Build.{with_node, root_alone}
 use Rattle.sfs_tree.specs.Tree.{TreeState, Node, is_directory}
 use Rattle.disk_tree.specs.Contents.{bytes_of_inode}
 use Rattle.disk_tree.specs.Inodes.{inode_at}
@@ -65,3 +67,19 @@ abbrev pub with_node_of : TreeState → Inode → ℕ → List ℕ → ℕ → T
 with_node_of tree inode named bytes i =
     if inode.kind == 2 then with_node tree i Directory []
     else if inode.kind == 1 && not (named == 0) then with_node tree i File (take inode.size bytes) else tree
+
+-- the tree of a disk's layout with these entries as its nodes and rows
+abbrev pub tree_of_entries : Layout → List (ℕ × Node) → List (Key × ℕ) → TreeState
+tree_of_entries layout nodes rows = with_entries (with_nodes (root_alone layout.inodes 0 layout.cores) nodes) rows
+
+-- A tree may be built of inodes, of the numbers of rows that name them, of their bytes, and of their rows: there are as many of each,
+-- the root is a directory, each file is as large as its bytes at most, and the rows may be put into the tree of the nodes.
+pub record MayBuild (layout : Layout) (inodes : List Inode) (named : List ℕ) (contents : List (Roomy ℕ)) (rows : List (Roomy Row)) : Type 0 where
+  pub inode_count : length inodes ≡ layout.inodes
+  pub named_count : length named ≡ length inodes
+  pub content_count : length contents ≡ length inodes
+  pub row_count : length rows ≡ length inodes
+  pub root : (inode_at inodes 0).kind ≡ 2
+  pub sizes : (i : ℕ) → i < length inodes → (inode_at inodes i).size ≤ 4096 * FILE_BLOCKS
+  pub bytes : (i : ℕ) → i < length inodes → (inode_at inodes i).size ≤ length (bytes_of_inode contents i)
+  pub rows_may : MayPut (tree_of_entries layout (node_entries inodes named contents (length inodes)) []) rows

@@ -4,9 +4,11 @@ pub mod Built
 pub mod Cause
 pub mod Contents
 pub mod First
+pub mod Found
 pub mod Gathered
 pub mod Inodes
 pub mod Judged
+pub mod KeptParts
 pub mod Ordered
 pub mod Pointers
 pub mod Reached

@@ -7,7 +7,7 @@ ghost use Rattle.disk_tree.specs.Tests.{has_twice, breaks_eighth, breaks_ninth, 
 
 use crate::inodes::DIRECTORY;
 use crate::rows::{
-    RowList, count_directories, has_full_bucket, has_misplaced_row, has_duplicate_name, names_root,
+    RowList, count_directories, has_duplicate_name, has_full_bucket, has_misplaced_row, names_root,
 };
 use fmt_inode::Inode;
 use fmt_slots::SlotRow;

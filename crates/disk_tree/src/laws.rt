@@ -1,5 +1,5 @@
 // What is proved of the definitions: each function's contract is a law.
-ghost use Rattle.disk_tree.specs.Shown.{RowTestsAreRules, CountTestsAreRules, ReachedTestIsRule, ReadPartsShowRows};
+ghost use Rattle.disk_tree.specs.Shown.{RowTestsAreRules, CountTestsAreRules, ReachedTestIsRule, ReadPartsShowRows, FaultlessPartsAreRuled};
 
 /// The rules on the rows of a directory are tests on its rows.
 pub fn row_tests_are_rules()
@@ -19,4 +19,9 @@ pub fn reached_test_is_rule()
 /// What was read of an image shows its rows.
 pub fn read_parts_show_rows()
     ensures { ReadPartsShowRows }
+{}
+
+/// Parts that reads gave, and that have no fault, show inodes that keep the rules.
+pub fn faultless_parts_are_ruled()
+    ensures { FaultlessPartsAreRuled }
 {}
