@@ -27,6 +27,7 @@ pub mod RulesJudged
 pub mod SlotsRead
 pub mod TablesGathered
 pub mod TablesRead
+pub mod ToldRead
 pub mod TreeRead
 pub mod TreeShown
 pub mod Visited

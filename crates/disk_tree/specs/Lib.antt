@@ -16,3 +16,4 @@ pub mod Reading
 pub mod Rows
 pub mod Shown
 pub mod Tests
+pub mod Told

@@ -196,7 +196,7 @@ stands_alike num tree image other count same st = record {
 
 -- a rule on bytes other than that on blocks that are held twice looks at one part
 module _ (divided : Layout) (parts others : ℕ → Part) (i : ℕ) (same : parts i ≡ others i) where
-  rule_alike : (rule : ℕ) → rule ≢ 5 → breaks_bytes_rule rule divided parts i ≡ breaks_bytes_rule rule divided others i
+  pub rule_alike : (rule : ℕ) → rule ≢ 5 → breaks_bytes_rule rule divided parts i ≡ breaks_bytes_rule rule divided others i
   rule_alike rule other =
       ap (λ (p : Part). by_rule p (breaks_apart parts i) (nat_eq rule 5)) same
       ∙ ap (λ b. by_rule (others i) (breaks_apart parts i) b) (not_same rule 5 other)
