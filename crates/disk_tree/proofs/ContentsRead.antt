@@ -17,6 +17,7 @@ use Rattle.disk_tree.specs.Gathered.{tables_at}
 use Rattle.disk_tree.specs.Inodes.{inode_at}
 use Rattle.disk_tree.specs.Judged.{IsReadPart}
 use Rattle.disk_tree.specs.Reading.{IsReadBlock, HasTables, HasContent}
+use Rattle.disk_tree.proofs.PartsMade.{parts_made, made_within}
 use Rattle.disk_tree.proofs.Refusals.{store_of, store_reads}
 
 pub no_contents : (told : Option (List ℕ)) (inodes : List Inode) (tables : List (Roomy Table)) → AreReadContents told inodes tables 0 []
@@ -92,31 +93,22 @@ module _ (told : Option (List ℕ)) (layout : Layout) (records : List (List ℕ)
   content_at : (i : ℕ) → i < layout.inodes → HasContent told (inode_of (slice_index_or records i [])) (tables_at tables i) (blocks_of_size (inode_of (slice_index_or records i [])).size) (bytes_of_inode contents i)
   content_at i within = subst (λ (inode : Inode). HasContent told inode (tables_at tables i) (blocks_of_size inode.size) (bytes_of_inode contents i)) (same i within) (all.each i within)
 
-  part_or : (i : ℕ) → (i < layout.inodes) ⊎ (layout.inodes ≤ i) → Part
-  part_or i (inl within) = content_part told (slice_index_or records i []) (tables_at tables i) (bytes_of_inode contents i) (has i within) (content_at i within) (fits i within)
-  part_or i (inr past) = record { raw = []; tables = []; blocks = [] }
+  abbrev own_part : (i : ℕ) → i < layout.inodes → Part
+  own_part i within = content_part told (slice_index_or records i []) (tables_at tables i) (bytes_of_inode contents i) (has i within) (content_at i within) (fits i within)
 
   pub content_parts : ℕ → Part
-  content_parts i = part_or i (cases_lt i layout.inodes)
+  content_parts = parts_made layout.inodes own_part
 
   pub hold_contents : HoldContents told layout records tables contents content_parts
-  unfolding content_parts part_or content_part
+  unfolding content_parts
   hold_contents = record {
-    read = λ i within. read_or i within (cases_lt i layout.inodes);
-    kept = λ i within. kept_or i within (cases_lt i layout.inodes);
-    blocks = λ i n within inside. blocks_or i n within inside (cases_lt i layout.inodes);
+    read = made_within layout.inodes own_part (λ i part. IsReadPart told (slice_index_or records i []) part)
+        (λ i within. content_part_read told (slice_index_or records i []) (tables_at tables i) (bytes_of_inode contents i) (has i within) (content_at i within) (fits i within));
+    kept = made_within layout.inodes own_part (λ i part. kept_tables part ≡ tables_at tables i)
+        (λ i within. content_part_kept told (slice_index_or records i []) (tables_at tables i) (bytes_of_inode contents i) (has i within) (content_at i within) (fits i within));
+    blocks = λ i n within inside.
+        made_within layout.inodes own_part
+        (λ i part. (n : ℕ) → n < blocks_of_size (inode_of (slice_index_or records i [])).size → slice_index_or part.blocks n [] ≡ Rattle.sfs_image.specs.Bytes.part (4096 * n) 4096 (bytes_of_inode contents i))
+        (λ i within n inside. content_part_blocks told (slice_index_or records i []) (tables_at tables i) (bytes_of_inode contents i) (has i within) (content_at i within) (fits i within) n inside) i within n inside;
     size = λ i within. (content_at i within).size;
   }
-    where
-      read_or : (i : ℕ) → i < layout.inodes → (o : (i < layout.inodes) ⊎ (layout.inodes ≤ i)) → IsReadPart told (slice_index_or records i []) (part_or i o)
-      read_or i within (inl here) = content_part_read told (slice_index_or records i []) (tables_at tables i) (bytes_of_inode contents i) (has i here) (content_at i here) (fits i here)
-      read_or i within (inr past) = absurd (omega arith)
-
-      kept_or : (i : ℕ) → i < layout.inodes → (o : (i < layout.inodes) ⊎ (layout.inodes ≤ i)) → kept_tables (part_or i o) ≡ tables_at tables i
-      kept_or i within (inl here) = content_part_kept told (slice_index_or records i []) (tables_at tables i) (bytes_of_inode contents i) (has i here) (content_at i here) (fits i here)
-      kept_or i within (inr past) = absurd (omega arith)
-
-      blocks_or : (i n : ℕ) → i < layout.inodes → n < blocks_of_size (inode_of (slice_index_or records i [])).size → (o : (i < layout.inodes) ⊎ (layout.inodes ≤ i)) →
-          slice_index_or (part_or i o).blocks n [] ≡ part (4096 * n) 4096 (bytes_of_inode contents i)
-      blocks_or i n within inside (inl here) = content_part_blocks told (slice_index_or records i []) (tables_at tables i) (bytes_of_inode contents i) (has i here) (content_at i here) (fits i here) n inside
-      blocks_or i n within inside (inr past) = absurd (omega arith)

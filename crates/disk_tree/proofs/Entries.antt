@@ -21,7 +21,7 @@ use Rattle.sfs_base.proofs.BasicOptions.{some_not_none}
 use Rattle.sfs_tree.proofs.Names.{entries-names_where}
 use Rattle.disk_tree.specs.Built.{entry_of_row, entries_at, row_entries, entries_to}
 use Rattle.disk_tree.specs.Rows.{NO_ROW, rows_of_inode, naming, naming_below, HaveOwnNames}
-use Rattle.disk_tree.proofs.TablesRead.{range_more}
+use Rattle.block_map.proofs.Places.{range_more}
 
 -- keys are the same where directory and name are
 key_is : (d e : ℕ) (n m : List ℕ) → eq_by_cmp key_cmp (d, n) (e, m) ≡ cond (nat_eq d e) (bytes_eq n m) false

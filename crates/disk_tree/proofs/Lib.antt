@@ -11,6 +11,7 @@ pub mod NamesMet
 pub mod NamesTwice
 pub mod NodesPut
 pub mod PartsKept
+pub mod PartsMade
 pub mod PartsRead
 pub mod PartsShown
 pub mod PartsSound

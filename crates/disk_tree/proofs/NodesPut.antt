@@ -18,7 +18,7 @@ use Rattle.sfs_tree.proofs.Joined.{find-append}
 use Rattle.disk_tree.specs.Built.{node_by_inode, node_at, node_entries, with_nodes, with_node_of}
 use Rattle.disk_tree.specs.Contents.{bytes_of_inode}
 use Rattle.disk_tree.specs.Inodes.{inode_at}
-use Rattle.disk_tree.proofs.TablesRead.{range_more}
+use Rattle.block_map.proofs.Places.{range_more}
 
 module _ (inodes : List Inode) (named : List ℕ) (contents : List (Roomy ℕ)) where
   pub no_nodes : node_entries inodes named contents 0 ≡ []

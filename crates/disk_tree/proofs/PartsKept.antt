@@ -13,7 +13,8 @@ use Rattle.disk_tree.specs.Blocks.{slots_at}
 use Rattle.disk_tree.specs.Gathered.{tables_at}
 use Rattle.disk_tree.specs.Inodes.{inode_at}
 use Rattle.disk_tree.specs.KeptParts.{NumberedKept, gathered_if_used, gathered_in_use}
-use Rattle.disk_tree.proofs.TablesRead.{as_list, range_more}
+use Rattle.block_map.proofs.Places.{range_more}
+use Rattle.disk_tree.proofs.TablesRead.{as_list}
 
 module _ (inodes : List Inode) (tables : List (Roomy Table)) (slots : List (Roomy (List (Option Row)))) where
   pub none_kept : gathered_in_use inodes tables slots 0 ≡ []

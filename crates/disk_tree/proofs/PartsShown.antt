@@ -12,7 +12,7 @@ use Rattle.disk_tree.specs.Inodes.{inode_at}
 use Rattle.disk_tree.specs.Rows.{rows_in_slots, slots_together}
 use Rattle.disk_tree.specs.Shown.{ReadPartsShowRows}
 use Rattle.disk_tree.proofs.BytesJudged.{part_inode, blocks_are}
-use Rattle.disk_tree.proofs.PartsRead.{inodes_count}
+use Rattle.disk_tree.proofs.InodesRead.{length_inodes}
 
 -- lists made of elements, put together
 together : (f : List ℕ → List (Option Row)) (xs : List (List ℕ)) → slots_together (map f xs) ≡ flat_map f xs
@@ -21,7 +21,7 @@ together f (x ∷ xs) = ap (λ (ys : List (Option Row)). f x ++ ys) (together f 
 
 pub read_parts_show_rows : ReadPartsShowRows
 read_parts_show_rows told layout records inodes tables contents slots rows count are fit keep well lists = record {
-  count = sym (inodes_count told layout records count inodes are fit);
+  count = sym (length_inodes layout records inodes count are);
   kind = λ i within. ap (λ (inode : Inode). inode.kind) (part i within);
   links = λ i within. ap (λ (inode : Inode). inode.links) (part i within);
   slots = λ i within kind.

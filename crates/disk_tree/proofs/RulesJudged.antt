@@ -24,7 +24,7 @@ use Rattle.disk_tree.specs.Shown.{ShowsRows, AreRowTests, AreCountTests}
 use Rattle.disk_tree.specs.declared.fault.TreeFault.{TreeFault}
 use Rattle.disk_tree.specs.declared.fault.TreeFault.TheVariants.{DiskFailed, BadImage, NoMemory}
 use Rattle.disk_tree.proofs.CountsShown.{count_tests_are_rules}
-use Rattle.disk_tree.proofs.PartsRead.{inodes_count}
+use Rattle.disk_tree.proofs.InodesRead.{length_inodes}
 use Rattle.disk_tree.proofs.PartsShown.{read_parts_show_rows}
 use Rattle.disk_tree.proofs.ReachedShown.{reached_test_is_rule}
 use Rattle.disk_tree.proofs.Refusals.{breaks_of, byte_rule, tree_rule, refused_at, kept_all}
@@ -76,7 +76,7 @@ module _ (told : Option (List ℕ)) (layout : Layout) (records : List (List ℕ)
   shows = read_parts_show_rows told layout records inodes tables contents slots rows count are fit keep well lists
 
   pub long : length rows ≡ length inodes
-  long = lists.count ∙ sym (inodes_count told layout records count inodes are fit)
+  long = lists.count ∙ sym (length_inodes layout records inodes count are)
 
   -- a directory has no more rows than its blocks have slots
   pub are_few : AreFewRows rows

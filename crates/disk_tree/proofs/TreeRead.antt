@@ -12,7 +12,7 @@ use Rattle.disk_tree.specs.Rows.{AreNamingCounts, AreRowLists}
 use Rattle.disk_tree.specs.declared.fault.TreeFault.{TreeFault}
 use Rattle.disk_tree.specs.declared.found.Found.{Found}
 use Rattle.disk_tree.specs.declared.read.ReadInodes.{ReadInodes}
-use Rattle.disk_tree.proofs.PartsRead.{inodes_count}
+use Rattle.disk_tree.proofs.InodesRead.{length_inodes}
 use Rattle.disk_tree.proofs.RulesJudged.{are_few, tree_refusal}
 use Rattle.disk_tree.proofs.TreeShown.{may_build, found_is}
 
@@ -22,7 +22,7 @@ module _ (told : Option (List ℕ)) (layout : Layout) (records : List (List ℕ)
   lists = subst (λ (n : ℕ). AreRowLists read.slots.items n rows) ok.well.slots_are.count (subst (λ (xs : List (Roomy (List (Option Row)))). AreRowLists xs (length xs) rows) slots_are gathered)
 
   pub inode_count : length read.inodes.items ≡ layout.inodes
-  inode_count = inodes_count told layout records count read.inodes.items ok.inodes ok.fit
+  inode_count = length_inodes layout records read.inodes.items count ok.inodes
 
   pub rows_few : AreFewRows rows
   rows_few = are_few told layout records count read.inodes.items ok.inodes ok.fit read.tables.items ok.pointers read.contents.items read.slots.items ok.well rows lists

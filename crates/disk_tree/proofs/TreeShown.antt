@@ -48,7 +48,8 @@ use Rattle.disk_tree.specs.declared.found.Found.{Found}
 use Rattle.disk_tree.proofs.BytesJudged.{block_is, blocks_are, part_inode}
 use Rattle.disk_tree.proofs.BytesStage.{sizes_fit}
 use Rattle.disk_tree.proofs.CountsShown.{bucket_is, count_is, own, rows_are}
-use Rattle.disk_tree.proofs.PartsRead.{inodes_count, own_inode}
+use Rattle.disk_tree.proofs.PartsRead.{own_inode}
+use Rattle.disk_tree.proofs.InodesRead.{length_inodes}
 use Rattle.disk_tree.proofs.PartsSound.{faultless_parts_are_ruled}
 use Rattle.disk_tree.proofs.Putting.{count_take}
 use Rattle.disk_tree.proofs.RulesJudged.{faultless, long, shows}
@@ -71,14 +72,11 @@ naming_met rows (suc n) i k less inside = elim (cases_lt i n) [
 ]
 
 -- a node of an inode, by its kind, by how many rows name it, and by its bytes
-abbrev alone : ℕ → Node → List (ℕ × Node)
-alone i node = (i, node) ∷ []
-
 abbrev node_of : ℕ → ℕ → ℕ → List ℕ → List (ℕ × Node)
-node_of i kind named bytes = cond (eqb kind 2 || (eqb kind 1 && not (eqb named 0))) (alone i (record { kind = kind_of kind; bytes = bytes })) []
+node_of i kind named bytes = cond (eqb kind 2 || (eqb kind 1 && not (eqb named 0))) ((let node : ℕ × Node = (i, record { kind = kind_of kind; bytes = bytes }) in node) ∷ []) []
 
 abbrev node_by : ℕ → ℕ → ℕ → List ℕ → List (ℕ × Node)
-node_by i kind named bytes = cond (eqb kind 2) (alone i (record { kind = Directory; bytes = [] })) (cond (eqb kind 1 && not (eqb named 0)) (alone i (record { kind = File; bytes = bytes })) [])
+node_by i kind named bytes = cond (eqb kind 2) ((let node : ℕ × Node = (i, record { kind = Directory; bytes = [] }) in node) ∷ []) (cond (eqb kind 1 && not (eqb named 0)) ((let node : ℕ × Node = (i, record { kind = File; bytes = bytes }) in node) ∷ []) [])
 
 same_node : (i kind named : ℕ) (shown held : List ℕ) → (kind ≡ 2 → shown ≡ []) → (kind ≡ 1 → shown ≡ held) → node_of i kind named shown ≡ node_by i kind named held
 same_node i kind named shown held directory file = elim (cases_Bool (eqb kind 2)) [
@@ -91,14 +89,11 @@ same_node i kind named shown held directory file = elim (cases_Bool (eqb kind 2)
   ]
 ]
   where
-    nothing : (a b : Bool) → a ≡ false → b ≡ false → cond (a || (b && not (eqb named 0))) (alone i (record { kind = kind_of kind; bytes = shown })) []
-        ≡ cond a (alone i (record { kind = Directory; bytes = [] })) (cond (b && not (eqb named 0)) (alone i (record { kind = File; bytes = held })) [])
+    nothing : (a b : Bool) → a ≡ false → b ≡ false → cond (a || (b && not (eqb named 0))) ((let node : ℕ × Node = (i, record { kind = kind_of kind; bytes = shown }) in node) ∷ []) []
+        ≡ cond a ((let node : ℕ × Node = (i, record { kind = Directory; bytes = [] }) in node) ∷ []) (cond (b && not (eqb named 0)) ((let node : ℕ × Node = (i, record { kind = File; bytes = held }) in node) ∷ []) [])
     nothing false false e f = refl
     nothing true b e f = absurd cc
     nothing false true e f = absurd cc
-
-some_is : {X : Type 0} (o : Option X) (x : X) → o ≡ Some x → IsSome o
-some_is o x e = subst IsSome (sym e) refl
 
 module _ (told : Option (List ℕ)) (layout : Layout) (records : List (List ℕ)) (count : length records ≡ layout.inodes) (inodes : List Inode) (are : inodes ≡ map inode_of records) (fit : All IsInode inodes)
     (first : KeepRecordRules layout records) (tables : List (Roomy Table)) (keep : KeepPointerRules told layout records tables) (contents : List (Roomy ℕ)) (slots : List (Roomy (List (Option Row))))
@@ -110,7 +105,7 @@ module _ (told : Option (List ℕ)) (layout : Layout) (records : List (List ℕ)
   inode_is = part_inode told layout records count inodes are fit tables keep contents well.parts well.hold
 
   abbrev many : length inodes ≡ layout.inodes
-  many = inodes_count told layout records count inodes are fit
+  many = length_inodes layout records inodes count are
 
   abbrev rows_shown : Rattle.disk_tree.specs.Shown.ShowsRows image inodes rows
   rows_shown = shows told layout records count inodes are fit tables keep contents slots well rows lists
@@ -224,7 +219,7 @@ module _ (told : Option (List ℕ)) (layout : Layout) (records : List (List ℕ)
           (let row = row_at (rows_of_inode rows i) k in
           let is = placed i k less in
           let met = naming_met rows (length inodes) i k (let h = (has_rows i k less).within in let m = many in omega arith) less in
-          subst (λ (m : FinMap nat_cmp Node). IsSome (get m row.inode)) nodes_are (some_is _ _ (node_is image (is_node image) row.inode is.within (chosen row is met))));
+          subst (λ (m : FinMap nat_cmp Node). IsSome (get m row.inode)) nodes_are (subst IsSome (sym (node_is image (is_node image) row.inode is.within (chosen row is met))) refl));
       own = own image inodes rows rows_shown as_many once;
       room = λ i number. elim (cases_lt i layout.inodes) [
         | inl within ↦ (let same = bucket_is image inodes rows rows_shown as_many once i number within in let few = limits.buckets i number in omega arith)
