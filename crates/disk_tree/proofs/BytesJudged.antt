@@ -14,7 +14,7 @@ use Rattle.sfs_image.specs.Rules.{breaks_tail, breaks_slots}
 use Rattle.sfs_image.specs.Super.{Layout}
 use Rattle.sfs_image.proofs.RuleFacts.{sizes_say}
 use Rattle.disk_tree.specs.Blocks.{blocks_in, is_malformed, tail_badly, slots_badly}
-use Rattle.disk_tree.specs.Contents.{blocks_of_size, bytes_at, HoldContents}
+use Rattle.disk_tree.specs.Contents.{blocks_of_size, bytes_of_inode, HoldContents}
 use Rattle.disk_tree.specs.Gathered.{KeepPointerRules}
 use Rattle.disk_tree.specs.Inodes.{inode_at}
 use Rattle.disk_tree.proofs.PartsRead.{read_inode, own_inode}
@@ -33,10 +33,10 @@ module _ (told : Option (List ℕ)) (layout : Layout) (records : List (List ℕ)
   record_inode : (i : ℕ) → i < layout.inodes → inode_of (slice_index_or records i []) ≡ inode_at inodes i
   record_inode i within = sym (own_inode told layout records count inodes are fit i within)
 
-  pub block_is : (i n : ℕ) → i < layout.inodes → n < blocks_of_size (inode_at inodes i).size → slice_index_or (parts i).blocks n [] ≡ part (4096 * n) 4096 (bytes_at contents i)
+  pub block_is : (i n : ℕ) → i < layout.inodes → n < blocks_of_size (inode_at inodes i).size → slice_index_or (parts i).blocks n [] ≡ part (4096 * n) 4096 (bytes_of_inode contents i)
   block_is i n within inside = hold.blocks i n within (subst (λ (inode : Inode). n < blocks_of_size inode.size) (sym (record_inode i within)) inside)
 
-  pub sixth_rule : (i : ℕ) → i < layout.inodes → breaks_tail (parts i) ≡ tail_badly (inode_at inodes i) (bytes_at contents i)
+  pub sixth_rule : (i : ℕ) → i < layout.inodes → breaks_tail (parts i) ≡ tail_badly (inode_at inodes i) (bytes_of_inode contents i)
   sixth_rule i within =
       ap (λ (inode : Inode). eqb inode.kind 1 && not (eqb (inode.size % 4096) 0) && is_some (nonzero_in (inode.size % 4096) (4096 - inode.size % 4096) (slice_index_or (parts i).blocks (inode.size / 4096) []))) (part_inode i within)
       ∙ elim (cases_Bool (eqb ((inode_at inodes i).size % 4096) 0)) [
@@ -54,7 +54,7 @@ module _ (told : Option (List ℕ)) (layout : Layout) (records : List (List ℕ)
           by false = refl
       even a false c d e = absurd cc
 
-  pub blocks_are : (i : ℕ) → i < layout.inodes → (inode_at inodes i).kind ≡ 2 → directory_blocks (parts i) ≡ blocks_in ((inode_at inodes i).size / 4096) (bytes_at contents i)
+  pub blocks_are : (i : ℕ) → i < layout.inodes → (inode_at inodes i).kind ≡ 2 → directory_blocks (parts i) ≡ blocks_in ((inode_at inodes i).size / 4096) (bytes_of_inode contents i)
   unfolding blocks_in
   blocks_are i within kind =
       let fits = fits_size i within in
@@ -65,16 +65,16 @@ module _ (told : Option (List ℕ)) (layout : Layout) (records : List (List ℕ)
       let long = (hold.read i within).count in
       let taken : length (take ((inode_at inodes i).size / 4096) (parts i).blocks) ≡ (inode_at inodes i).size / 4096 = length-take-le ((inode_at inodes i).size / 4096) (parts i).blocks (omega arith) in
       ap (λ (n : ℕ). take (n / 4096) (parts i).blocks) size
-      ∙ same_lists (take ((inode_at inodes i).size / 4096) (parts i).blocks) (map (λ n. part (4096 * n) 4096 (bytes_at contents i)) (range_with_len 0 ((inode_at inodes i).size / 4096)))
-      (taken ∙ sym (length-map-range_with_len (λ n. part (4096 * n) 4096 (bytes_at contents i)) 0 ((inode_at inodes i).size / 4096)))
+      ∙ same_lists (take ((inode_at inodes i).size / 4096) (parts i).blocks) (map (λ n. part (4096 * n) 4096 (bytes_of_inode contents i)) (range_with_len 0 ((inode_at inodes i).size / 4096)))
+      (taken ∙ sym (length-map-range_with_len (λ n. part (4096 * n) 4096 (bytes_of_inode contents i)) 0 ((inode_at inodes i).size / 4096)))
       (λ k d h.
       let below : k < (inode_at inodes i).size / 4096 = omega arith in
       get_or_default (take ((inode_at inodes i).size / 4096) (parts i).blocks) k d [] h
       ∙ get_or-take ((inode_at inodes i).size / 4096) (parts i).blocks k [] below
       ∙ block_is i k within (omega arith)
-      ∙ sym (get_or-map-range_with_len (λ n. part (4096 * n) 4096 (bytes_at contents i)) 0 ((inode_at inodes i).size / 4096) k k d below (omega arith)))
+      ∙ sym (get_or-map-range_with_len (λ n. part (4096 * n) 4096 (bytes_of_inode contents i)) 0 ((inode_at inodes i).size / 4096) k k d below (omega arith)))
 
-  pub seventh_rule : (i : ℕ) → i < layout.inodes → breaks_slots (parts i) ≡ slots_badly (inode_at inodes i) (bytes_at contents i)
+  pub seventh_rule : (i : ℕ) → i < layout.inodes → breaks_slots (parts i) ≡ slots_badly (inode_at inodes i) (bytes_of_inode contents i)
   seventh_rule i within =
       ap (λ (inode : Inode). eqb inode.kind 2 && list_any is_malformed (directory_blocks (parts i))) (part_inode i within)
       ∙ elim (cases_Bool (eqb (inode_at inodes i).kind 2)) [

@@ -13,7 +13,7 @@ use Rattle.sfs_image.proofs.RuleFacts.{sizes_say}
 use Rattle.sfs_image.proofs.RuleLaws.{good_from_rule}
 use Rattle.block_map.specs.Kept.{block_kept, kept_tables}
 use Rattle.disk_tree.specs.Blocks.{breaks_tail_at, breaks_slots_at, AreSlotLists, BreaksSeventh, ReadWell}
-use Rattle.disk_tree.specs.Contents.{blocks_of_size, AreContents, HoldContents}
+use Rattle.disk_tree.specs.Contents.{blocks_of_size, AreReadContents, HoldContents}
 use Rattle.disk_tree.specs.First.{IsFirst, NonePasses}
 use Rattle.disk_tree.specs.Gathered.{tables_at, KeepTables, KeepPointerRules}
 use Rattle.disk_tree.specs.Inodes.{inode_at, KeepRecordRules}
@@ -22,8 +22,8 @@ use Rattle.disk_tree.specs.declared.fault.TreeFault.{TreeFault}
 use Rattle.disk_tree.specs.declared.fault.TreeFault.TheVariants.{DiskFailed, BadImage, NoMemory}
 use Rattle.disk_tree.proofs.BytesJudged.{sixth_rule, seventh_rule}
 use Rattle.disk_tree.proofs.ContentsRead.{content_parts, hold_contents}
-use Rattle.disk_tree.proofs.InodesRead.{unread, unread_have}
-use Rattle.disk_tree.proofs.PartsRead.{part_from, part_from_read, part_from_kept, own_inode, own_pointer, used_of_pointer, inodes_count, fits_at}
+use Rattle.disk_tree.proofs.InodesRead.{length_inodes, unread, unread_have}
+use Rattle.disk_tree.proofs.PartsRead.{own_inode, own_pointer, used_of_pointer, fits_at, parts_of_tables, parts_of_tables_read, parts_of_tables_kept}
 use Rattle.disk_tree.proofs.Refusals.{refused_at, byte_rule}
 
 module _ (told : Option (List ℕ)) (layout : Layout) (records : List (List ℕ)) (count : length records ≡ layout.inodes) (inodes : List Inode) (are : inodes ≡ map inode_of records) (fit : All IsInode inodes)
@@ -54,44 +54,20 @@ module _ (told : Option (List ℕ)) (layout : Layout) (records : List (List ℕ)
         ]
       ]
 
-  -- parts with these indirect blocks
-  own_part : (i : ℕ) → (i < layout.inodes) ⊎ (layout.inodes ≤ i) → Part
-  own_part i (inl within) = part_from told (slice_index_or records i []) (tables_at tables i) (keep.has i within)
-  own_part i (inr past) = record { raw = []; tables = []; blocks = [] }
-
-  own_parts : ℕ → Part
-  own_parts i = own_part i (cases_lt i layout.inodes)
-
-  own_read : AreReadParts told layout records own_parts
-  unfolding own_parts own_part
-  own_read i within = by (cases_lt i layout.inodes)
-    where
-      by : (o : (i < layout.inodes) ⊎ (layout.inodes ≤ i)) → IsReadPart told (slice_index_or records i []) (own_part i o)
-      by (inl here) = part_from_read told (slice_index_or records i []) (tables_at tables i) (keep.has i here)
-      by (inr past) = absurd (omega arith)
-
-  own_kept : KeepTables layout tables own_parts
-  unfolding own_parts own_part
-  own_kept i within = by (cases_lt i layout.inodes)
-    where
-      by : (o : (i < layout.inodes) ⊎ (layout.inodes ≤ i)) → kept_tables (own_part i o) ≡ tables_at tables i
-      by (inl here) = part_from_kept told (slice_index_or records i []) (tables_at tables i) (keep.has i here)
-      by (inr past) = absurd (omega arith)
-
   -- each block lies on the disk
   pub blocks_within : (size i n : ℕ) → i < layout.inodes → n < FILE_BLOCKS → 0 < layout.blocks → layout.blocks ≤ size → block_kept (inode_at inodes i) (tables_at tables i) n < size
   blocks_within size i n within inside some le =
-      let same : pointer_at (own_parts i) n ≡ block_kept (inode_at inodes i) (tables_at tables i) n =
-      own_pointer told layout records count inodes are fit tables own_parts own_read own_kept i n within ∙ cond-true (ltb n FILE_BLOCKS) _ _ (lt-ltb n FILE_BLOCKS inside) in
-      subst (λ (p : ℕ). p < size) same (elim (cases_Bool (eqb (pointer_at (own_parts i) n) 0)) [
+      let same : pointer_at (parts_of_tables told layout records count inodes are fit tables keep.has i) n ≡ block_kept (inode_at inodes i) (tables_at tables i) n =
+      own_pointer told layout records count inodes are fit tables (parts_of_tables told layout records count inodes are fit tables keep.has) (parts_of_tables_read told layout records count inodes are fit tables keep.has) (parts_of_tables_kept told layout records count inodes are fit tables keep.has) i n within ∙ cond-true (ltb n FILE_BLOCKS) _ _ (lt-ltb n FILE_BLOCKS inside) in
+      subst (λ (p : ℕ). p < size) same (elim (cases_Bool (eqb (pointer_at (parts_of_tables told layout records count inodes are fit tables keep.has i) n) 0)) [
         | inl hole ↦ (let none = eqb-true _ _ hole in omega arith)
         | inr there ↦ (let some_there = eqb-false _ _ there in
-            let used = used_of_pointer told layout records count inodes are fit tables own_parts own_read own_kept i n within (omega arith) some_there in
-            let h = (good_from_rule layout (own_parts i) n (keep.keep own_parts own_read own_kept 4 i (omega arith) (omega arith) within) used (omega arith) some_there).high in
+            let used = used_of_pointer told layout records count inodes are fit tables (parts_of_tables told layout records count inodes are fit tables keep.has) (parts_of_tables_read told layout records count inodes are fit tables keep.has) (parts_of_tables_kept told layout records count inodes are fit tables keep.has) i n within (omega arith) some_there in
+            let h = (good_from_rule layout (parts_of_tables told layout records count inodes are fit tables keep.has i) n (keep.keep (parts_of_tables told layout records count inodes are fit tables keep.has) (parts_of_tables_read told layout records count inodes are fit tables keep.has) (parts_of_tables_kept told layout records count inodes are fit tables keep.has) 4 i (omega arith) (omega arith) within) used (omega arith) some_there).high in
             omega arith)
       ])
 
-  module _ (contents : List (Roomy ℕ)) (all : AreContents told inodes tables layout.inodes contents) where
+  module _ (contents : List (Roomy ℕ)) (all : AreReadContents told inodes tables layout.inodes contents) where
     few_blocks : (i : ℕ) → i < layout.inodes → blocks_of_size (inode_of (slice_index_or records i [])).size ≤ FILE_BLOCKS
     few_blocks i within = (let h = sizes_fit i within in let e = ap (λ (inode : Inode). inode.size) (own i within) in omega arith)
 
@@ -110,12 +86,9 @@ module _ (told : Option (List ℕ)) (layout : Layout) (records : List (List ℕ)
     seventh : (i : ℕ) → i < layout.inodes → breaks_bytes_rule 7 layout parts i ≡ breaks_slots_at inodes contents i
     seventh i within = seventh_rule told layout records count inodes are fit tables keep contents parts hold i within
 
-    many : length inodes ≡ layout.inodes
-    many = inodes_count told layout records count inodes are fit
-
     pub sixth_refused : (i : ℕ) → IsFirst (length inodes) (breaks_tail_at inodes contents) i → Refused told layout records i 6
     sixth_refused i is =
-        let within : i < layout.inodes = subst (λ (n : ℕ). i < n) many is.within in
+        let within : i < layout.inodes = subst (λ (n : ℕ). i < n) (length_inodes layout records inodes count are) is.within in
         refused_at told layout records parts 6 i hold.read (omega arith) (omega arith)
         (λ lesser j low high inside. byte_rule layout parts lesser j (omega arith) ∙ five lesser j low (omega arith) inside)
         (record {
@@ -129,12 +102,12 @@ module _ (told : Option (List ℕ)) (layout : Layout) (records : List (List ℕ)
       six rule i low high within = elim (cases_lt rule 6) [
         | inl less ↦ five rule i low (omega arith) within
         | inr here ↦ (let e : 6 ≡ rule = omega arith in
-            subst (λ (r : ℕ). breaks_bytes_rule r layout parts i ≡ false) e (sixth i within ∙ tails i (let m = many in omega arith)))
+            subst (λ (r : ℕ). breaks_bytes_rule r layout parts i ≡ false) e (sixth i within ∙ tails i (let m = length_inodes layout records inodes count are in omega arith)))
       ]
 
       seventh_refused : (i rule : ℕ) → BreaksSeventh inodes contents i rule → Refused told layout records i rule
       seventh_refused i rule is =
-          let within : i < layout.inodes = subst (λ (n : ℕ). i < n) many is.first.within in
+          let within : i < layout.inodes = subst (λ (n : ℕ). i < n) (length_inodes layout records inodes count are) is.first.within in
           subst (λ (r : ℕ). Refused told layout records i r) (sym is.seventh)
           (refused_at told layout records parts 7 i hold.read (omega arith) (omega arith)
           (λ lesser j low high inside. byte_rule layout parts lesser j (omega arith) ∙ six lesser j low (omega arith) inside)
@@ -153,10 +126,11 @@ module _ (told : Option (List ℕ)) (layout : Layout) (records : List (List ℕ)
       read_well slots lists = record {
         parts = parts;
         hold = hold;
-        slots_are = subst (λ (n : ℕ). AreSlotLists inodes contents n slots) many lists;
+        content_count = all.count;
+        slots_are = subst (λ (n : ℕ). AreSlotLists inodes contents n slots) (length_inodes layout records inodes count are) lists;
         keep = λ rule i low high within. elim (cases_lt rule 7) [
           | inl less ↦ six rule i low (omega arith) within
           | inr here ↦ (let e : 7 ≡ rule = omega arith in
-              subst (λ (r : ℕ). breaks_bytes_rule r layout parts i ≡ false) e (seventh i within ∙ lists.keep i (let m = many in omega arith)))
+              subst (λ (r : ℕ). breaks_bytes_rule r layout parts i ≡ false) e (seventh i within ∙ lists.keep i (let m = length_inodes layout records inodes count are in omega arith)))
         ];
       }

@@ -12,27 +12,28 @@ use Rattle.sfs_image.specs.Super.{Layout}
 use Rattle.sfs_image.proofs.Basics.{length-tabulate, get_or-tabulate}
 use Rattle.block_map.specs.Kept.{kept_tables, block_kept}
 use Rattle.block_map.proofs.KeptPointers.{HaveHoles, kept_block}
-use Rattle.disk_tree.specs.Contents.{blocks_of_size, bytes_at, AreContents, HoldContents}
+use Rattle.disk_tree.specs.Contents.{blocks_of_size, bytes_of_inode, AreReadContents, HoldContents}
 use Rattle.disk_tree.specs.Gathered.{tables_at}
 use Rattle.disk_tree.specs.Inodes.{inode_at}
 use Rattle.disk_tree.specs.Judged.{IsReadPart}
 use Rattle.disk_tree.specs.Reading.{IsReadBlock, HasTables, HasContent}
+use Rattle.disk_tree.proofs.PartsMade.{parts_made, made_within}
 use Rattle.disk_tree.proofs.Refusals.{store_of, store_reads}
 
-pub no_contents : (told : Option (List ℕ)) (inodes : List Inode) (tables : List (Roomy Table)) → AreContents told inodes tables 0 []
+pub no_contents : (told : Option (List ℕ)) (inodes : List Inode) (tables : List (Roomy Table)) → AreReadContents told inodes tables 0 []
 no_contents told inodes tables = record { count = refl; each = λ i less. absurd (omega arith) }
 
-module _ (told : Option (List ℕ)) (inodes : List Inode) (tables : List (Roomy Table)) (n : ℕ) (old new : List (Roomy ℕ)) (before : AreContents told inodes tables n old) where
-  pub more_contents : (bytes : Roomy ℕ) → new ≡ old ++ bytes ∷ [] → HasContent told (inode_at inodes n) (tables_at tables n) (blocks_of_size (inode_at inodes n).size) bytes.items → AreContents told inodes tables (n + 1) new
+module _ (told : Option (List ℕ)) (inodes : List Inode) (tables : List (Roomy Table)) (n : ℕ) (old new : List (Roomy ℕ)) (before : AreReadContents told inodes tables n old) where
+  pub more_contents : (bytes : Roomy ℕ) → new ≡ old ++ bytes ∷ [] → HasContent told (inode_at inodes n) (tables_at tables n) (blocks_of_size (inode_at inodes n).size) bytes.items → AreReadContents told inodes tables (n + 1) new
   more_contents bytes put has = record {
     count = ap length put ∙ length-append old (bytes ∷ []) ∙ (let c = before.count in omega arith);
     each = λ i less. elim (cases_lt i n) [
-      | inl below ↦ (let same : bytes_at new i ≡ bytes_at old i = ap (λ (xs : List (Roomy ℕ)). bytes_at xs i) put ∙ ap (λ (b : Roomy ℕ). b.items) (get_or_append_left old (bytes ∷ []) (record { items = []; spare = 0 }) i (let c = before.count in omega arith)) in
+      | inl below ↦ (let same : bytes_of_inode new i ≡ bytes_of_inode old i = ap (λ (xs : List (Roomy ℕ)). bytes_of_inode xs i) put ∙ ap (λ (b : Roomy ℕ). b.items) (get_or_append_left old (bytes ∷ []) (record { items = []; spare = 0 }) i (let c = before.count in omega arith)) in
           subst (HasContent told (inode_at inodes i) (tables_at tables i) (blocks_of_size (inode_at inodes i).size)) (sym same) (before.each i below))
       | inr last ↦ (let here : n ≡ i = omega arith in
           let first : n - n ≡ 0 = omega arith in
-          let same : bytes_at new n ≡ bytes.items = ap (λ (xs : List (Roomy ℕ)). bytes_at xs n) put ∙ ap (λ (b : Roomy ℕ). b.items) (get_or-append_right old (bytes ∷ []) n n (record { items = []; spare = 0 }) before.count (omega arith) ∙ ap (λ (k : ℕ). get_or (bytes ∷ []) k (record { items = []; spare = 0 })) first) in
-          subst (λ (j : ℕ). HasContent told (inode_at inodes j) (tables_at tables j) (blocks_of_size (inode_at inodes j).size) (bytes_at new j)) here (subst (HasContent told (inode_at inodes n) (tables_at tables n) (blocks_of_size (inode_at inodes n).size)) (sym same) has))
+          let same : bytes_of_inode new n ≡ bytes.items = ap (λ (xs : List (Roomy ℕ)). bytes_of_inode xs n) put ∙ ap (λ (b : Roomy ℕ). b.items) (get_or-append_right old (bytes ∷ []) n n (record { items = []; spare = 0 }) before.count (omega arith) ∙ ap (λ (k : ℕ). get_or (bytes ∷ []) k (record { items = []; spare = 0 })) first) in
+          subst (λ (j : ℕ). HasContent told (inode_at inodes j) (tables_at tables j) (blocks_of_size (inode_at inodes j).size) (bytes_of_inode new j)) here (subst (HasContent told (inode_at inodes n) (tables_at tables n) (blocks_of_size (inode_at inodes n).size)) (sym same) has))
     ];
   }
 
@@ -87,36 +88,27 @@ module _ (told : Option (List ℕ)) (raw : List ℕ) (own : List Table) (bytes :
 
 -- the parts of all inodes
 module _ (told : Option (List ℕ)) (layout : Layout) (records : List (List ℕ)) (inodes : List Inode) (tables : List (Roomy Table)) (contents : List (Roomy ℕ)) (same : (i : ℕ) → i < layout.inodes → inode_at inodes i ≡ inode_of (slice_index_or records i []))
-    (has : (i : ℕ) → i < layout.inodes → HasTables told (inode_of (slice_index_or records i [])) (tables_at tables i)) (all : AreContents told inodes tables layout.inodes contents)
+    (has : (i : ℕ) → i < layout.inodes → HasTables told (inode_of (slice_index_or records i [])) (tables_at tables i)) (all : AreReadContents told inodes tables layout.inodes contents)
     (fits : (i : ℕ) → i < layout.inodes → blocks_of_size (inode_of (slice_index_or records i [])).size ≤ FILE_BLOCKS) where
-  content_at : (i : ℕ) → i < layout.inodes → HasContent told (inode_of (slice_index_or records i [])) (tables_at tables i) (blocks_of_size (inode_of (slice_index_or records i [])).size) (bytes_at contents i)
-  content_at i within = subst (λ (inode : Inode). HasContent told inode (tables_at tables i) (blocks_of_size inode.size) (bytes_at contents i)) (same i within) (all.each i within)
+  content_at : (i : ℕ) → i < layout.inodes → HasContent told (inode_of (slice_index_or records i [])) (tables_at tables i) (blocks_of_size (inode_of (slice_index_or records i [])).size) (bytes_of_inode contents i)
+  content_at i within = subst (λ (inode : Inode). HasContent told inode (tables_at tables i) (blocks_of_size inode.size) (bytes_of_inode contents i)) (same i within) (all.each i within)
 
-  part_or : (i : ℕ) → (i < layout.inodes) ⊎ (layout.inodes ≤ i) → Part
-  part_or i (inl within) = content_part told (slice_index_or records i []) (tables_at tables i) (bytes_at contents i) (has i within) (content_at i within) (fits i within)
-  part_or i (inr past) = record { raw = []; tables = []; blocks = [] }
+  abbrev own_part : (i : ℕ) → i < layout.inodes → Part
+  own_part i within = content_part told (slice_index_or records i []) (tables_at tables i) (bytes_of_inode contents i) (has i within) (content_at i within) (fits i within)
 
   pub content_parts : ℕ → Part
-  content_parts i = part_or i (cases_lt i layout.inodes)
+  content_parts = parts_made layout.inodes own_part
 
   pub hold_contents : HoldContents told layout records tables contents content_parts
-  unfolding content_parts part_or content_part
+  unfolding content_parts
   hold_contents = record {
-    read = λ i within. read_or i within (cases_lt i layout.inodes);
-    kept = λ i within. kept_or i within (cases_lt i layout.inodes);
-    blocks = λ i n within inside. blocks_or i n within inside (cases_lt i layout.inodes);
+    read = made_within layout.inodes own_part (λ i part. IsReadPart told (slice_index_or records i []) part)
+        (λ i within. content_part_read told (slice_index_or records i []) (tables_at tables i) (bytes_of_inode contents i) (has i within) (content_at i within) (fits i within));
+    kept = made_within layout.inodes own_part (λ i part. kept_tables part ≡ tables_at tables i)
+        (λ i within. content_part_kept told (slice_index_or records i []) (tables_at tables i) (bytes_of_inode contents i) (has i within) (content_at i within) (fits i within));
+    blocks = λ i n within inside.
+        made_within layout.inodes own_part
+        (λ i part. (n : ℕ) → n < blocks_of_size (inode_of (slice_index_or records i [])).size → slice_index_or part.blocks n [] ≡ Rattle.sfs_image.specs.Bytes.part (4096 * n) 4096 (bytes_of_inode contents i))
+        (λ i within n inside. content_part_blocks told (slice_index_or records i []) (tables_at tables i) (bytes_of_inode contents i) (has i within) (content_at i within) (fits i within) n inside) i within n inside;
     size = λ i within. (content_at i within).size;
   }
-    where
-      read_or : (i : ℕ) → i < layout.inodes → (o : (i < layout.inodes) ⊎ (layout.inodes ≤ i)) → IsReadPart told (slice_index_or records i []) (part_or i o)
-      read_or i within (inl here) = content_part_read told (slice_index_or records i []) (tables_at tables i) (bytes_at contents i) (has i here) (content_at i here) (fits i here)
-      read_or i within (inr past) = absurd (omega arith)
-
-      kept_or : (i : ℕ) → i < layout.inodes → (o : (i < layout.inodes) ⊎ (layout.inodes ≤ i)) → kept_tables (part_or i o) ≡ tables_at tables i
-      kept_or i within (inl here) = content_part_kept told (slice_index_or records i []) (tables_at tables i) (bytes_at contents i) (has i here) (content_at i here) (fits i here)
-      kept_or i within (inr past) = absurd (omega arith)
-
-      blocks_or : (i n : ℕ) → i < layout.inodes → n < blocks_of_size (inode_of (slice_index_or records i [])).size → (o : (i < layout.inodes) ⊎ (layout.inodes ≤ i)) →
-          slice_index_or (part_or i o).blocks n [] ≡ part (4096 * n) 4096 (bytes_at contents i)
-      blocks_or i n within inside (inl here) = content_part_blocks told (slice_index_or records i []) (tables_at tables i) (bytes_at contents i) (has i here) (content_at i here) (fits i here) n inside
-      blocks_or i n within inside (inr past) = absurd (omega arith)

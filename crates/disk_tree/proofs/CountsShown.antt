@@ -23,10 +23,10 @@ use Rattle.image_tree.specs.ImageTree.{NOTHING_MADE, shows_directory, is_used, t
 use Rattle.image_tree.specs.Keeps.{ruled_tree}
 use Rattle.image_tree.specs.Rules.{has_overfull_bucket, is_named_twice, has_wrong_links}
 use Rattle.image_tree.proofs.Images.{directory_shown}
-use Rattle.disk_tree.specs.Built.{row_entry, entries_at, row_entries}
+use Rattle.disk_tree.specs.Built.{entry_of_row, entries_at, row_entries}
 use Rattle.disk_tree.specs.First.{NonePasses}
 use Rattle.disk_tree.specs.Inodes.{inode_at}
-use Rattle.disk_tree.specs.Rows.{NO_ROW, rows_at, rows_in_slots, rows_in_bucket, has_full_bucket, named_by, directories_in, is_misplaced_by, HaveOwnNames}
+use Rattle.disk_tree.specs.Rows.{NO_ROW, rows_of_inode, rows_in_slots, rows_in_bucket, has_full_bucket, naming_below, directory_row_count, is_misplaced_by, HaveOwnNames}
 use Rattle.disk_tree.specs.Shown.{ShowsRows, CountTestsAreRules}
 use Rattle.disk_tree.specs.Tests.{rows_named, has_twice, breaks_eighth, breaks_tenth, breaks_twelfth, breaks_thirteenth}
 use Rattle.disk_tree.proofs.Entries.{own_entries, counted_from, len-names_where, entries_of, entries_naming}
@@ -42,10 +42,10 @@ own_names rows none at earlier within before same =
     (ap (bytes_eq (slice_index_or rows at NO_ROW).name) same ∙ same_bytes (slice_index_or rows at NO_ROW).name) (same_bytes (slice_index_or rows at NO_ROW).name)))) none
 
 -- rows of slots, as a tree has them
-tree_rows : (i : ℕ) (slots : List (Option Row)) → filter_map (tree_row i) slots ≡ map (row_entry i) (rows_in_slots slots)
+tree_rows : (i : ℕ) (slots : List (Option Row)) → filter_map (tree_row i) slots ≡ map (entry_of_row i) (rows_in_slots slots)
 tree_rows i [] = refl
 tree_rows i (None ∷ slots) = tree_rows i slots
-tree_rows i (Some row ∷ slots) = ap (λ (xs : List (Key × ℕ)). row_entry i row ∷ xs) (tree_rows i slots)
+tree_rows i (Some row ∷ slots) = ap (λ (xs : List (Key × ℕ)). entry_of_row i row ∷ xs) (tree_rows i slots)
 
 any_same : (p q : ℕ → Bool) (xs : List ℕ) → ((x : ℕ) → p x ≡ q x) → list_any p xs ≡ list_any q xs
 any_same p q [] same = refl
@@ -59,10 +59,10 @@ counted_same p q wrong (row ∷ rows) none same =
     count-cons p row rows ∙ ap (λ b. cond b 1 0 + count_by p rows) (same row both.0) ∙ ap (λ (k : ℕ). cond (q row) 1 0 + k) (counted_same p q wrong rows both.1 same) ∙ sym (count-cons q row rows)
 
 module _ (image : SeenInodes) (inodes : List Inode) (rows : List (Roomy Row)) (shows : ShowsRows image inodes rows) (long : length rows ≡ length inodes) (once : NonePasses image.count (breaks_eighth rows)) where
-  pub own : (i : ℕ) → HaveOwnNames (rows_at rows i) (length (rows_at rows i))
+  pub own : (i : ℕ) → HaveOwnNames (rows_of_inode rows i) (length (rows_of_inode rows i))
   own i = elim (cases_lt i image.count) [
-    | inl within ↦ own_names (rows_at rows i) (once i within)
-    | inr past ↦ own_names (rows_at rows i) (ap has_twice (ap (λ (r : Roomy Row). r.items) (get_or_past rows i (record { items = []; spare = 0 }) (let c = shows.count in omega arith))))
+    | inl within ↦ own_names (rows_of_inode rows i) (once i within)
+    | inr past ↦ own_names (rows_of_inode rows i) (ap has_twice (ap (λ (r : Roomy Row). r.items) (get_or_past rows i (record { items = []; spare = 0 }) (let c = shows.count in omega arith))))
   ]
 
   pub rows_are : image_rows image ≡ from_entries (row_entries rows image.count)
@@ -71,27 +71,27 @@ module _ (image : SeenInodes) (inodes : List Inode) (rows : List (Roomy Row)) (s
     where
       here : (i : ℕ) → i < image.count → rows_in image i ≡ entries_at rows i
       here i within = elim (cases_Bool (eqb (image.seen i).kind 2)) [
-        | inl directory ↦ ap (λ b. cond b (filter_map (tree_row i) (image.seen i).slots) []) directory ∙ tree_rows i (image.seen i).slots ∙ ap (map (row_entry i)) (sym (shows.slots i within (eqb-true _ _ directory)))
-        | inr other ↦ ap (λ b. cond b (filter_map (tree_row i) (image.seen i).slots) []) other ∙ ap (map (row_entry i)) (sym (shows.others i within (eqb-false _ _ other)))
+        | inl directory ↦ ap (λ b. cond b (filter_map (tree_row i) (image.seen i).slots) []) directory ∙ tree_rows i (image.seen i).slots ∙ ap (map (entry_of_row i)) (sym (shows.slots i within (eqb-true _ _ directory)))
+        | inr other ↦ ap (λ b. cond b (filter_map (tree_row i) (image.seen i).slots) []) other ∙ ap (map (entry_of_row i)) (sym (shows.others i within (eqb-false _ _ other)))
       ]
 
   counted : (p : Key × ℕ → Bool) → count_by p (entries (image_rows image)) ≡ count_by p (row_entries rows image.count)
   counted p = ap (λ (m : FinMap key_cmp ℕ). count_by p (entries m)) rows_are ∙ counted_from p (row_entries rows image.count) (own_entries rows own image.count)
 
-  pub count_is : (x : ℕ) → count_of (image_rows image) x ≡ named_by rows (length inodes) x
-  count_is x = counted (names_it x) ∙ entries_naming rows image.count x ∙ ap (λ (n : ℕ). named_by rows n x) shows.count
+  pub count_is : (x : ℕ) → count_of (image_rows image) x ≡ naming_below rows (length inodes) x
+  count_is x = counted (names_it x) ∙ entries_naming rows image.count x ∙ ap (λ (n : ℕ). naming_below rows n x) shows.count
 
-  bucket_is : (i number : ℕ) → i < image.count → len (bucket_rows i number (image_rows image)) ≡ rows_in_bucket (rows_at rows i) number
+  pub bucket_is : (i number : ℕ) → i < image.count → len (bucket_rows i number (image_rows image)) ≡ rows_in_bucket (rows_of_inode rows i) number
   bucket_is i number within =
       len-names_where i (λ name. nat_eq (bucket name) number) (image_rows image)
       ∙ counted (λ e. nat_eq e.0.0 i && nat_eq (bucket e.0.1) number)
       ∙ entries_of rows (λ e. nat_eq (bucket e.0.1) number) i image.count within
 
-  ninth : (i : ℕ) → i < image.count → (shows_directory (image.seen i) && has_overfull_bucket image i) ≡ has_full_bucket (rows_at rows i)
+  ninth : (i : ℕ) → i < image.count → (shows_directory (image.seen i) && has_overfull_bucket image i) ≡ has_full_bucket (rows_of_inode rows i)
   unfolding has_full_bucket
   ninth i within = elim (cases_Bool (eqb (image.seen i).kind 2)) [
     | inl directory ↦ ap (λ b. b && has_overfull_bucket image i) directory
-        ∙ any_same (λ number. nat_lt BUCKET_ROWS (len (bucket_rows i number (image_rows image)))) (λ number. nat_lt BUCKET_ROWS (rows_in_bucket (rows_at rows i) number)) (range_with_len 0 8) (λ number. ap (nat_lt BUCKET_ROWS) (bucket_is i number within))
+        ∙ any_same (λ number. nat_lt BUCKET_ROWS (len (bucket_rows i number (image_rows image)))) (λ number. nat_lt BUCKET_ROWS (rows_in_bucket (rows_of_inode rows i) number)) (range_with_len 0 8) (λ number. ap (nat_lt BUCKET_ROWS) (bucket_is i number within))
     | inr other ↦ ap (λ b. b && has_overfull_bucket image i) other ∙ sym (ap has_full_bucket (shows.others i within (eqb-false _ _ other)))
   ]
 
@@ -112,17 +112,17 @@ module _ (image : SeenInodes) (inodes : List Inode) (rows : List (Roomy Row)) (s
         directory_shown image NOTHING_MADE row.inode within
         ∙ ap (λ (k : ℕ). nat_eq k 2) (shows.kind row.inode within ∙ eqb-true _ _ (not_false _ both.1)) ∙ kind_test row.kind
 
-    inside_is : (i : ℕ) → i < image.count → count_by (holds_directory (ruled_tree image) i) (entries (image_rows image)) ≡ directories_in (rows_at rows i)
+    inside_is : (i : ℕ) → i < image.count → count_by (holds_directory (ruled_tree image) i) (entries (image_rows image)) ≡ directory_row_count (rows_of_inode rows i)
     inside_is i within =
         counted (holds_directory (ruled_tree image) i)
         ∙ entries_of rows (λ e. is_directory (ruled_tree image) e.1) i image.count within
-        ∙ counted_same (λ (row : Row). is_directory (ruled_tree image) row.inode) (λ (row : Row). is_directory_kind row.kind) (is_misplaced_by inodes) (rows_at rows i) (placed i within) child_is
+        ∙ counted_same (λ (row : Row). is_directory (ruled_tree image) row.inode) (λ (row : Row). is_directory_kind row.kind) (is_misplaced_by inodes) (rows_of_inode rows i) (placed i within) child_is
 
-    links_are : (i : ℕ) → i < image.count → links_of (ruled_tree image) i ≡ cond (nat_eq (inode_at inodes i).kind 2) (2 + directories_in (rows_at rows i)) (named_by rows (length inodes) i)
+    links_are : (i : ℕ) → i < image.count → links_of (ruled_tree image) i ≡ cond (nat_eq (inode_at inodes i).kind 2) (2 + directory_row_count (rows_of_inode rows i)) (naming_below rows (length inodes) i)
     links_are i within =
         ap (λ b. cond b (2 + count_by (holds_directory (ruled_tree image) i) (entries (image_rows image))) (count_of (image_rows image) i)) (directory_shown image NOTHING_MADE i within ∙ ap (λ (k : ℕ). nat_eq k 2) (shows.kind i within))
         ∙ ap (λ (n : ℕ). cond (nat_eq (inode_at inodes i).kind 2) (2 + n) (count_of (image_rows image) i)) (inside_is i within)
-        ∙ ap (cond (nat_eq (inode_at inodes i).kind 2) (2 + directories_in (rows_at rows i))) (count_is i)
+        ∙ ap (cond (nat_eq (inode_at inodes i).kind 2) (2 + directory_row_count (rows_of_inode rows i))) (count_is i)
 
     thirteenth : (i : ℕ) → i < image.count → (is_used image i && has_wrong_links image i) ≡ breaks_thirteenth inodes rows (length inodes) i
     thirteenth i within =

@@ -19,9 +19,9 @@ use Rattle.sfs_tree.proofs.Joined.{key_cmp_total, same_key, find-append, count-i
 use Rattle.sfs_tree.proofs.Counting.{count-le-len}
 use Rattle.sfs_base.proofs.BasicOptions.{some_not_none}
 use Rattle.sfs_tree.proofs.Names.{entries-names_where}
-use Rattle.disk_tree.specs.Built.{row_entry, entries_at, row_entries, entries_to}
-use Rattle.disk_tree.specs.Rows.{NO_ROW, rows_at, naming, named_by, HaveOwnNames}
-use Rattle.disk_tree.proofs.TablesRead.{range_more}
+use Rattle.disk_tree.specs.Built.{entry_of_row, entries_at, row_entries, entries_to}
+use Rattle.disk_tree.specs.Rows.{NO_ROW, rows_of_inode, naming, naming_below, HaveOwnNames}
+use Rattle.block_map.proofs.Places.{range_more}
 
 -- keys are the same where directory and name are
 key_is : (d e : ℕ) (n m : List ℕ) → eq_by_cmp key_cmp (d, n) (e, m) ≡ cond (nat_eq d e) (bytes_eq n m) false
@@ -108,17 +108,17 @@ module _ (rows : List (Roomy Row)) where
       ap (flat_map (entries_at rows)) (range_more 0 n ∙ (let e : 0 + n ≡ n = omega arith in ap (λ (k : ℕ). range_with_len 0 n ++ k ∷ []) e))
       ∙ flat_map-append (entries_at rows) (range_with_len 0 n) (n ∷ []) ∙ ap (λ (xs : List (Key × ℕ)). row_entries rows n ++ xs) (append-nil (entries_at rows n))
 
-  pub whole_entries : (i : ℕ) → entries_to rows i (length (rows_at rows i)) ≡ row_entries rows (i + 1)
-  whole_entries i = ap (λ (xs : List Row). row_entries rows i ++ map (row_entry i) xs) (take_all (length (rows_at rows i)) (rows_at rows i) (omega arith)) ∙ sym (more_entries i)
+  pub whole_entries : (i : ℕ) → entries_to rows i (length (rows_of_inode rows i)) ≡ row_entries rows (i + 1)
+  whole_entries i = ap (λ (xs : List Row). row_entries rows i ++ map (entry_of_row i) xs) (take_all (length (rows_of_inode rows i)) (rows_of_inode rows i) (omega arith)) ∙ sym (more_entries i)
 
-  pub entry_more : (i k : ℕ) → k < length (rows_at rows i) → entries_to rows i (k + 1) ≡ entries_to rows i k ++ row_entry i (slice_index_or (rows_at rows i) k NO_ROW) ∷ []
+  pub entry_more : (i k : ℕ) → k < length (rows_of_inode rows i) → entries_to rows i (k + 1) ≡ entries_to rows i k ++ entry_of_row i (slice_index_or (rows_of_inode rows i) k NO_ROW) ∷ []
   entry_more i k less =
-      ap (λ (xs : List Row). row_entries rows i ++ map (row_entry i) xs) (take_more (rows_at rows i) k NO_ROW less)
-      ∙ ap (λ (xs : List (Key × ℕ)). row_entries rows i ++ xs) (map-append (row_entry i) (take k (rows_at rows i)) (slice_index_or (rows_at rows i) k NO_ROW ∷ []))
-      ∙ sym (append_assoc (row_entries rows i) (map (row_entry i) (take k (rows_at rows i))) (row_entry i (slice_index_or (rows_at rows i) k NO_ROW) ∷ []))
+      ap (λ (xs : List Row). row_entries rows i ++ map (entry_of_row i) xs) (take_more (rows_of_inode rows i) k NO_ROW less)
+      ∙ ap (λ (xs : List (Key × ℕ)). row_entries rows i ++ xs) (map-append (entry_of_row i) (take k (rows_of_inode rows i)) (slice_index_or (rows_of_inode rows i) k NO_ROW ∷ []))
+      ∙ sym (append_assoc (row_entries rows i) (map (entry_of_row i) (take k (rows_of_inode rows i))) (entry_of_row i (slice_index_or (rows_of_inode rows i) k NO_ROW) ∷ []))
 
   pub first_entries : (i : ℕ) → entries_to rows i 0 ≡ row_entries rows i
-  first_entries i = ap (λ (xs : List Row). row_entries rows i ++ map (row_entry i) xs) (take_none (rows_at rows i)) ∙ append-nil (row_entries rows i)
+  first_entries i = ap (λ (xs : List Row). row_entries rows i ++ map (entry_of_row i) xs) (take_none (rows_of_inode rows i)) ∙ append-nil (row_entries rows i)
 
   -- no entry of an inode below stands in another directory
   none_below : (q : Key) (n : ℕ) → n ≤ q.0 → find key_cmp q (row_entries rows n) ≡ None
@@ -127,66 +127,66 @@ module _ (rows : List (Roomy Row)) where
       (let e : suc n ≡ n + 1 = omega arith in ap (λ (k : ℕ). find key_cmp q (row_entries rows k)) e)
       ∙ ap (find key_cmp q) (more_entries n) ∙ find-append key_cmp q (row_entries rows n) (entries_at rows n)
       ∙ ap (λ o. option_or o (find key_cmp q (entries_at rows n))) (none_below q n (omega arith))
-      ∙ others (rows_at rows n)
+      ∙ others (rows_of_inode rows n)
     where
-      others : (own : List Row) → find key_cmp q (map (row_entry n) own) ≡ None
+      others : (own : List Row) → find key_cmp q (map (entry_of_row n) own) ≡ None
       others [] = refl
-      others (row ∷ own) = ap (λ b. cond b (Some row.inode) (find key_cmp q (map (row_entry n) own))) (other_directory q.0 n q.1 row.name (λ same. omega arith)) ∙ others own
+      others (row ∷ own) = ap (λ b. cond b (Some row.inode) (find key_cmp q (map (entry_of_row n) own))) (other_directory q.0 n q.1 row.name (λ same. omega arith)) ∙ others own
 
   -- nor does one of the first rows have the name of a later one
-  none_before : (i : ℕ) (own : List Row) (name : List ℕ) → ((k : ℕ) → k < length own → name ≢ (slice_index_or own k NO_ROW).name) → find key_cmp (i, name) (map (row_entry i) own) ≡ None
+  none_before : (i : ℕ) (own : List Row) (name : List ℕ) → ((k : ℕ) → k < length own → name ≢ (slice_index_or own k NO_ROW).name) → find key_cmp (i, name) (map (entry_of_row i) own) ≡ None
   none_before i [] name apart = refl
   none_before i (row ∷ own) name apart =
-      ap (λ b. cond b (Some row.inode) (find key_cmp (i, name) (map (row_entry i) own))) (other_name i i name row.name (apart 0 (omega arith)))
+      ap (λ b. cond b (Some row.inode) (find key_cmp (i, name) (map (entry_of_row i) own))) (other_name i i name row.name (apart 0 (omega arith)))
       ∙ none_before i own name (λ k less. apart (suc k) (omega arith))
 
-  module _ (own : (i : ℕ) → HaveOwnNames (rows_at rows i) (length (rows_at rows i))) where
-    pub fresh_entry : (i k : ℕ) → k < length (rows_at rows i) → find key_cmp (i, (slice_index_or (rows_at rows i) k NO_ROW).name) (entries_to rows i k) ≡ None
+  module _ (own : (i : ℕ) → HaveOwnNames (rows_of_inode rows i) (length (rows_of_inode rows i))) where
+    pub fresh_entry : (i k : ℕ) → k < length (rows_of_inode rows i) → find key_cmp (i, (slice_index_or (rows_of_inode rows i) k NO_ROW).name) (entries_to rows i k) ≡ None
     fresh_entry i k less =
-        find-append key_cmp (i, (slice_index_or (rows_at rows i) k NO_ROW).name) (row_entries rows i) (map (row_entry i) (take k (rows_at rows i)))
-        ∙ ap (λ o. option_or o (find key_cmp (i, (slice_index_or (rows_at rows i) k NO_ROW).name) (map (row_entry i) (take k (rows_at rows i))))) (none_below (i, (slice_index_or (rows_at rows i) k NO_ROW).name) i (omega arith))
-        ∙ none_before i (take k (rows_at rows i)) (slice_index_or (rows_at rows i) k NO_ROW).name
+        find-append key_cmp (i, (slice_index_or (rows_of_inode rows i) k NO_ROW).name) (row_entries rows i) (map (entry_of_row i) (take k (rows_of_inode rows i)))
+        ∙ ap (λ o. option_or o (find key_cmp (i, (slice_index_or (rows_of_inode rows i) k NO_ROW).name) (map (entry_of_row i) (take k (rows_of_inode rows i))))) (none_below (i, (slice_index_or (rows_of_inode rows i) k NO_ROW).name) i (omega arith))
+        ∙ none_before i (take k (rows_of_inode rows i)) (slice_index_or (rows_of_inode rows i) k NO_ROW).name
         (λ j within same.
-        let before : j < k = omega (arith, Rattle.std.proofs.lemmas.List.length-take-le k (rows_at rows i) (omega arith)) in
-        own i k j less before (sym (same ∙ ap (λ (row : Row). row.name) (Rattle.std.proofs.lemmas.List.get_or-take k (rows_at rows i) j NO_ROW before))))
+        let before : j < k = omega (arith, Rattle.std.proofs.lemmas.List.length-take-le k (rows_of_inode rows i) (omega arith)) in
+        own i k j less before (sym (same ∙ ap (λ (row : Row). row.name) (Rattle.std.proofs.lemmas.List.get_or-take k (rows_of_inode rows i) j NO_ROW before))))
 
-    own_to : (i k : ℕ) → HaveOwnKeys (row_entries rows i) → k ≤ length (rows_at rows i) → HaveOwnKeys (entries_to rows i k)
+    own_to : (i k : ℕ) → HaveOwnKeys (row_entries rows i) → k ≤ length (rows_of_inode rows i) → HaveOwnKeys (entries_to rows i k)
     own_to i zero start le = subst HaveOwnKeys (sym (first_entries i)) start
     own_to i (suc k) start le =
         (let e : k + 1 ≡ suc k = omega arith in
         subst (λ (n : ℕ). HaveOwnKeys (entries_to rows i n)) e
-        (subst HaveOwnKeys (sym (entry_more i k (omega arith))) (own_more (entries_to rows i k) (row_entry i (slice_index_or (rows_at rows i) k NO_ROW)) (own_to i k start (omega arith)) (fresh_entry i k (omega arith)))))
+        (subst HaveOwnKeys (sym (entry_more i k (omega arith))) (own_more (entries_to rows i k) (entry_of_row i (slice_index_or (rows_of_inode rows i) k NO_ROW)) (own_to i k start (omega arith)) (fresh_entry i k (omega arith)))))
 
     pub own_entries : (n : ℕ) → HaveOwnKeys (row_entries rows n)
     own_entries zero = subst HaveOwnKeys (sym no_entries) tt
     own_entries (suc n) =
         (let e : n + 1 ≡ suc n = omega arith in
-        subst (λ (k : ℕ). HaveOwnKeys (row_entries rows k)) e (subst HaveOwnKeys (whole_entries n) (own_to n (length (rows_at rows n)) (own_entries n) (omega arith))))
+        subst (λ (k : ℕ). HaveOwnKeys (row_entries rows k)) e (subst HaveOwnKeys (whole_entries n) (own_to n (length (rows_of_inode rows n)) (own_entries n) (omega arith))))
 
-    pub own_entries_to : (i k : ℕ) → k ≤ length (rows_at rows i) → HaveOwnKeys (entries_to rows i k)
+    pub own_entries_to : (i k : ℕ) → k ≤ length (rows_of_inode rows i) → HaveOwnKeys (entries_to rows i k)
     own_entries_to i k le = own_to i k (own_entries i) le
 
   -- as many entries name an inode as were counted
-  pub entries_naming : (n x : ℕ) → count_by (names_it x) (row_entries rows n) ≡ named_by rows n x
+  pub entries_naming : (n x : ℕ) → count_by (names_it x) (row_entries rows n) ≡ naming_below rows n x
   entries_naming zero x = ap (count_by (names_it x)) no_entries
   entries_naming (suc n) x =
       (let e : suc n ≡ n + 1 = omega arith in ap (λ (k : ℕ). count_by (names_it x) (row_entries rows k)) e)
       ∙ ap (count_by (names_it x)) (more_entries n) ∙ count_append (names_it x) (row_entries rows n) (entries_at rows n)
-      ∙ (let a = entries_naming n x in let b = own_naming (rows_at rows n) in omega arith)
+      ∙ (let a = entries_naming n x in let b = own_naming (rows_of_inode rows n) in omega arith)
     where
-      own_naming : (own : List Row) → count_by (names_it x) (map (row_entry n) own) ≡ naming x own
+      own_naming : (own : List Row) → count_by (names_it x) (map (entry_of_row n) own) ≡ naming x own
       own_naming [] = refl
       own_naming (row ∷ own) =
-          count-cons (names_it x) (row_entry n row) (map (row_entry n) own) ∙ ap (λ (k : ℕ). cond (nat_eq row.inode x) 1 0 + k) (own_naming own) ∙ sym (count-cons (λ (row : Row). nat_eq row.inode x) row own)
+          count-cons (names_it x) (entry_of_row n row) (map (entry_of_row n) own) ∙ ap (λ (k : ℕ). cond (nat_eq row.inode x) 1 0 + k) (own_naming own) ∙ sym (count-cons (λ (row : Row). nat_eq row.inode x) row own)
 
   module _ (q : Key × ℕ → Bool) (i : ℕ) where
     abbrev own_test : Key × ℕ → Bool
     own_test e = nat_eq e.0.0 i && q e
 
-    pub other_rows : (j : ℕ) → (j ≡ i → ⊥) → (own : List Row) → count_by own_test (map (row_entry j) own) ≡ 0
+    pub other_rows : (j : ℕ) → (j ≡ i → ⊥) → (own : List Row) → count_by own_test (map (entry_of_row j) own) ≡ 0
     other_rows j other [] = refl
     other_rows j other (row ∷ own) =
-        (let c = count-cons own_test (row_entry j row) (map (row_entry j) own) ∙ ap (λ b. cond (b && q (row_entry j row)) 1 0 + count_by own_test (map (row_entry j) own)) (ne_eqb j i other) in
+        (let c = count-cons own_test (entry_of_row j row) (map (entry_of_row j) own) ∙ ap (λ b. cond (b && q (entry_of_row j row)) 1 0 + count_by own_test (map (entry_of_row j) own)) (ne_eqb j i other) in
         let h = other_rows j other own in
         omega arith)
 
@@ -195,31 +195,31 @@ module _ (rows : List (Roomy Row)) where
     none_in (suc m) le =
         (let e : suc m ≡ m + 1 = omega arith in ap (λ (k : ℕ). count_by own_test (row_entries rows k)) e)
         ∙ ap (count_by own_test) (more_entries m) ∙ count_append own_test (row_entries rows m) (entries_at rows m)
-        ∙ (let a = none_in m (omega arith) in let b = other_rows m (λ same. omega arith) (rows_at rows m) in omega arith)
+        ∙ (let a = none_in m (omega arith) in let b = other_rows m (λ same. omega arith) (rows_of_inode rows m) in omega arith)
 
-    pub own_rows : (own : List Row) → count_by own_test (map (row_entry i) own) ≡ count_by (λ row. q (row_entry i row)) own
+    pub own_rows : (own : List Row) → count_by own_test (map (entry_of_row i) own) ≡ count_by (λ row. q (entry_of_row i row)) own
     own_rows [] = refl
     own_rows (row ∷ own) =
-        count-cons own_test (row_entry i row) (map (row_entry i) own)
-        ∙ ap (λ b. cond (b && q (row_entry i row)) 1 0 + count_by own_test (map (row_entry i) own)) (eq-eqb i i refl)
-        ∙ ap (λ (k : ℕ). cond (q (row_entry i row)) 1 0 + k) (own_rows own) ∙ sym (count-cons (λ row. q (row_entry i row)) row own)
+        count-cons own_test (entry_of_row i row) (map (entry_of_row i) own)
+        ∙ ap (λ b. cond (b && q (entry_of_row i row)) 1 0 + count_by own_test (map (entry_of_row i) own)) (eq-eqb i i refl)
+        ∙ ap (λ (k : ℕ). cond (q (entry_of_row i row)) 1 0 + k) (own_rows own) ∙ sym (count-cons (λ row. q (entry_of_row i row)) row own)
 
     -- the same, of the first k of its rows
-    pub entries_of_to : (k : ℕ) → count_by own_test (entries_to rows i k) ≡ count_by (λ row. q (row_entry i row)) (take k (rows_at rows i))
+    pub entries_of_to : (k : ℕ) → count_by own_test (entries_to rows i k) ≡ count_by (λ row. q (entry_of_row i row)) (take k (rows_of_inode rows i))
     entries_of_to k =
-        count_append own_test (row_entries rows i) (map (row_entry i) (take k (rows_at rows i)))
-        ∙ (let a = none_in i (omega arith) in let b = own_rows (take k (rows_at rows i)) in omega arith)
+        count_append own_test (row_entries rows i) (map (entry_of_row i) (take k (rows_of_inode rows i)))
+        ∙ (let a = none_in i (omega arith) in let b = own_rows (take k (rows_of_inode rows i)) in omega arith)
 
     -- the entries of one directory that pass a test are its own rows that do
-    pub entries_of : (n : ℕ) → i < n → count_by own_test (row_entries rows n) ≡ count_by (λ row. q (row_entry i row)) (rows_at rows i)
+    pub entries_of : (n : ℕ) → i < n → count_by own_test (row_entries rows n) ≡ count_by (λ row. q (entry_of_row i row)) (rows_of_inode rows i)
     entries_of zero less = absurd (omega arith)
     entries_of (suc n) less =
         (let e : suc n ≡ n + 1 = omega arith in ap (λ (k : ℕ). count_by own_test (row_entries rows k)) e)
         ∙ ap (count_by own_test) (more_entries n) ∙ count_append own_test (row_entries rows n) (entries_at rows n)
         ∙ elim (cases_lt i n) [
-          | inl below ↦ (let a = entries_of n below in let b = other_rows n (λ same. omega arith) (rows_at rows n) in omega arith)
+          | inl below ↦ (let a = entries_of n below in let b = other_rows n (λ same. omega arith) (rows_of_inode rows n) in omega arith)
           | inr last ↦ (let e : n ≡ i = omega arith in
               let a = none_in n (omega arith) in
-              let b : count_by own_test (entries_at rows n) ≡ count_by (λ row. q (row_entry i row)) (rows_at rows i) = ap (λ (j : ℕ). count_by own_test (entries_at rows j)) e ∙ own_rows (rows_at rows i) in
+              let b : count_by own_test (entries_at rows n) ≡ count_by (λ row. q (entry_of_row i row)) (rows_of_inode rows i) = ap (λ (j : ℕ). count_by own_test (entries_at rows j)) e ∙ own_rows (rows_of_inode rows i) in
               omega arith)
         ]

@@ -10,8 +10,11 @@ pub mod MarksSet
 pub mod NamesMet
 pub mod NamesTwice
 pub mod NodesPut
+pub mod PartsKept
+pub mod PartsMade
 pub mod PartsRead
 pub mod PartsShown
+pub mod PartsSound
 pub mod PointersJudged
 pub mod Putting
 pub mod ReachedShown
@@ -20,7 +23,12 @@ pub mod Refusals
 pub mod RowsCounted
 pub mod RowsGathered
 pub mod RowsShown
+pub mod RulesOrdered
+pub mod RulesJudged
 pub mod SlotsRead
 pub mod TablesGathered
 pub mod TablesRead
+pub mod ToldRead
+pub mod TreeRead
+pub mod TreeShown
 pub mod Visited

@@ -9,7 +9,7 @@ use Rattle.sfs_base.proofs.BasicOptions.{none_not_some}
 use Rattle.std.specs.FinMap.{FinMap, get, empty, insert, get-empty, get-insert}
 use Rattle.sfs_tree.specs.Order.{name_cmp}
 use Rattle.sfs_image.specs.Slot.{Row}
-use Rattle.disk_tree.specs.Rows.{HaveOwnNames, HaveOneName, NO_ROW}
+use Rattle.disk_tree.specs.Rows.{HaveOwnNames, HaveDuplicateName, NO_ROW}
 
 -- The names of the first rows, each its own.
 pub record NamesSoFar (rows : List Row) (n : ℕ) (names : FinMap name_cmp ℕ) : Type 0 where
@@ -61,5 +61,5 @@ module _ (rows : List Row) (n : ℕ) (names : FinMap name_cmp ℕ) (before : Nam
       by name some (inl same) = (n, omega arith, sym (bytes_same name (name_at n) same))
       by name some (inr other) = (let one = before.only name (is_there (sym (looked name ∙ cond-false (bytes_eq name (name_at n)) (Some child) (get names name) other)) some) in (one.0, (let h = one.1 in omega arith), one.2))
 
-  pub met_twice : (at : ℕ) → n ≡ at → n < length rows → IsSome (get names (name_at n)) → HaveOneName rows
+  pub met_twice : (at : ℕ) → n ≡ at → n < length rows → IsSome (get names (name_at n)) → HaveDuplicateName rows
   met_twice at same within some = (let one = before.only (name_at n) some in record { at = n; earlier = one.0; within = within; before = one.1; same = one.2 })

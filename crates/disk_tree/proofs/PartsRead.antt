@@ -24,8 +24,9 @@ use Rattle.disk_tree.specs.declared.fault.TreeFault.{TreeFault}
 use Rattle.disk_tree.specs.declared.fault.TreeFault.TheVariants.{DiskFailed, BadImage, NoMemory}
 use Rattle.disk_tree.specs.Pointers.{points_badly, AreJudgedTables}
 use Rattle.disk_tree.specs.Reading.{IsReadBlock, HasTables}
-use Rattle.disk_tree.proofs.InodesRead.{inode_at_record}
-use Rattle.disk_tree.proofs.PointersJudged.{rule_by_kept, unread_tables}
+use Rattle.disk_tree.proofs.InodesRead.{inode_at_record, length_inodes}
+use Rattle.disk_tree.proofs.PartsMade.{parts_made, made_within}
+use Rattle.disk_tree.proofs.PointersJudged.{free_indirect, rule_by_kept, unread_tables}
 use Rattle.disk_tree.proofs.Refusals.{store_of, store_reads, refused_at, byte_rule}
 
 -- the part of a record whose indirect blocks were read, and nothing else of it
@@ -64,18 +65,14 @@ module _ (told : Option (List ℕ)) (raw : List ℕ) (part : Part) (read : IsRea
 pub free_pointers : (inode : Inode) (blocks : List (List ℕ)) → IsFree inode → (place : ℕ) → place < PLACES → pointer_kept inode (tables_kept inode blocks) place ≡ 0
 free_pointers inode blocks free place within =
     elim (cases_lt place FILE_BLOCKS) [
-      | inr behind ↦ cond-false (ltb place FILE_BLOCKS) _ _ (le-ltb place FILE_BLOCKS behind) ∙ none (place - FILE_BLOCKS)
+      | inr behind ↦ cond-false (ltb place FILE_BLOCKS) _ _ (le-ltb place FILE_BLOCKS behind) ∙ free_indirect inode free (place - FILE_BLOCKS)
       | inl block ↦ cond-true (ltb place FILE_BLOCKS) _ _ (lt-ltb place FILE_BLOCKS block) ∙ elim (cases_lt place 108) [
         | inl near ↦ cond-true (ltb place 108) _ _ (lt-ltb place 108 near) ∙ ap (λ (xs : List ℕ). slice_index xs place) free.direct ∙ zeros_read 108 place
         | inr far ↦ cond-false (ltb place 108) _ _ (le-ltb place 108 far)
             ∙ ap (λ (o : Option Table). option_map_or (λ table. slice_index table.pointers (entry_of place)) o 0)
-            (table_found inode blocks (table_of place) (omega arith) ∙ cond-true (eqb (slice_index inode.indirect (table_of place)) 0) _ _ (eq-eqb _ _ (none (table_of place))))
+            (table_found inode blocks (table_of place) (omega arith) ∙ cond-true (eqb (slice_index inode.indirect (table_of place)) 0) _ _ (eq-eqb _ _ (free_indirect inode free (table_of place))))
       ]
     ]
-  where
-    none : (k : ℕ) → slice_index inode.indirect k ≡ 0
-    none k = ap (λ (xs : List ℕ). slice_index xs k) free.indirect ∙ zeros_read 16 k
-
 module _ (told : Option (List ℕ)) (layout : Layout) (records : List (List ℕ)) (count : length records ≡ layout.inodes) (inodes : List Inode) (are : inodes ≡ map inode_of records) (fit : All IsInode inodes) where
   abbrev raw_at : ℕ → List ℕ
   raw_at i = slice_index_or records i []
@@ -83,11 +80,8 @@ module _ (told : Option (List ℕ)) (layout : Layout) (records : List (List ℕ)
   pub own_inode : (i : ℕ) → i < layout.inodes → inode_at inodes i ≡ inode_of (raw_at i)
   own_inode i within = inode_at_record records inodes i are (omega arith)
 
-  pub inodes_count : length inodes ≡ layout.inodes
-  inodes_count = ap length are ∙ Rattle.std.proofs.lemmas.List.length-map records inode_of ∙ count
-
   pub fits_at : (i : ℕ) → i < layout.inodes → IsInode (inode_of (raw_at i))
-  fits_at i within = subst IsInode (own_inode i within) (All-get_or IsInode inodes i (inode_of []) (let c = inodes_count in omega arith) fit)
+  fits_at i within = subst IsInode (own_inode i within) (All-get_or IsInode inodes i (inode_of []) (let c = (length_inodes layout records inodes count are) in omega arith) fit)
 
   -- parts that were read and whose indirect blocks are kept so
   module _ (tables : List (Roomy Table)) (parts : ℕ → Part) (read : AreReadParts told layout records parts) where
@@ -149,6 +143,19 @@ module _ (told : Option (List ℕ)) (layout : Layout) (records : List (List ℕ)
               ap (λ b. not b && (any_below i (λ j. stands_below PLACES (parts j) (pointer_at (parts i) at)) || stands_below at (parts i) (pointer_at (parts i) at))) (ne_eqb _ _ there)
               ∙ or_right (any_below i (λ j. stands_below PLACES (parts j) (pointer_at (parts i) at))) _ (any_below-at at (λ place. eqb (pointer_at (parts i) place) (pointer_at (parts i) at)) one.0 one.1 (eq-eqb _ _ same))
 
+  -- parts of inodes whose indirect blocks were read
+  module _ (tables : List (Roomy Table)) (has : (i : ℕ) → i < layout.inodes → HasTables told (inode_of (raw_at i)) (tables_at tables i)) where
+    pub parts_of_tables : ℕ → Part
+    parts_of_tables = parts_made layout.inodes (λ i within. part_from told (raw_at i) (tables_at tables i) (has i within))
+
+    pub parts_of_tables_read : AreReadParts told layout records parts_of_tables
+    unfolding parts_of_tables
+    parts_of_tables_read = made_within layout.inodes (λ i within. part_from told (raw_at i) (tables_at tables i) (has i within)) (λ i part. IsReadPart told (raw_at i) part) (λ i within. part_from_read told (raw_at i) (tables_at tables i) (has i within))
+
+    pub parts_of_tables_kept : KeepTables layout tables parts_of_tables
+    unfolding parts_of_tables
+    parts_of_tables_kept = made_within layout.inodes (λ i within. part_from told (raw_at i) (tables_at tables i) (has i within)) (λ i part. kept_tables part ≡ tables_at tables i) (λ i within. part_from_kept told (raw_at i) (tables_at tables i) (has i within))
+
   -- the tables of an inode were judged, as those of its record
   judged_has : (i : ℕ) → i < layout.inodes → (badly : Bool) (own : List Table) → AreJudgedTables told layout (inode_at inodes i) badly own → HasTables told (inode_of (raw_at i)) own
   judged_has i within badly own judged = subst (λ (inode : Inode). HasTables told inode own) (own_inode i within) judged.has
@@ -176,7 +183,7 @@ module _ (told : Option (List ℕ)) (layout : Layout) (records : List (List ℕ)
 
   module _ (broken rule : ℕ) (breaks : BreaksFourth told layout inodes broken rule) where
     broken_within : broken < layout.inodes
-    broken_within = subst (λ (n : ℕ). broken < n) inodes_count breaks.within
+    broken_within = subst (λ (n : ℕ). broken < n) (length_inodes layout records inodes count are) breaks.within
 
     choice : (i : ℕ) → Chosen broken i
     choice i = elim (cases_order i broken) [
@@ -213,34 +220,17 @@ module _ (told : Option (List ℕ)) (layout : Layout) (records : List (List ℕ)
 
   -- where all tables were read
   module _ (tables : List (Roomy Table)) (all : AreTables told layout inodes layout.inodes tables) where
-    has_at : (i : ℕ) → i < layout.inodes → HasTables told (inode_of (raw_at i)) (tables_at tables i)
+    pub has_at : (i : ℕ) → i < layout.inodes → HasTables told (inode_of (raw_at i)) (tables_at tables i)
     has_at i within = judged_has i within false (tables_at tables i) (all.each i within)
 
-    -- the part of each inode
-    own_part : (i : ℕ) → (i < layout.inodes) ⊎ (layout.inodes ≤ i) → Part
-    own_part i (inl within) = part_from told (raw_at i) (tables_at tables i) (has_at i within)
-    own_part i (inr past) = record { raw = raw_at i; tables = []; blocks = [] }
-
-    pub table_parts : ℕ → Part
-    table_parts i = own_part i (cases_lt i layout.inodes)
-
-    own_part_read : (i : ℕ) → i < layout.inodes → (o : (i < layout.inodes) ⊎ (layout.inodes ≤ i)) → IsReadPart told (raw_at i) (own_part i o)
-    unfolding own_part part_from
-    own_part_read i within (inl here) = part_from_read told (raw_at i) (tables_at tables i) (has_at i here)
-    own_part_read i within (inr past) = absurd (omega arith)
-
-    own_part_kept : (i : ℕ) → i < layout.inodes → (o : (i < layout.inodes) ⊎ (layout.inodes ≤ i)) → kept_tables (own_part i o) ≡ tables_at tables i
-    unfolding own_part part_from
-    own_part_kept i within (inl here) = part_from_kept told (raw_at i) (tables_at tables i) (has_at i here)
-    own_part_kept i within (inr past) = absurd (omega arith)
+    abbrev table_parts : ℕ → Part
+    table_parts = parts_of_tables tables has_at
 
     pub table_parts_read : AreReadParts told layout records table_parts
-    unfolding table_parts
-    table_parts_read i within = own_part_read i within (cases_lt i layout.inodes)
+    table_parts_read = parts_of_tables_read tables has_at
 
     pub table_parts_kept : KeepTables layout tables table_parts
-    unfolding table_parts
-    table_parts_kept i within = own_part_kept i within (cases_lt i layout.inodes)
+    table_parts_kept = parts_of_tables_kept tables has_at
 
     -- each pointer lies below the disk's blocks
     pub pointers_below : (i place : ℕ) → i < layout.inodes → place < PLACES → 0 < layout.blocks → pointer_in inodes tables i place < layout.blocks
@@ -262,7 +252,7 @@ module _ (told : Option (List ℕ)) (layout : Layout) (records : List (List ℕ)
 
     pub fifth_refused : KeepRecordRules layout records → (i : ℕ) → SharesFirst inodes tables i → Refused told layout records i 5
     fifth_refused keep i shares =
-        let within : i < layout.inodes = subst (λ (n : ℕ). i < n) inodes_count shares.within in
+        let within : i < layout.inodes = subst (λ (n : ℕ). i < n) (length_inodes layout records inodes count are) shares.within in
         refused_at told layout records table_parts 5 i table_parts_read (omega arith) (omega arith)
         (λ lesser j low high inside. byte_rule layout table_parts lesser j (omega arith) ∙ lesser_four keep table_parts table_parts_read table_parts_kept lesser j low (omega arith) inside)
         (record {
@@ -278,7 +268,7 @@ module _ (told : Option (List ℕ)) (layout : Layout) (records : List (List ℕ)
       keep = λ parts read kept rule j low high within. elim (cases_lt rule 5) [
         | inl less ↦ lesser_four keep parts read kept rule j low (omega arith) within
         | inr here ↦ (let same : 5 ≡ rule = omega arith in
-            subst (λ (r : ℕ). breaks_bytes_rule r layout parts j ≡ false) same (fifth_rule tables parts read kept (length inodes) j marked once (let c = inodes_count in omega arith) within))
+            subst (λ (r : ℕ). breaks_bytes_rule r layout parts j ≡ false) same (fifth_rule tables parts read kept (length inodes) j marked once (let c = (length_inodes layout records inodes count are) in omega arith) within))
       ];
     }
 

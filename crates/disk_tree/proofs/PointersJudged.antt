@@ -28,6 +28,10 @@ use Rattle.disk_tree.proofs.TablesRead.{filter_map_same}
 hole_well : (layout : Layout) (size pointer first : ℕ) → pointer ≡ 0 → points_well layout size pointer first ≡ true
 hole_well layout size pointer first none = or_left (eqb pointer 0) _ (eq-eqb pointer 0 none)
 
+not_true : (b : Bool) → not b ≡ true → b ≡ false
+not_true true e = absurd (not_both_of false e refl)
+not_true false e = refl
+
 module _ (layout : Layout) (part : Part) where
   abbrev inode : Inode
   inode = inode_in part
@@ -86,10 +90,6 @@ module _ (layout : Layout) (part : Part) where
         let small : one.0 < 16 = subst (λ (n : ℕ). one.0 < n) indirect_count one.1 in
         bad_place (FILE_BLOCKS + one.0) (omega arith) (indirect_well one.0 ∙ not_true _ one.2))
   ]
-    where
-      not_true : (b : Bool) → not b ≡ true → b ≡ false
-      not_true true e = absurd (not_both_of false e refl)
-      not_true false e = refl
 
   -- the same for an indirect block
   table_bad : (k : ℕ) → k < 16 → badly_kept (table_kept inode part.tables k) ≡ true → any_below PLACES (λ place. not (is_good_pointer layout part place)) ≡ true
@@ -99,10 +99,6 @@ module _ (layout : Layout) (part : Part) where
         let one = any_below-some 1024 (λ e. not (points_well layout inode.size (slice_index (pointers_of (slice_index_or part.tables k [])) e) (4096 * (108 + 1024 * k) + 4096 * e))) here in
         bad_place (108 + 1024 * k + one.0) (let h = one.1 in omega arith) (entry_well k one.0 small one.1 ∙ not_true _ one.2))
   ]
-    where
-      not_true : (b : Bool) → not b ≡ true → b ≡ false
-      not_true true e = absurd (not_both_of false e refl)
-      not_true false e = refl
 
   -- where no pointer that is kept points badly each place points well
   module _ (record_good : record_points_badly layout inode ≡ false) (tables_good : tables_point_badly layout inode.size (kept_tables part) ≡ false) (holes : (k : ℕ) → k < 16 → slice_index inode.indirect k ≡ 0 → (e : ℕ) → slice_index (pointers_of (slice_index_or part.tables k [])) e ≡ 0) where
@@ -160,6 +156,10 @@ rule_by_kept layout part holes = ap (λ b. not (is_free_part part) && b) (by (ca
         any_below-from PLACES _ (λ place within. ap not (all_well layout part good fine holes place within))
         ∙ sym (or_from (record_points_badly layout (inode_in part)) _ good fine)
 
+-- a free inode has no pointer to an indirect block
+pub free_indirect : (own : Inode) → IsFree own → (k : ℕ) → slice_index own.indirect k ≡ 0
+free_indirect own free k = ap (λ (xs : List ℕ). slice_index xs k) free.indirect ∙ zeros_read 16 k
+
 -- the indirect blocks of a free inode
 free_tables : (told : Option (List ℕ)) (inode : Inode) → IsFree inode → HasTables told inode []
 unfolding tables_kept
@@ -167,14 +167,11 @@ free_tables told inode free = record {
   blocks = replicate 16 (zeros 4096);
   read = record {
     count = refl;
-    each = λ k small. record { hole = λ _. zeros_there k small; gives = λ content _. zeros_there k small ∙ sym (hole_is_read (image_block content) (slice_index inode.indirect k) (none k)) };
+    each = λ k small. record { hole = λ _. zeros_there k small; gives = λ content _. zeros_there k small ∙ sym (hole_is_read (image_block content) (slice_index inode.indirect k) (free_indirect inode free k)) };
   };
-  kept = sym (filter_map_same (table_kept inode (replicate 16 (zeros 4096))) (λ _. None) 0 16 (λ k low high. cond-true (eqb (slice_index inode.indirect k) 0) _ _ (eq-eqb _ _ (none k))));
+  kept = sym (filter_map_same (table_kept inode (replicate 16 (zeros 4096))) (λ _. None) 0 16 (λ k low high. cond-true (eqb (slice_index inode.indirect k) 0) _ _ (eq-eqb _ _ (free_indirect inode free k))));
 }
   where
-    none : (k : ℕ) → slice_index inode.indirect k ≡ 0
-    none k = ap (λ (xs : List ℕ). slice_index xs k) free.indirect ∙ zeros_read 16 k
-
     zeros_there : (k : ℕ) → k < 16 → slice_index_or (replicate 16 (zeros 4096)) k [] ≡ zeros 4096
     zeros_there k small = get_or-replicate 16 k (zeros 4096) [] small
 

@@ -14,15 +14,15 @@ use Rattle.sfs_tree.specs.Tree.{TreeState, row_of, is_directory, bucket_rows}
 use Rattle.sfs_tree.proofs.Joined.{key_cmp_total, key_cmp-IsAntisymmetric}
 use Rattle.disk_tree.specs.Built.{entries_to, MayPut, with_entries}
 use Rattle.disk_tree.specs.Reached.{row_at}
-use Rattle.disk_tree.specs.Rows.{NO_ROW, rows_at}
+use Rattle.disk_tree.specs.Rows.{NO_ROW, rows_of_inode}
 use Rattle.disk_tree.proofs.Entries.{fresh_entry, entry_more, own_entries_to, counted_from, len-names_where, entries_of_to, count_append}
 
-count_take : {X : Type 0} (p : X → Bool) (xs : List X) (k : ℕ) → count_by p (take k xs) ≤ count_by p xs
+pub count_take : {X : Type 0} (p : X → Bool) (xs : List X) (k : ℕ) → count_by p (take k xs) ≤ count_by p xs
 count_take p xs k = (let a = count_append p (take k xs) (drop k xs) in let b = ap (count_by p) (take-append-drop k xs) in omega arith)
 
-module _ (start : TreeState) (rows : List (Roomy Row)) (may : MayPut start rows) (i k : ℕ) (less : k < length (rows_at rows i)) where
+module _ (start : TreeState) (rows : List (Roomy Row)) (may : MayPut start rows) (i k : ℕ) (less : k < length (rows_of_inode rows i)) where
   abbrev row : Row
-  row = row_at (rows_at rows i) k
+  row = row_at (rows_of_inode rows i) k
 
   pub put_directory : is_directory (with_entries start (entries_to rows i k)) i ≡ true
   put_directory = may.directories i k less
@@ -42,8 +42,8 @@ module _ (start : TreeState) (rows : List (Roomy Row)) (may : MayPut start rows)
       let all = len-names_where i (λ name. nat_eq (bucket name) (bucket row.name)) (from_entries (entries_to rows i k)) in
       let from = counted_from (λ e. Rattle.std.specs.Prelude.◌&&◌ (nat_eq e.0.0 i) (nat_eq (bucket e.0.1) (bucket row.name))) (entries_to rows i k) (own_entries_to rows may.own i k (omega arith)) in
       let own = entries_of_to rows (λ e. nat_eq (bucket e.0.1) (bucket row.name)) i k in
-      let one = count_by_more_yes in_bucket (rows_at rows i) k NO_ROW less (eq-eqb (bucket row.name) (bucket row.name) refl) in
-      let few = count_take in_bucket (rows_at rows i) (k + 1) in
+      let one = count_by_more_yes in_bucket (rows_of_inode rows i) k NO_ROW less (eq-eqb (bucket row.name) (bucket row.name) refl) in
+      let few = count_take in_bucket (rows_of_inode rows i) (k + 1) in
       let room = may.room i (bucket row.name) in
       omega (arith, all, from, own, one, few, room)
 

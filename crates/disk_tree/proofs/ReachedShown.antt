@@ -26,11 +26,11 @@ use Rattle.image_tree.specs.ImageTree.{image_rows}
 use Rattle.image_tree.specs.Keeps.{ruled_tree}
 use Rattle.image_tree.specs.Rules.{is_unreached}
 use Rattle.disk_tree.specs.Apart.{is_marked}
-use Rattle.disk_tree.specs.Built.{row_entry, row_entries, entries_at, entries_to}
+use Rattle.disk_tree.specs.Built.{entry_of_row, row_entries, entries_at, entries_to}
 use Rattle.disk_tree.specs.First.{NonePasses}
 use Rattle.disk_tree.specs.Inodes.{inode_at}
-use Rattle.disk_tree.specs.Reached.{row_at, IsReached, root, named, MarksReached}
-use Rattle.disk_tree.specs.Rows.{NO_ROW, rows_at, named_by, is_misplaced_by}
+use Rattle.disk_tree.specs.Reached.{row_at, IsReachedFromRoot, root, named, MarksReached}
+use Rattle.disk_tree.specs.Rows.{NO_ROW, rows_of_inode, naming_below, is_misplaced_by}
 use Rattle.disk_tree.specs.Shown.{ShowsRows, ReachedTestIsRule}
 use Rattle.disk_tree.specs.Tests.{breaks_eighth, breaks_tenth, breaks_eleventh, breaks_twelfth}
 use Rattle.disk_tree.proofs.CountsShown.{count_is, rows_are, own}
@@ -47,28 +47,28 @@ module _ (image : SeenInodes) (inodes : List Inode) (rows : List (Roomy Row)) (s
   record RowBack (d : ℕ) (name : List ℕ) (x n : ℕ) : Type 0 where
     within : d < n
     k : ℕ
-    inside : k < length (rows_at rows d)
-    is : (row_at (rows_at rows d) k).inode ≡ x
+    inside : k < length (rows_of_inode rows d)
+    is : (row_at (rows_of_inode rows d) k).inode ≡ x
 
   record InRows (d : ℕ) (x : ℕ) (own : List Row) : Type 0 where
     k : ℕ
     inside : k < length own
     is : (row_at own k).inode ≡ x
 
-  in_rows : (d n : ℕ) (name : List ℕ) (x : ℕ) (own : List Row) → find key_cmp (d, name) (map (row_entry n) own) ≡ Some x → (d ≡ n) × InRows d x own
+  in_rows : (d n : ℕ) (name : List ℕ) (x : ℕ) (own : List Row) → find key_cmp (d, name) (map (entry_of_row n) own) ≡ Some x → (d ≡ n) × InRows d x own
   in_rows d n name x [] is = absurd (none_some is)
   in_rows d n name x (row ∷ own) is = by (cases_Bool (eq_by_cmp key_cmp (d, name) (n, row.name))) (in_rows d n name x own)
     where
-      by : (eq_by_cmp key_cmp (d, name) (n, row.name) ≡ true) ⊎ (eq_by_cmp key_cmp (d, name) (n, row.name) ≡ false) → (find key_cmp (d, name) (map (row_entry n) own) ≡ Some x → (d ≡ n) × InRows d x own) → (d ≡ n) × InRows d x (row ∷ own)
+      by : (eq_by_cmp key_cmp (d, name) (n, row.name) ≡ true) ⊎ (eq_by_cmp key_cmp (d, name) (n, row.name) ≡ false) → (find key_cmp (d, name) (map (entry_of_row n) own) ≡ Some x → (d ≡ n) × InRows d x own) → (d ≡ n) × InRows d x (row ∷ own)
       by (inl same) rest = (
         elim (cases_Bool (nat_eq d n)) [
           | inl e ↦ eqb-true _ _ e
           | inr other ↦ absurd (not_both_of (eq_by_cmp key_cmp (d, name) (n, row.name)) same (other_directory d n name row.name (eqb-false _ _ other)))
         ],
-        record { k = 0; inside = omega arith; is = some_same (sym (cond-true (eq_by_cmp key_cmp (d, name) (n, row.name)) (Some row.inode) (find key_cmp (d, name) (map (row_entry n) own)) same) ∙ is) },
+        record { k = 0; inside = omega arith; is = some_same (sym (cond-true (eq_by_cmp key_cmp (d, name) (n, row.name)) (Some row.inode) (find key_cmp (d, name) (map (entry_of_row n) own)) same) ∙ is) },
       )
       by (inr other) rest =
-          (let found = rest (sym (cond-false (eq_by_cmp key_cmp (d, name) (n, row.name)) (Some row.inode) (find key_cmp (d, name) (map (row_entry n) own)) other) ∙ is) in
+          (let found = rest (sym (cond-false (eq_by_cmp key_cmp (d, name) (n, row.name)) (Some row.inode) (find key_cmp (d, name) (map (entry_of_row n) own)) other) ∙ is) in
           let one = found.1 in
           (found.0, record { k = suc one.k; inside = (let h = one.inside in omega arith); is = one.is }))
 
@@ -82,78 +82,78 @@ module _ (image : SeenInodes) (inodes : List Inode) (rows : List (Roomy Row)) (s
       by : (o : Option ℕ) → find key_cmp (d, name) (row_entries rows n) ≡ o → option_or o (find key_cmp (d, name) (entries_at rows n)) ≡ Some x → (find key_cmp (d, name) (row_entries rows n) ≡ Some x → RowBack d name x n) → RowBack d name x (suc n)
       by (Some y) found same rest = (let one = rest (found ∙ same) in record { within = (let h = one.within in omega arith); k = one.k; inside = one.inside; is = one.is })
       by None found same rest =
-          (let one = in_rows d n name x (rows_at rows n) same in
+          (let one = in_rows d n name x (rows_of_inode rows n) same in
           let e : n ≡ d = sym one.0 in
           let own = one.1 in
           record {
             within = (let h = one.0 in omega arith);
             k = own.k;
-            inside = subst (λ (j : ℕ). own.k < length (rows_at rows j)) e own.inside;
-            is = subst (λ (j : ℕ). (row_at (rows_at rows j) own.k).inode ≡ x) e own.is;
+            inside = subst (λ (j : ℕ). own.k < length (rows_of_inode rows j)) e own.inside;
+            is = subst (λ (j : ℕ). (row_at (rows_of_inode rows j) own.k).inode ≡ x) e own.is;
           })
 
   row_back : (d : ℕ) (name : List ℕ) (x : ℕ) → row_of tree d name ≡ Some x → RowBack d name x image.count
   row_back d name x is =
       in_entries image.count d name x (sym (ap (λ (m : FinMap key_cmp ℕ). get m (d, name)) (rows_are image inodes rows shows long once) ∙ get-from_entries key_cmp_total (row_entries rows image.count) (d, name)) ∙ is)
 
-  module _ (d k : ℕ) (inside : k < length (rows_at rows d)) where
+  module _ (d k : ℕ) (inside : k < length (rows_of_inode rows d)) where
     abbrev key : Key
-    key = (d, (row_at (rows_at rows d) k).name)
+    key = (d, (row_at (rows_of_inode rows d) k).name)
 
-    at_k : find key_cmp key (entries_to rows d (k + 1)) ≡ Some (row_at (rows_at rows d) k).inode
+    at_k : find key_cmp key (entries_to rows d (k + 1)) ≡ Some (row_at (rows_of_inode rows d) k).inode
     at_k =
-        ap (find key_cmp key) (entry_more rows d k inside) ∙ find-append key_cmp key (entries_to rows d k) (row_entry d (row_at (rows_at rows d) k) ∷ [])
-        ∙ ap (λ o. option_or o (find key_cmp key (row_entry d (row_at (rows_at rows d) k) ∷ []))) (fresh_entry rows (own image inodes rows shows long once) d k inside)
-        ∙ ap (λ b. cond b (Some (row_at (rows_at rows d) k).inode) None) (same_itself key)
+        ap (find key_cmp key) (entry_more rows d k inside) ∙ find-append key_cmp key (entries_to rows d k) (entry_of_row d (row_at (rows_of_inode rows d) k) ∷ [])
+        ∙ ap (λ o. option_or o (find key_cmp key (entry_of_row d (row_at (rows_of_inode rows d) k) ∷ []))) (fresh_entry rows (own image inodes rows shows long once) d k inside)
+        ∙ ap (λ b. cond b (Some (row_at (rows_of_inode rows d) k).inode) None) (same_itself key)
 
-    to_end : (j : ℕ) → k + 1 + j ≤ length (rows_at rows d) → find key_cmp key (entries_to rows d (k + 1 + j)) ≡ Some (row_at (rows_at rows d) k).inode
+    to_end : (j : ℕ) → k + 1 + j ≤ length (rows_of_inode rows d) → find key_cmp key (entries_to rows d (k + 1 + j)) ≡ Some (row_at (rows_of_inode rows d) k).inode
     to_end zero le = (let e : k + 1 + 0 ≡ k + 1 = omega arith in ap (λ (n : ℕ). find key_cmp key (entries_to rows d n)) e) ∙ at_k
     to_end (suc j) le =
         (let e : k + 1 + suc j ≡ k + 1 + j + 1 = omega arith in ap (λ (n : ℕ). find key_cmp key (entries_to rows d n)) e)
         ∙ ap (find key_cmp key) (entry_more rows d (k + 1 + j) (omega arith))
-        ∙ stay_more key (entries_to rows d (k + 1 + j)) (row_entry d (row_at (rows_at rows d) (k + 1 + j)) ∷ []) (row_at (rows_at rows d) k).inode (to_end j (omega arith))
+        ∙ stay_more key (entries_to rows d (k + 1 + j)) (entry_of_row d (row_at (rows_of_inode rows d) (k + 1 + j)) ∷ []) (row_at (rows_of_inode rows d) k).inode (to_end j (omega arith))
 
-    own_all : find key_cmp key (row_entries rows (d + 1)) ≡ Some (row_at (rows_at rows d) k).inode
+    own_all : find key_cmp key (row_entries rows (d + 1)) ≡ Some (row_at (rows_of_inode rows d) k).inode
     own_all =
         ap (find key_cmp key) (sym (whole_entries rows d))
-        ∙ (let e : length (rows_at rows d) ≡ k + 1 + (length (rows_at rows d) - (k + 1)) = omega arith in ap (λ (n : ℕ). find key_cmp key (entries_to rows d n)) e)
-        ∙ to_end (length (rows_at rows d) - (k + 1)) (omega arith)
+        ∙ (let e : length (rows_of_inode rows d) ≡ k + 1 + (length (rows_of_inode rows d) - (k + 1)) = omega arith in ap (λ (n : ℕ). find key_cmp key (entries_to rows d n)) e)
+        ∙ to_end (length (rows_of_inode rows d) - (k + 1)) (omega arith)
 
-    to_all : (j : ℕ) → find key_cmp key (row_entries rows (d + 1 + j)) ≡ Some (row_at (rows_at rows d) k).inode
+    to_all : (j : ℕ) → find key_cmp key (row_entries rows (d + 1 + j)) ≡ Some (row_at (rows_of_inode rows d) k).inode
     to_all zero = (let e : d + 1 + 0 ≡ d + 1 = omega arith in ap (λ (n : ℕ). find key_cmp key (row_entries rows n)) e) ∙ own_all
     to_all (suc j) =
         (let e : d + 1 + suc j ≡ d + 1 + j + 1 = omega arith in ap (λ (n : ℕ). find key_cmp key (row_entries rows n)) e)
-        ∙ ap (find key_cmp key) (more_entries rows (d + 1 + j)) ∙ stay_more key (row_entries rows (d + 1 + j)) (entries_at rows (d + 1 + j)) (row_at (rows_at rows d) k).inode (to_all j)
+        ∙ ap (find key_cmp key) (more_entries rows (d + 1 + j)) ∙ stay_more key (row_entries rows (d + 1 + j)) (entries_at rows (d + 1 + j)) (row_at (rows_of_inode rows d) k).inode (to_all j)
 
-    row_forth : d < image.count → row_of tree d (row_at (rows_at rows d) k).name ≡ Some (row_at (rows_at rows d) k).inode
+    row_forth : d < image.count → row_of tree d (row_at (rows_of_inode rows d) k).name ≡ Some (row_at (rows_of_inode rows d) k).inode
     row_forth within =
         ap (λ (m : FinMap key_cmp ℕ). get m key) (rows_are image inodes rows shows long once) ∙ get-from_entries key_cmp_total (row_entries rows image.count) key
         ∙ (let e : image.count ≡ d + 1 + (image.count - (d + 1)) = omega arith in ap (λ (n : ℕ). find key_cmp key (row_entries rows n)) e) ∙ to_all (image.count - (d + 1))
 
   module _ (placed : NonePasses image.count (breaks_tenth inodes rows)) (rootless : NonePasses image.count (breaks_eleventh rows)) (few : NonePasses image.count (breaks_twelfth inodes rows (length inodes))) where
     -- an inode with a row is one of the image's
-    holds_rows : (d k : ℕ) → k < length (rows_at rows d) → d < image.count
+    holds_rows : (d k : ℕ) → k < length (rows_of_inode rows d) → d < image.count
     holds_rows d k inside = elim (cases_lt d image.count) [
       | inl within ↦ within
       | inr past ↦ absurd (let e = ap (λ (r : Roomy Row). length r.items) (get_or_past rows d (record { items = []; spare = 0 }) (let c = shows.count in omega arith)) in omega arith)
     ]
 
     -- a row is not misplaced
-    placed_at : (d k : ℕ) → k < length (rows_at rows d) → is_misplaced_by inodes (row_at (rows_at rows d) k) ≡ false
-    placed_at d k inside = elim (cases_Bool (is_misplaced_by inodes (row_at (rows_at rows d) k))) [
+    placed_at : (d k : ℕ) → k < length (rows_of_inode rows d) → is_misplaced_by inodes (row_at (rows_of_inode rows d) k) ≡ false
+    placed_at d k inside = elim (cases_Bool (is_misplaced_by inodes (row_at (rows_of_inode rows d) k))) [
       | inr fine ↦ fine
-      | inl wrong ↦ absurd (not_both_of (breaks_tenth inodes rows d) (list_any_at (is_misplaced_by inodes) (rows_at rows d) k NO_ROW inside wrong) (placed d (holds_rows d k inside)))
+      | inl wrong ↦ absurd (not_both_of (breaks_tenth inodes rows d) (list_any_at (is_misplaced_by inodes) (rows_of_inode rows d) k NO_ROW inside wrong) (placed d (holds_rows d k inside)))
     ]
 
-    child_within : (d k : ℕ) → k < length (rows_at rows d) → (row_at (rows_at rows d) k).inode < image.count
+    child_within : (d k : ℕ) → k < length (rows_of_inode rows d) → (row_at (rows_of_inode rows d) k).inode < image.count
     child_within d k inside =
-        (let both = or_parts (not (nat_lt (row_at (rows_at rows d) k).inode (length inodes))) _ (placed_at d k inside) in
+        (let both = or_parts (not (nat_lt (row_at (rows_of_inode rows d) k).inode (length inodes))) _ (placed_at d k inside) in
         let h = ltb-true _ _ (not_false _ both.0) in
         let c = shows.count in
         omega arith)
 
-    child_kind : (d k : ℕ) → k < length (rows_at rows d) → (inode_at inodes (row_at (rows_at rows d) k).inode).kind ≡ kind_byte (row_at (rows_at rows d) k).kind
-    child_kind d k inside = eqb-true _ _ (not_false _ (or_parts (not (nat_lt (row_at (rows_at rows d) k).inode (length inodes))) _ (placed_at d k inside)).1)
+    child_kind : (d k : ℕ) → k < length (rows_of_inode rows d) → (inode_at inodes (row_at (rows_of_inode rows d) k).inode).kind ≡ kind_byte (row_at (rows_of_inode rows d) k).kind
+    child_kind d k inside = eqb-true _ _ (not_false _ (or_parts (not (nat_lt (row_at (rows_of_inode rows d) k).inode (length inodes))) _ (placed_at d k inside)).1)
 
     kind_again : (kind : Kind) → kind_byte kind ≡ 2 → is_directory_kind kind ≡ true
     kind_again File e = absurd (let h : 1 ≡ 2 = e in omega arith)
@@ -164,24 +164,24 @@ module _ (image : SeenInodes) (inodes : List Inode) (rows : List (Roomy Row)) (s
     kind_forth Directory e = refl
 
     -- no row names the root
-    root_free : (d k : ℕ) → k < length (rows_at rows d) → (row_at (rows_at rows d) k).inode ≢ 0
+    root_free : (d k : ℕ) → k < length (rows_of_inode rows d) → (row_at (rows_of_inode rows d) k).inode ≢ 0
     root_free d k inside same =
-        not_both_of (breaks_eleventh rows d) (list_any_at (λ (row : Row). nat_eq row.inode 0) (rows_at rows d) k NO_ROW inside (eq-eqb _ _ same)) (rootless d (holds_rows d k inside))
+        not_both_of (breaks_eleventh rows d) (list_any_at (λ (row : Row). nat_eq row.inode 0) (rows_of_inode rows d) k NO_ROW inside (eq-eqb _ _ same)) (rootless d (holds_rows d k inside))
 
     -- the holder of a directory is the one of a row that names it
-    holder_is : (d k : ℕ) → k < length (rows_at rows d) → is_directory_kind (row_at (rows_at rows d) k).kind ≡ true → holder_of tree (row_at (rows_at rows d) k).inode ≡ Some d
+    holder_is : (d k : ℕ) → k < length (rows_of_inode rows d) → is_directory_kind (row_at (rows_of_inode rows d) k).kind ≡ true → holder_of tree (row_at (rows_of_inode rows d) k).inode ≡ Some d
     holder_is d k inside kind =
-        let x = (row_at (rows_at rows d) k).inode in
+        let x = (row_at (rows_of_inode rows d) k).inode in
         let within = child_within d k inside in
         let row = row_forth d k inside (holds_rows d k inside) in
-        let some = count_some (names_it x) (image_rows image) (d, (row_at (rows_at rows d) k).name) x row (eq-eqb x x refl) in
-        let directory : nat_eq (inode_at inodes x).kind 2 ≡ true = eq-eqb _ _ (child_kind d k inside ∙ kind_forth (row_at (rows_at rows d) k).kind kind) in
-        let most = ltb-false 1 (named_by rows (length inodes) x) (sym (ap (λ b. b && nat_lt 1 (named_by rows (length inodes) x)) directory) ∙ few x within) in
+        let some = count_some (names_it x) (image_rows image) (d, (row_at (rows_of_inode rows d) k).name) x row (eq-eqb x x refl) in
+        let directory : nat_eq (inode_at inodes x).kind 2 ≡ true = eq-eqb _ _ (child_kind d k inside ∙ kind_forth (row_at (rows_of_inode rows d) k).kind kind) in
+        let most = ltb-false 1 (naming_below rows (length inodes) x) (sym (ap (λ b. b && nat_lt 1 (naming_below rows (length inodes) x)) directory) ∙ few x within) in
         let counted = count_is image inodes rows shows long once x in
         let one : count_of (image_rows image) x ≡ 1 = omega arith in
         elim (holder_found tree x) [
-          | inl f ↦ f.1 ∙ ap Some (ap (λ (q : Key). q.0) (only (names_it x) (image_rows image) (d, (row_at (rows_at rows d) k).name) (f.0, f.2.0) x x one row (eq-eqb x x refl) f.2.1 (eq-eqb x x refl)))
-          | inr none ↦ absurd (none.1 (record { directory = d; name = (row_at (rows_at rows d) k).name; row = row }))
+          | inl f ↦ f.1 ∙ ap Some (ap (λ (q : Key). q.0) (only (names_it x) (image_rows image) (d, (row_at (rows_of_inode rows d) k).name) (f.0, f.2.0) x x one row (eq-eqb x x refl) f.2.1 (eq-eqb x x refl)))
+          | inr none ↦ absurd (none.1 (record { directory = d; name = (row_at (rows_of_inode rows d) k).name; row = row }))
         ]
 
     root_alone : holder_of tree 0 ≡ None
@@ -196,17 +196,17 @@ module _ (image : SeenInodes) (inodes : List Inode) (rows : List (Roomy Row)) (s
       chain : Chain (holder_of tree) x above
       meets : (nat_eq x 0 || list_any (λ a. nat_eq a 0) above) ≡ true
 
-    climbs : {x : ℕ} → IsReached rows x → Climbs x
+    climbs : {x : ℕ} → IsReachedFromRoot rows x → Climbs x
     climbs root = record { above = []; chain = root_alone; meets = refl }
     climbs (named d k inside kind rest) =
         (let up = climbs rest in
         record {
           above = d ∷ up.above;
           chain = (holder_is d k inside kind, up.chain);
-          meets = or_right (nat_eq (row_at (rows_at rows d) k).inode 0) _ up.meets;
+          meets = or_right (nat_eq (row_at (rows_of_inode rows d) k).inode 0) _ up.meets;
         })
 
-    reached_below : (x : ℕ) → IsReached rows x → (nat_eq x 0 || lies_below tree x 0) ≡ true
+    reached_below : (x : ℕ) → IsReachedFromRoot rows x → (nat_eq x 0 || lies_below tree x 0) ≡ true
     reached_below x is =
         (let up = climbs is in
         let short = subst (λ n. length up.above ≤ n) (sym (len-entries (image_rows image))) (chain_within (entries (image_rows image)) x up.above up.chain) in
@@ -232,7 +232,7 @@ module _ (image : SeenInodes) (inodes : List Inode) (rows : List (Roomy Row)) (s
                 | inl zero_is ↦ subst (λ (j : ℕ). is_marked reached j ≡ true) (sym (eqb-true _ _ zero_is)) marks.root
                 | inr above ↦ up f.0 holder_kind above
               ] in
-              let own_kind = kind_again (row_at (rows_at rows f.0) back.k).kind (sym (child_kind f.0 back.k back.inside) ∙ ap (λ (j : ℕ). (inode_at inodes j).kind) back.is ∙ kind) in
+              let own_kind = kind_again (row_at (rows_of_inode rows f.0) back.k).kind (sym (child_kind f.0 back.k back.inside) ∙ ap (λ (j : ℕ). (inode_at inodes j).kind) back.is ∙ kind) in
               subst (λ (j : ℕ). is_marked reached j ≡ true) back.is (marks.closed f.0 marked back.k back.inside own_kind)
 
       unreached_is : (x : ℕ) → (inode_at inodes x).kind ≡ 2 → is_unreached image x ≡ not (is_marked reached x)

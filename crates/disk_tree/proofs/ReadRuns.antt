@@ -1,9 +1,8 @@
 -- How runs of reads follow one another.
-use Rattle.std.proofs.Common.{◌≡◌, ℕ, Result, Ok, Err, refl, ◌∙◌, subst, arith}
+use Rattle.std.proofs.Common.{◌≡◌, ℕ, Result, Ok, Err, ◌∙◌, subst}
 use Rattle.sfs_base.specs.Ends.{HasRisen}
-use Rattle.sfs_dev.specs.Disk.{View, images}
-use Rattle.sfs_dev.specs.Run.{CountsOn, Advances, Unwritten}
-use Rattle.sfs_dev.proofs.Runs.{GoesOn-refl, GoesOn-trans, Rests-refl, EachMoment-trans, Rests-trans, ReadSoFar, none_read}
+use Rattle.sfs_dev.specs.Disk.{View}
+use Rattle.sfs_dev.proofs.Runs.{GoesOn-trans, Rests-trans, ReadSoFar}
 use Rattle.disk_tree.specs.Cause.{OnlyReads, HasReadCause}
 use Rattle.disk_tree.specs.declared.fault.TreeFault.{TreeFault}
 use Rattle.disk_tree.specs.declared.fault.TreeFault.TheVariants.{DiskFailed, BadImage, NoMemory}

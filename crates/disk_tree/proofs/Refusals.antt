@@ -1,5 +1,5 @@
 -- How the first fault of parts is found: rule by rule.
-use Rattle.std.proofs.Common.{◌⊎◌, ◌≡◌, ℕ, ◌<◌, ◌≤◌, Bool, false, ltb, List, Option, None, Some, refl, sym, ap, subst, ◌∙◌, inl, inr}
+use Rattle.std.proofs.Common.{arith, ◌⊎◌, ◌≡◌, ℕ, ◌<◌, ◌≤◌, Bool, false, ltb, List, Option, None, Some, refl, sym, ap, subst, ◌∙◌, inl, inr}
 use Rattle.std.specs.Prelude.{slice_index}
 use Rattle.std.proofs.lemmas.Bool.{cases_order, cond-true, cond-false, lt-ltb, le-ltb}
 use Rattle.sfs_base.proofs.BasicTruth.{not_both_of}
@@ -50,6 +50,21 @@ none_is_found breaks count keep = by (first_fault breaks count) (first_fault_is_
     by : (o : Option TreeFault) → FindsFault breaks count o → o ≡ None
     by None none = refl
     by (Some fault) found = absurd (not_both_of (breaks fault.rule fault.inode) found.breaks_it (keep fault.rule fault.inode found.rule_low found.rule_high found.within))
+
+-- where the same rules are broken the same fault is found
+pub faults_alike : (breaks others : ℕ → ℕ → Bool) (count : ℕ) → ((rule i : ℕ) → i < count → breaks rule i ≡ others rule i) → first_fault breaks count ≡ first_fault others count
+faults_alike breaks others count same = by (first_fault breaks count) (first_fault_is_least breaks count)
+  where
+    by : (o : Option TreeFault) → FindsFault breaks count o → o ≡ first_fault others count
+    by None none = sym (none_is_found others count (λ rule i low high within. sym (same rule i within) ∙ none rule i low high within))
+    by (Some fault) found = sym (least_is_found others count fault (record {
+      rule_low = found.rule_low;
+      rule_high = found.rule_high;
+      within = found.within;
+      breaks_it = sym (same fault.rule fault.inode found.within) ∙ found.breaks_it;
+      lesser_rules = λ rule i low less within. sym (same rule i within) ∙ found.lesser_rules rule i low less within;
+      lesser_inodes = λ i less. sym (same fault.rule i (let w = found.within in omega arith)) ∙ found.lesser_inodes i less;
+    }))
 
 -- whether an inode of parts breaks a rule
 abbrev pub breaks_of : Layout → (ℕ → Part) → ℕ → ℕ → Bool

@@ -5,7 +5,7 @@ use Rattle.std.proofs.lemmas.List.{take_more, append_assoc, append-nil}
 use Rattle.std.proofs.lemmas.List.Elements.{filter_map-append}
 use Rattle.std.proofs.lemmas.Grind.{flat_map-append}
 use Rattle.sfs_image.specs.Slot.{Row}
-use Rattle.disk_tree.specs.Rows.{row_in, rows_in_slots, slots_together}
+use Rattle.disk_tree.specs.Rows.{row_of_slot, rows_in_slots, slots_together}
 use Rattle.disk_tree.proofs.TablesRead.{as_list}
 
 pub more_rows : (slots : List (Option Row)) (n : ℕ) (slot : Option Row) (start old new : List Row) → n < length slots → slot ≡ get_or slots n slot → old ≡ start ++ rows_in_slots (take n slots) → new ≡ old ++ option_to_list slot →
@@ -14,7 +14,7 @@ more_rows slots n slot start old new within is before put =
     put ∙ ap (λ (xs : List Row). xs ++ option_to_list slot) before
     ∙ append_assoc start (rows_in_slots (take n slots)) (option_to_list slot)
     ∙ ap (λ (xs : List Row). start ++ (rows_in_slots (take n slots) ++ xs)) (sym (as_list slot))
-    ∙ ap (λ (xs : List Row). start ++ xs) (sym (filter_map-append row_in (take n slots) (slot ∷ [])))
+    ∙ ap (λ (xs : List Row). start ++ xs) (sym (filter_map-append row_of_slot (take n slots) (slot ∷ [])))
     ∙ ap (λ (x : Option Row). start ++ rows_in_slots (take n slots ++ x ∷ [])) is
     ∙ ap (λ (xs : List (Option Row)). start ++ rows_in_slots xs) (sym (take_more slots n slot within))
 
@@ -22,7 +22,7 @@ pub more_blocks : (blocks : List (List (Option Row))) (n : ℕ) (block : List (O
     new ≡ old ++ rows_in_slots block → new ≡ rows_in_slots (slots_together (take (n + 1) blocks))
 more_blocks blocks n block old new within is before put =
     put ∙ ap (λ (xs : List Row). xs ++ rows_in_slots block) before
-    ∙ sym (filter_map-append row_in (slots_together (take n blocks)) block)
+    ∙ sym (filter_map-append row_of_slot (slots_together (take n blocks)) block)
     ∙ ap (λ (xs : List (Option Row)). rows_in_slots (slots_together (take n blocks) ++ xs)) (sym (append-nil block))
     ∙ ap rows_in_slots (sym (flat_map-append (λ (block : List (Option Row)). block) (take n blocks) (block ∷ [])))
     ∙ ap (λ (x : List (Option Row)). rows_in_slots (slots_together (take n blocks ++ x ∷ []))) is

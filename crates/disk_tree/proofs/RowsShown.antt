@@ -13,7 +13,7 @@ use Rattle.image_tree.specs.ImageTree.{shows_directory}
 use Rattle.image_tree.specs.Rules.{some_row, is_misplaced}
 use Rattle.image_tree.specs.Slots.{has_name, name_count}
 use Rattle.disk_tree.specs.Inodes.{inode_at}
-use Rattle.disk_tree.specs.Rows.{rows_at, rows_in_slots, is_misplaced_by}
+use Rattle.disk_tree.specs.Rows.{rows_of_inode, rows_in_slots, is_misplaced_by}
 use Rattle.disk_tree.specs.Shown.{ShowsRows, AreRowTests, RowTestsAreRules}
 use Rattle.disk_tree.specs.Tests.{rows_named, has_twice}
 
@@ -38,14 +38,14 @@ same_any p q (row ∷ rows) same = ap (λ b. b || list_any p rows) (same row) �
 
 module _ (image : SeenInodes) (inodes : List Inode) (rows : List (Roomy Row)) (shows : ShowsRows image inodes rows) where
   -- what is asked of directories alone, by rows that others have not
-  of_directory : (i : ℕ) → i < image.count → (asked : Bool) (test : List Row → Bool) → test [] ≡ false → ((image.seen i).kind ≡ 2 → asked ≡ test (rows_at rows i)) →
-      (shows_directory (image.seen i) && asked) ≡ test (rows_at rows i)
+  of_directory : (i : ℕ) → i < image.count → (asked : Bool) (test : List Row → Bool) → test [] ≡ false → ((image.seen i).kind ≡ 2 → asked ≡ test (rows_of_inode rows i)) →
+      (shows_directory (image.seen i) && asked) ≡ test (rows_of_inode rows i)
   of_directory i within asked test none same = elim (cases_Bool (eqb (image.seen i).kind 2)) [
     | inl directory ↦ ap (λ b. b && asked) directory ∙ same (eqb-true _ _ directory)
     | inr other ↦ ap (λ b. b && asked) other ∙ sym (ap test (shows.others i within (eqb-false _ _ other)) ∙ none)
   ]
 
-  asked_rows : (i : ℕ) → i < image.count → (image.seen i).kind ≡ 2 → (test : Row → Bool) → some_row image i test ≡ list_any test (rows_at rows i)
+  asked_rows : (i : ℕ) → i < image.count → (image.seen i).kind ≡ 2 → (test : Row → Bool) → some_row image i test ≡ list_any test (rows_of_inode rows i)
   asked_rows i within kind test = any_row test (image.seen i).slots ∙ ap (list_any test) (sym (shows.slots i within kind))
 
   misplaced_same : (row : Row) → is_misplaced image row ≡ is_misplaced_by inodes row
@@ -61,10 +61,10 @@ module _ (image : SeenInodes) (inodes : List Inode) (rows : List (Roomy Row)) (s
   row_tests = record {
     eighth = λ i within. of_directory i within _ has_twice refl
         (λ kind. asked_rows i within kind (λ (row : Row). nat_lt 1 (name_count row.name (image.seen i).slots))
-        ∙ same_any (λ (row : Row). nat_lt 1 (name_count row.name (image.seen i).slots)) (λ (row : Row). nat_lt 1 (rows_named row.name (rows_at rows i))) (rows_at rows i)
+        ∙ same_any (λ (row : Row). nat_lt 1 (name_count row.name (image.seen i).slots)) (λ (row : Row). nat_lt 1 (rows_named row.name (rows_of_inode rows i))) (rows_of_inode rows i)
         (λ row. ap (nat_lt 1) (named_rows row.name (image.seen i).slots ∙ ap (rows_named row.name) (sym (shows.slots i within kind)))));
     tenth = λ i within. of_directory i within _ (list_any (is_misplaced_by inodes)) refl
-        (λ kind. asked_rows i within kind (is_misplaced image) ∙ same_any (is_misplaced image) (is_misplaced_by inodes) (rows_at rows i) misplaced_same);
+        (λ kind. asked_rows i within kind (is_misplaced image) ∙ same_any (is_misplaced image) (is_misplaced_by inodes) (rows_of_inode rows i) misplaced_same);
     eleventh = λ i within. of_directory i within _ (list_any (λ (row : Row). nat_eq row.inode 0)) refl
         (λ kind. asked_rows i within kind (λ (row : Row). nat_eq row.inode 0));
   }

@@ -10,7 +10,7 @@ use Rattle.sfs_image.specs.Inode.{Inode, inode_of}
 use Rattle.sfs_image.specs.Slot.{Row}
 use Rattle.sfs_image.specs.SlotBlock.{slots_of, slots_fault}
 use Rattle.disk_tree.specs.Blocks.{blocks_in, is_malformed, slots_badly, slots_by, slots_at, FindsSlots, breaks_slots_at, AreSlotLists, BreaksSeventh}
-use Rattle.disk_tree.specs.Contents.{bytes_at}
+use Rattle.disk_tree.specs.Contents.{bytes_of_inode}
 use Rattle.disk_tree.specs.First.{NonePasses}
 use Rattle.disk_tree.specs.Inodes.{inode_at}
 
@@ -75,7 +75,7 @@ module _ (inodes : List Inode) (contents : List (Roomy ℕ)) (place : ℕ) (inod
   pub inode_is : inode ≡ inode_at inodes place
   inode_is = get_or_read inodes place inode within is (inode_of [])
 
-  pub bytes_are : own.items ≡ bytes_at contents place
+  pub bytes_are : own.items ≡ bytes_of_inode contents place
   bytes_are = ap (λ (b : Roomy ℕ). b.items) (get_or_read contents place own there own_is (record { items = []; spare = 0 }))
 
 pub none_passes_more : (n : ℕ) (test : ℕ → Bool) → NonePasses n test → test n ≡ false → NonePasses (n + 1) test
@@ -86,7 +86,7 @@ none_passes_more n test before here k less = elim (cases_lt k n) [
 
 -- the slots of one more inode
 module _ (inodes : List Inode) (contents : List (Roomy ℕ)) (n : ℕ) (old new : List (Roomy (List (Option Row)))) (before : AreSlotLists inodes contents n old) where
-  pub more_lists : (slots : Roomy (List (Option Row))) → new ≡ old ++ slots ∷ [] → FindsSlots (inode_at inodes n) (bytes_at contents n) (Some slots) → AreSlotLists inodes contents (n + 1) new
+  pub more_lists : (slots : Roomy (List (Option Row))) → new ≡ old ++ slots ∷ [] → FindsSlots (inode_at inodes n) (bytes_of_inode contents n) (Some slots) → AreSlotLists inodes contents (n + 1) new
   more_lists slots put finds = record {
     count = ap length put ∙ length-append old (slots ∷ []) ∙ (let c = before.count in omega arith);
     each = λ i less. elim (cases_lt i n) [
@@ -94,10 +94,10 @@ module _ (inodes : List Inode) (contents : List (Roomy ℕ)) (n : ℕ) (old new 
       | inr last ↦ (let here : n ≡ i = omega arith in
           let first : n - n ≡ 0 = omega arith in
           let same : slots_at new n ≡ slots.items = ap (λ (xs : List (Roomy (List (Option Row)))). slots_at xs n) put ∙ ap (λ (s : Roomy (List (Option Row))). s.items) (get_or-append_right old (slots ∷ []) n n (record { items = []; spare = 0 }) before.count (omega arith) ∙ ap (λ (k : ℕ). get_or (slots ∷ []) k (record { items = []; spare = 0 })) first) in
-          subst (λ (j : ℕ). slots_at new j ≡ slots_by (inode_at inodes j) (bytes_at contents j)) here (same ∙ finds.0))
+          subst (λ (j : ℕ). slots_at new j ≡ slots_by (inode_at inodes j) (bytes_of_inode contents j)) here (same ∙ finds.0))
     ];
     keep = none_passes_more n (breaks_slots_at inodes contents) before.keep finds.1;
   }
 
-  pub seventh_first : n < length inodes → FindsSlots (inode_at inodes n) (bytes_at contents n) None → BreaksSeventh inodes contents n 7
+  pub seventh_first : n < length inodes → FindsSlots (inode_at inodes n) (bytes_of_inode contents n) None → BreaksSeventh inodes contents n 7
   seventh_first within finds = record { seventh = refl; first = record { within = within; passes = finds; before = before.keep } }

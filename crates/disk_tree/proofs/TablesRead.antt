@@ -13,15 +13,8 @@ use Rattle.sfs_image.proofs.PartLaws.{hole_is_read, block_behind}
 use Rattle.block_map.proofs.KeptPointers.{kept_at_place}
 use Rattle.sfs_image.specs.Inode.{Inode, Table, pointers_of}
 use Rattle.block_map.specs.Kept.{table_kept, tables_kept}
+use Rattle.block_map.proofs.Places.{range_more}
 use Rattle.disk_tree.specs.Reading.{IsReadBlock, table_in, HasTables, IsNextTable}
-
--- the numbers from a on, one more
-pub range_more : (a n : ℕ) → range_with_len a (n + 1) ≡ range_with_len a n ++ (a + n) ∷ []
-range_more a zero = (let e : a ≡ a + 0 = omega arith in ap (λ (k : ℕ). k ∷ []) e)
-range_more a (suc n) =
-    let more : suc n + 1 ≡ suc (n + 1) = omega arith in
-    let here : a + 1 + n ≡ a + suc n = omega arith in
-    ap (range_with_len a) more ∙ ap (λ (xs : List ℕ). a ∷ xs) (range_more (a + 1) n ∙ ap (λ (k : ℕ). range_with_len (a + 1) n ++ k ∷ []) here)
 
 -- functions that agree on the numbers from a on give the same of them
 pub filter_map_same : {X : Type 0} (f g : ℕ → Option X) (a n : ℕ) → ((k : ℕ) → a ≤ k → k < a + n → f k ≡ g k) → filter_map f (range_with_len a n) ≡ filter_map g (range_with_len a n)

@@ -8,8 +8,8 @@ use Rattle.sfs_base.specs.Lists.{Roomy}
 use Rattle.sfs_image.specs.Slot.{Row}
 use Rattle.sfs_tree.specs.Tree.{is_directory_kind}
 use Rattle.disk_tree.specs.Apart.{is_marked}
-use Rattle.disk_tree.specs.Reached.{row_at, IsReached, root, named, AreMarked, MarksReached, unmarked, IsPending, Visits, Frontier, Passes, Marks}
-use Rattle.disk_tree.specs.Rows.{rows_at}
+use Rattle.disk_tree.specs.Reached.{row_at, IsReachedFromRoot, root, named, AreMarked, MarksReached, unmarked, IsPending, Visits, Frontier, Passes, Marks}
+use Rattle.disk_tree.specs.Rows.{rows_of_inode}
 
 pub unmarked-set : (reached : List Bool) (i : ℕ) → i < length reached → is_marked reached i ≡ false → unmarked (slice_set reached i true) + 1 ≡ unmarked reached
 unmarked-set [] i within none = absurd (omega arith)
@@ -136,11 +136,11 @@ module _ (rows : List Row) (n : ℕ) (old new : List Bool) (pending now : List �
 
 -- one visit of a directory that was pending
 module _ (rows : List (Roomy Row)) (count : ℕ) (reached new : List Bool) (pending rest now : List ℕ) (directory : ℕ) (before : Frontier rows count reached pending) (popped : pending ≡ rest ++ directory ∷ [])
-    (visits : Visits (rows_at rows directory) (length (rows_at rows directory)) reached new rest now) where
+    (visits : Visits (rows_of_inode rows directory) (length (rows_of_inode rows directory)) reached new rest now) where
   was_pending : IsPending pending directory
   was_pending = subst (λ (p : List ℕ). IsPending p directory) (sym popped) (pending_last rest directory)
 
-  is_reached : IsReached rows directory
+  is_reached : IsReachedFromRoot rows directory
   is_reached = before.sound directory (before.marked directory was_pending)
 
   marks_grow : (own : List Row) (n : ℕ) → AreMarked reached own n → AreMarked new own n
@@ -152,15 +152,15 @@ module _ (rows : List (Roomy Row)) (count : ℕ) (reached new : List Bool) (pend
     root = visits.keeps 0 before.root;
     sound = λ i marked. elim (visits.only i marked) [
       | inl earlier ↦ before.sound i earlier
-      | inr one ↦ subst (IsReached rows) one.3 (named directory one.0 one.1 one.2 is_reached)
+      | inr one ↦ subst (IsReachedFromRoot rows) one.3 (named directory one.0 one.1 one.2 is_reached)
     ];
     visited = λ i marked. elim (visits.fresh i marked) [
       | inr one ↦ inl one
       | inl earlier ↦ elim (before.visited i earlier) [
-        | inr marks ↦ inr (marks_grow (rows_at rows i) (length (rows_at rows i)) marks)
+        | inr marks ↦ inr (marks_grow (rows_of_inode rows i) (length (rows_of_inode rows i)) marks)
         | inl one ↦ elim (pending_split rest directory i (subst (λ (p : List ℕ). IsPending p i) popped one)) [
           | inl still ↦ inl (visits.stay i still)
-          | inr same ↦ inr (subst (λ (j : ℕ). AreMarked new (rows_at rows j) (length (rows_at rows j))) (sym same) visits.marks)
+          | inr same ↦ inr (subst (λ (j : ℕ). AreMarked new (rows_of_inode rows j) (length (rows_of_inode rows j))) (sym same) visits.marks)
         ]
       ]
     ];
@@ -203,7 +203,7 @@ pub root_frontier : (rows : List (Roomy Row)) (count : ℕ) (reached : List Bool
 root_frontier rows count reached pending some size none is = record {
   size = length-set reached 0 true ∙ size;
   root = here;
-  sound = λ i marked. subst (IsReached rows) (sym (only i marked)) root;
+  sound = λ i marked. subst (IsReachedFromRoot rows) (sym (only i marked)) root;
   visited = λ i marked. inl (subst (IsPending pending) (sym (only i marked)) (subst (λ (p : List ℕ). IsPending p 0) (sym is) (0, omega arith, refl)));
   marked = λ i one. subst (λ (j : ℕ). is_marked (slice_set reached 0 true) j ≡ true) (root_only i (subst (λ (p : List ℕ). IsPending p i) is one)) here;
 }

@@ -9,7 +9,7 @@ use Rattle.sfs_image.specs.Rules.{breaks_bytes_rule}
 use Rattle.sfs_image.specs.Super.{Layout}
 use Rattle.sfs_image.specs.Slot.{Row}
 use Rattle.sfs_image.specs.SlotBlock.{slots_of, slots_fault}
-use Rattle.disk_tree.specs.Contents.{bytes_at, HoldContents}
+use Rattle.disk_tree.specs.Contents.{bytes_of_inode, HoldContents}
 use Rattle.disk_tree.specs.First.{IsFirst, NonePasses}
 use Rattle.disk_tree.specs.Inodes.{inode_at}
 
@@ -46,16 +46,16 @@ FindsSlots inode bytes None = slots_badly inode bytes ≡ true
 
 -- whether something is wrong in the slots of the inode of a number
 abbrev pub breaks_slots_at : List Inode → List (Roomy ℕ) → ℕ → Bool
-breaks_slots_at inodes contents i = slots_badly (inode_at inodes i) (bytes_at contents i)
+breaks_slots_at inodes contents i = slots_badly (inode_at inodes i) (bytes_of_inode contents i)
 
 -- whether an inode of a number has a byte past its size
 abbrev pub breaks_tail_at : List Inode → List (Roomy ℕ) → ℕ → Bool
-breaks_tail_at inodes contents i = tail_badly (inode_at inodes i) (bytes_at contents i)
+breaks_tail_at inodes contents i = tail_badly (inode_at inodes i) (bytes_of_inode contents i)
 
 -- The slots of the first n inodes, in which nothing is wrong.
 pub record AreSlotLists (inodes : List Inode) (contents : List (Roomy ℕ)) (n : ℕ) (slots : List (Roomy (List (Option Row)))) : Type 0 where
   pub count : length slots ≡ n
-  pub each : (i : ℕ) → i < n → slots_at slots i ≡ slots_by (inode_at inodes i) (bytes_at contents i)
+  pub each : (i : ℕ) → i < n → slots_at slots i ≡ slots_by (inode_at inodes i) (bytes_of_inode contents i)
   pub keep : NonePasses n (breaks_slots_at inodes contents)
 
 -- The first inode in whose slots something is wrong.
@@ -67,5 +67,6 @@ pub record BreaksSeventh (inodes : List Inode) (contents : List (Roomy ℕ)) (in
 pub record ReadWell (told : Option (List ℕ)) (layout : Layout) (records : List (List ℕ)) (inodes : List Inode) (tables : List (Roomy Table)) (contents : List (Roomy ℕ)) (slots : List (Roomy (List (Option Row)))) : Type 0 where
   pub parts : ℕ → Part
   pub hold : HoldContents told layout records tables contents parts
+  pub content_count : length contents ≡ layout.inodes
   pub slots_are : AreSlotLists inodes contents layout.inodes slots
   pub keep : (rule i : ℕ) → 1 ≤ rule → rule ≤ 7 → i < layout.inodes → breaks_bytes_rule rule layout parts i ≡ false

@@ -4,12 +4,16 @@ pub mod Built
 pub mod Cause
 pub mod Contents
 pub mod First
+pub mod Found
 pub mod Gathered
 pub mod Inodes
 pub mod Judged
+pub mod KeptParts
+pub mod Ordered
 pub mod Pointers
 pub mod Reached
 pub mod Reading
 pub mod Rows
 pub mod Shown
 pub mod Tests
+pub mod Told

@@ -4,17 +4,17 @@ use Rattle.sfs_base.specs.Lists.{Roomy}
 use Rattle.sfs_image.specs.Slot.{Row}
 use Rattle.sfs_tree.specs.Tree.{is_directory_kind}
 use Rattle.disk_tree.specs.Apart.{is_marked}
-use Rattle.disk_tree.specs.Rows.{NO_ROW, rows_at}
+use Rattle.disk_tree.specs.Rows.{NO_ROW, rows_of_inode}
 
 -- the row of a place
 abbrev pub row_at : List Row → ℕ → Row
 row_at rows k = slice_index_or rows k NO_ROW
 
 -- a walk from the root reaches the root, and each directory that a row of a reached one names
-pub data IsReached (rows : List (Roomy Row)) : ℕ → Type 0 where
-  root : IsReached rows 0
-  named : (directory k : ℕ) → k < length (rows_at rows directory) → is_directory_kind (row_at (rows_at rows directory) k).kind ≡ true → IsReached rows directory
-      → IsReached rows (row_at (rows_at rows directory) k).inode
+pub data IsReachedFromRoot (rows : List (Roomy Row)) : ℕ → Type 0 where
+  root : IsReachedFromRoot rows 0
+  named : (directory k : ℕ) → k < length (rows_of_inode rows directory) → is_directory_kind (row_at (rows_of_inode rows directory) k).kind ≡ true → IsReachedFromRoot rows directory
+      → IsReachedFromRoot rows (row_at (rows_of_inode rows directory) k).inode
 
 -- each directory that one of the first n rows names has a mark
 abbrev pub AreMarked : List Bool → List Row → ℕ → Type 0
@@ -24,8 +24,8 @@ AreMarked reached rows n = (k : ℕ) → k < n → is_directory_kind (row_at row
 pub record MarksReached (rows : List (Roomy Row)) (count : ℕ) (reached : List Bool) : Type 0 where
   pub size : length reached ≡ count
   pub root : is_marked reached 0 ≡ true
-  pub sound : (i : ℕ) → is_marked reached i ≡ true → IsReached rows i
-  pub closed : (i : ℕ) → is_marked reached i ≡ true → AreMarked reached (rows_at rows i) (length (rows_at rows i))
+  pub sound : (i : ℕ) → is_marked reached i ≡ true → IsReachedFromRoot rows i
+  pub closed : (i : ℕ) → is_marked reached i ≡ true → AreMarked reached (rows_of_inode rows i) (length (rows_of_inode rows i))
 
 -- how many have no mark
 abbrev pub unmarked : List Bool → ℕ
@@ -65,6 +65,6 @@ pub record Visits (rows : List Row) (n : ℕ) (old new : List Bool) (pending now
 pub record Frontier (rows : List (Roomy Row)) (count : ℕ) (reached : List Bool) (pending : List ℕ) : Type 0 where
   pub size : length reached ≡ count
   pub root : is_marked reached 0 ≡ true
-  pub sound : (i : ℕ) → is_marked reached i ≡ true → IsReached rows i
-  pub visited : (i : ℕ) → is_marked reached i ≡ true → IsPending pending i ⊎ AreMarked reached (rows_at rows i) (length (rows_at rows i))
+  pub sound : (i : ℕ) → is_marked reached i ≡ true → IsReachedFromRoot rows i
+  pub visited : (i : ℕ) → is_marked reached i ≡ true → IsPending pending i ⊎ AreMarked reached (rows_of_inode rows i) (length (rows_of_inode rows i))
   pub marked : (i : ℕ) → IsPending pending i → is_marked reached i ≡ true

@@ -11,12 +11,12 @@ use Rattle.disk_tree.specs.Blocks.{slots_at}
 use Rattle.disk_tree.specs.Inodes.{inode_at}
 
 -- a slot as it is
-abbrev pub row_in : Option Row → Option Row
-row_in slot = slot
+abbrev pub row_of_slot : Option Row → Option Row
+row_of_slot slot = slot
 
 -- the rows in slots
 abbrev pub rows_in_slots : List (Option Row) → List Row
-rows_in_slots slots = filter_map row_in slots
+rows_in_slots slots = filter_map row_of_slot slots
 
 -- the slots of blocks, one block after another
 abbrev pub slots_together : List (List (Option Row)) → List (Option Row)
@@ -27,20 +27,20 @@ abbrev pub NO_ROW : Row
 NO_ROW = record { inode = 0; kind = File; name = [] }
 
 -- the rows of the inode of a number, and none past the last inode
-abbrev pub rows_at : List (Roomy Row) → ℕ → List Row
-rows_at rows i = (slice_index_or rows i (record { items = []; spare = 0 })).items
+abbrev pub rows_of_inode : List (Roomy Row) → ℕ → List Row
+rows_of_inode rows i = (slice_index_or rows i (record { items = []; spare = 0 })).items
 
 -- The rows of the first n inodes are those in their slots.
 pub record AreRowLists (slots : List (Roomy (List (Option Row)))) (n : ℕ) (rows : List (Roomy Row)) : Type 0 where
   pub count : length rows ≡ n
-  pub each : (i : ℕ) → i < n → rows_at rows i ≡ rows_in_slots (slots_together (slots_at slots i))
+  pub each : (i : ℕ) → i < n → rows_of_inode rows i ≡ rows_in_slots (slots_together (slots_at slots i))
 
 -- each of the first n rows has a name of its own
 abbrev pub HaveOwnNames : List Row → ℕ → Type 0
 HaveOwnNames rows n = (k earlier : ℕ) → k < n → earlier < k → (slice_index_or rows earlier NO_ROW).name ≢ (slice_index_or rows k NO_ROW).name
 
 -- Two rows have one name.
-pub record HaveOneName (rows : List Row) : Type 0 where
+pub record HaveDuplicateName (rows : List Row) : Type 0 where
   pub at : ℕ
   pub earlier : ℕ
   pub within : at < length rows
@@ -49,7 +49,7 @@ pub record HaveOneName (rows : List Row) : Type 0 where
 
 -- whether two rows have one name
 abbrev pub AnswersTwice : List Row → Bool → Type 0
-AnswersTwice rows true = HaveOneName rows
+AnswersTwice rows true = HaveDuplicateName rows
 AnswersTwice rows false = HaveOwnNames rows (length rows)
 
 -- how many rows lie in a bucket
@@ -69,25 +69,25 @@ abbrev pub naming : ℕ → List Row → ℕ
 naming i rows = count_by (λ row. row.inode == i) rows
 
 -- how many rows of the first n inodes name an inode
-abbrev pub named_by : List (Roomy Row) → ℕ → ℕ → ℕ
-named_by rows zero i = 0
-named_by rows (suc n) i = named_by rows n i + naming i (rows_at rows n)
+abbrev pub naming_below : List (Roomy Row) → ℕ → ℕ → ℕ
+naming_below rows zero i = 0
+naming_below rows (suc n) i = naming_below rows n i + naming i (rows_of_inode rows n)
 
 -- how many of some rows name directories
-abbrev pub directories_in : List Row → ℕ
-directories_in rows = count_by (λ row. is_directory_kind row.kind) rows
+abbrev pub directory_row_count : List Row → ℕ
+directory_row_count rows = count_by (λ row. is_directory_kind row.kind) rows
 
 -- how many rows the first n inodes have
 abbrev pub named_rows : List (Roomy Row) → ℕ → ℕ
 named_rows rows zero = 0
-named_rows rows (suc n) = named_rows rows n + length (rows_at rows n)
+named_rows rows (suc n) = named_rows rows n + length (rows_of_inode rows n)
 
 -- The first n of some rows were counted, each for the inode that it names.
-pub record Counts (old new : List ℕ) (rows : List Row) (n : ℕ) : Type 0 where
+pub record CountsNamings (old new : List ℕ) (rows : List Row) (n : ℕ) : Type 0 where
   pub size : length new ≡ length old
   pub each : (i : ℕ) → i < length old → slice_index new i ≡ slice_index old i + naming i (take n rows)
 
 -- These are the numbers of rows of the first n inodes that name each of so many inodes.
-pub record AreNamed (rows : List (Roomy Row)) (n count : ℕ) (named : List ℕ) : Type 0 where
+pub record AreNamingCounts (rows : List (Roomy Row)) (n count : ℕ) (named : List ℕ) : Type 0 where
   pub size : length named ≡ count
-  pub each : (i : ℕ) → i < count → slice_index named i ≡ named_by rows n i
+  pub each : (i : ℕ) → i < count → slice_index named i ≡ naming_below rows n i

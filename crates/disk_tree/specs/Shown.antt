@@ -1,5 +1,5 @@
 -- What the inodes of an image show, by what was read of them, and which tests the rules across inodes are then.
-use Rattle.std.specs.Prelude.{◌≡◌, ◌≢◌, ℕ, ◌<◌, Bool, List, [], length, map, All, Option}
+use Rattle.std.specs.Prelude.{◌≡◌, ◌≢◌, ℕ, ◌<◌, Bool, List, [], length, map, All, Option, None}
 use Rattle.sfs_base.specs.Lists.{Roomy}
 use Rattle.sfs_image.specs.Inode.{Inode, IsInode, Table, inode_of}
 use Rattle.sfs_image.specs.Super.{Layout}
@@ -8,9 +8,13 @@ use Rattle.disk_tree.specs.Blocks.{ReadWell}
 use Rattle.disk_tree.specs.Gathered.{KeepPointerRules}
 use Rattle.sfs_image.specs.Seen.{SeenInodes}
 use Rattle.sfs_image.specs.Slot.{Row}
+use Rattle.image_tree.specs.Keeps.{KeepsRules}
+use Rattle.image_tree.specs.Mount.{ShowsByKind}
 use Rattle.image_tree.specs.Rules.{breaks_tree_rule}
 use Rattle.disk_tree.specs.Inodes.{inode_at}
-use Rattle.disk_tree.specs.Rows.{AreRowLists, rows_at, rows_in_slots}
+use Rattle.sfs_image.specs.Part.{Part}
+use Rattle.disk_tree.specs.Judged.{AreReadParts, fault_of_parts}
+use Rattle.disk_tree.specs.Rows.{AreRowLists, rows_of_inode, rows_in_slots}
 use Rattle.disk_tree.specs.Tests.{breaks_eighth, breaks_ninth, breaks_tenth, breaks_eleventh, breaks_twelfth, breaks_thirteenth, breaks_fourteenth}
 use Rattle.disk_tree.specs.Reached.{MarksReached}
 use Rattle.disk_tree.specs.First.{NonePasses}
@@ -20,8 +24,8 @@ pub record ShowsRows (image : SeenInodes) (inodes : List Inode) (rows : List (Ro
   pub count : image.count ≡ length inodes
   pub kind : (i : ℕ) → i < image.count → (image.seen i).kind ≡ (inode_at inodes i).kind
   pub links : (i : ℕ) → i < image.count → (image.seen i).links ≡ (inode_at inodes i).links
-  pub slots : (i : ℕ) → i < image.count → (image.seen i).kind ≡ 2 → rows_at rows i ≡ rows_in_slots (image.seen i).slots
-  pub others : (i : ℕ) → i < image.count → (image.seen i).kind ≢ 2 → rows_at rows i ≡ []
+  pub slots : (i : ℕ) → i < image.count → (image.seen i).kind ≡ 2 → rows_of_inode rows i ≡ rows_in_slots (image.seen i).slots
+  pub others : (i : ℕ) → i < image.count → (image.seen i).kind ≢ 2 → rows_of_inode rows i ≡ []
 
 -- The rules on the rows of one directory are tests on its rows; that on buckets where no directory has a name twice.
 pub record AreRowTests (image : SeenInodes) (inodes : List Inode) (rows : List (Roomy Row)) : Type 0 where
@@ -58,3 +62,13 @@ ReadPartsShowRows = (told : Option (List ℕ)) (layout : Layout) (records : List
     (slots : List (Roomy (List (Option Row)))) (rows : List (Roomy Row)) → length records ≡ layout.inodes → inodes ≡ map inode_of records → All IsInode inodes
     → KeepPointerRules told layout records tables → (well : ReadWell told layout records inodes tables contents slots) → AreRowLists slots layout.inodes rows
     → ShowsRows (inodes_shown layout well.parts) inodes rows
+
+-- Inodes keep the rules, and each shows what its kind has.
+pub record AreRuled (image : SeenInodes) : Type 0 where
+  pub rules : KeepsRules image
+  pub kinds : ShowsByKind image
+
+-- Parts that reads gave, and that have no fault, show inodes that keep the rules.
+abbrev pub FaultlessPartsAreRuled : Type 0
+FaultlessPartsAreRuled = (told : Option (List ℕ)) (layout : Layout) (records : List (List ℕ)) (parts : ℕ → Part) → 0 < layout.inodes → AreReadParts told layout records parts
+    → fault_of_parts layout parts ≡ None → AreRuled (inodes_shown layout parts)

@@ -3,7 +3,7 @@ ghost use Rattle.std.specs.Prelude.{◌≡◌, ℕ, ◌+◌, ◌*◌, ◌^◌, �
 ghost use Rattle.sfs_image.specs.Bytes.{part};
 ghost use Rattle.sfs_image.specs.Seen.{FILE_BLOCKS};
 ghost use Rattle.disk_tree.specs.Blocks.{tail_badly, breaks_tail_at, FindsSlots, AreSlotLists, BreaksSeventh};
-ghost use Rattle.disk_tree.specs.Contents.{blocks_of_size, bytes_at};
+ghost use Rattle.disk_tree.specs.Contents.{blocks_of_size, bytes_of_inode};
 ghost use Rattle.disk_tree.specs.First.{FindsFirst};
 ghost use Rattle.disk_tree.specs.Inodes.{inode_at};
 ghost use Rattle.disk_tree.specs.Judged.{IsRefusal};
@@ -25,7 +25,7 @@ pub fn first_of_bad_tail(inodes: &[Inode], contents: &[Content]) -> Option<u32>
     requires count { length contents.now ≡ length inodes.now }
     requires few { length inodes.now ≤ 16384 }
     requires small { (i : ℕ) → i < length inodes.now → (inode_at inodes.now i).size ≤ 4096 * FILE_BLOCKS }
-    requires whole { (i : ℕ) → i < length inodes.now → length (bytes_at contents.now i) ≡ 4096 * blocks_of_size (inode_at inodes.now i).size }
+    requires whole { (i : ℕ) → i < length inodes.now → length (bytes_of_inode contents.now i) ≡ 4096 * blocks_of_size (inode_at inodes.now i).size }
     ensures { FindsFirst (length inodes.now) (breaks_tail_at inodes.now contents.now) result }
 {
     for place in 0..inodes.len() {
@@ -70,7 +70,7 @@ pub fn gather_slots(
     requires count { length contents.now ≡ length inodes.now }
     requires few { length inodes.now ≤ 16384 }
     requires small { (i : ℕ) → i < length inodes.now → (inode_at inodes.now i).size ≤ 4096 * FILE_BLOCKS }
-    requires whole { (i : ℕ) → i < length inodes.now → length (bytes_at contents.now i) ≡ 4096 * blocks_of_size (inode_at inodes.now i).size }
+    requires whole { (i : ℕ) → i < length inodes.now → length (bytes_of_inode contents.now i) ≡ 4096 * blocks_of_size (inode_at inodes.now i).size }
     ensures ok { IfOk result (λ slots. AreSlotLists inodes.now contents.now (length inodes.now) slots.items) }
     ensures bad { IfErr result (IsRefusal (BreaksSeventh inodes.now contents.now)) }
 {

@@ -1,20 +1,42 @@
 // The tree of an image that breaks no rule: its nodes, and then its rows.
-ghost use Rattle.std.specs.Prelude.{◌≡◌, ℕ, ◌+◌, ◌<◌, ◌≤◌, length, [], None, OnOk};
+ghost use Rattle.std.specs.Prelude.{◌≡◌, ℕ, ◌+◌, ◌<◌, ◌≤◌, length, [], None, IfOk, OnOk};
 ghost use Rattle.std.specs.FinMap as finmap;
-ghost use Rattle.disk_tree.specs.Built.{MayPut, with_entries, row_entries, with_nodes, node_entries, with_node_of};
-ghost use Rattle.disk_tree.specs.Contents.{bytes_at};
+ghost use Rattle.sfs_image.specs.Super.{InRange};
+ghost use Rattle.disk_tree.specs.Built.{MayBuild, MayPut, tree_of_entries, with_entries, row_entries, with_nodes, node_entries, with_node_of};
+ghost use Rattle.disk_tree.specs.Contents.{bytes_of_inode};
 ghost use Rattle.disk_tree.specs.Inodes.{inode_at};
 
 use crate::contents::Content;
 use crate::inodes::{DIRECTORY, FILE};
+use crate::read::ReadInodes;
 use crate::rows::RowList;
 use fmt_inode::Inode;
+use fmt_super::Layout;
 use sfs_base::{Kind, NoMemory, NodeId};
 use sfs_tree::Tree;
 use std::alloc::Global;
 
-/// Puts the nodes of all inodes but the root's into a tree that has the root alone.
-pub fn put_nodes(
+/// The tree of an image whose inodes keep the rules.
+pub fn built_tree(
+    alloc: Global,
+    layout: &Layout,
+    read: &ReadInodes,
+    named: &[u32],
+    rows: &[RowList],
+) -> Result<Tree, NoMemory>
+    requires layout { InRange layout.now }
+    requires may { MayBuild layout.now read.now.inodes.items named.now read.now.contents.items rows.now }
+    ensures { IfOk result (λ tree. tree ≡ tree_of_entries layout.now
+        (node_entries read.now.inodes.items named.now read.now.contents.items (length read.now.inodes.items)) (row_entries rows.now (length rows.now))) }
+{
+    let mut tree = Tree::empty(alloc, layout.inodes, 0, layout.cores as u8)?;
+    put_nodes(alloc, &mut tree, &read.inodes, named, &read.contents)?;
+    put_rows(&mut tree, rows)?;
+    Ok(tree)
+}
+
+// Puts the nodes of all inodes but the root's into a tree that has the root alone.
+fn put_nodes(
     alloc: Global,
     tree: &mut Tree,
     inodes: &[Inode],
@@ -27,7 +49,7 @@ pub fn put_nodes(
     requires counts { (length named.now ≡ length inodes.now) × (length contents.now ≡ length inodes.now) }
     requires start { tree.old ≡ with_nodes tree.old (node_entries inodes.now named.now contents.now 1) }
     requires sizes { (i : ℕ) → i < length inodes.now → (inode_at inodes.now i).size ≤ 67551232 }
-    requires bytes { (i : ℕ) → i < length inodes.now → (inode_at inodes.now i).size ≤ length (bytes_at contents.now i) }
+    requires bytes { (i : ℕ) → i < length inodes.now → (inode_at inodes.now i).size ≤ length (bytes_of_inode contents.now i) }
     ensures { OnOk result (tree.new ≡ with_nodes tree.old (node_entries inodes.now named.now contents.now (length inodes.now))) }
 {
     for place in 1..inodes.len() {
@@ -68,8 +90,8 @@ fn put_node_of(
     Ok(())
 }
 
-/// Puts the rows of all directories into a tree without rows.
-pub fn put_rows(tree: &mut Tree, rows: &[RowList]) -> Result<(), NoMemory>
+// Puts the rows of all directories into a tree without rows.
+fn put_rows(tree: &mut Tree, rows: &[RowList]) -> Result<(), NoMemory>
     requires few { length rows.now ≤ 16384 }
     requires start { tree.old ≡ with_entries tree.old [] }
     requires may { MayPut tree.old rows.now }

@@ -3,7 +3,7 @@ ghost use Rattle.std.specs.Prelude.{◌≡◌, ℕ, ◌*◌, ◌<◌, ◌≤◌,
 ghost use Rattle.sfs_image.specs.Seen.{FILE_BLOCKS};
 ghost use Rattle.block_map.specs.Kept.{block_kept};
 ghost use Rattle.disk_tree.specs.Cause.{OnlyReads};
-ghost use Rattle.disk_tree.specs.Contents.{AreContents, blocks_of_size};
+ghost use Rattle.disk_tree.specs.Contents.{AreReadContents, blocks_of_size};
 ghost use Rattle.disk_tree.specs.Gathered.{tables_at};
 ghost use Rattle.disk_tree.specs.Inodes.{inode_at};
 ghost use Rattle.disk_tree.specs.Judged.{IsPlain};
@@ -33,7 +33,7 @@ pub fn gather_contents<D: Disk>(
     requires sizes { (i : ℕ) → i < length inodes.now → (inode_at inodes.now i).size ≤ 4096 * FILE_BLOCKS }
     requires within { (i n : ℕ) → i < length inodes.now → n < FILE_BLOCKS
         → block_kept (inode_at inodes.now i) (tables_at tables.now i) n < (D.view disk.old).size }
-    ensures ok { IfOk result (λ contents. AreContents (D.view disk.old).content inodes.now tables.now (length inodes.now) contents.items) }
+    ensures ok { IfOk result (λ contents. AreReadContents (D.view disk.old).content inodes.now tables.now (length inodes.now) contents.items) }
     ensures reads { OnlyReads (D.view disk.old) (D.view disk.new) result }
     ensures plain { IfErr result IsPlain }
 {

@@ -2,12 +2,12 @@
 ghost use Rattle.std.specs.Prelude.{◌≡◌, ℕ, ◌^◌, ◌<◌, ◌≤◌, ◌==◌, length, IfOk};
 ghost use Rattle.disk_tree.specs.First.{FindsFirst};
 ghost use Rattle.disk_tree.specs.Inodes.{inode_at};
-ghost use Rattle.disk_tree.specs.Rows.{AreNamed, rows_at};
+ghost use Rattle.disk_tree.specs.Rows.{AreNamingCounts, rows_of_inode};
 ghost use Rattle.disk_tree.specs.Tests.{has_twice, breaks_eighth, breaks_ninth, breaks_tenth, breaks_eleventh, breaks_twelfth, breaks_thirteenth, breaks_fourteenth, wrong_links};
 
 use crate::inodes::DIRECTORY;
 use crate::rows::{
-    RowList, count_directories, has_full_bucket, has_misplaced_row, have_one_name, names_root,
+    RowList, count_directories, has_duplicate_name, has_full_bucket, has_misplaced_row, names_root,
 };
 use fmt_inode::Inode;
 use fmt_slots::SlotRow;
@@ -31,7 +31,7 @@ pub fn first_with_name_twice(alloc: Global, rows: &[RowList]) -> Result<Option<u
 fn has_name_twice(alloc: Global, rows: &[SlotRow]) -> Result<bool, NoMemory>
     ensures { IfOk result (λ twice. twice ≡ has_twice rows.now) }
 {
-    have_one_name(alloc, rows)
+    has_duplicate_name(alloc, rows)
 }
 
 /// Rule 9: the first directory with more rows in a bucket than it may have.
@@ -77,7 +77,7 @@ pub fn first_that_names_root(rows: &[RowList]) -> Option<u32>
 /// Rule 12: the first directory that two rows name.
 pub fn first_named_twice(inodes: &[Inode], rows: &[RowList], named: &[u32]) -> Option<u32>
     requires few { length inodes.now ≤ 16384 }
-    requires named { AreNamed rows.now (length inodes.now) (length inodes.now) named.now }
+    requires named { AreNamingCounts rows.now (length inodes.now) (length inodes.now) named.now }
     ensures { FindsFirst (length inodes.now) (breaks_twelfth inodes.now rows.now (length inodes.now)) result }
 {
     let _ = rows.len();
@@ -93,8 +93,8 @@ pub fn first_named_twice(inodes: &[Inode], rows: &[RowList], named: &[u32]) -> O
 pub fn first_with_wrong_links(inodes: &[Inode], rows: &[RowList], named: &[u32]) -> Option<u32>
     requires few { length inodes.now ≤ 16384 }
     requires count { length rows.now ≡ length inodes.now }
-    requires short { (i : ℕ) → i < length rows.now → length (rows_at rows.now i) < 2 ^ 32 }
-    requires named { AreNamed rows.now (length inodes.now) (length inodes.now) named.now }
+    requires short { (i : ℕ) → i < length rows.now → length (rows_of_inode rows.now i) < 2 ^ 32 }
+    requires named { AreNamingCounts rows.now (length inodes.now) (length inodes.now) named.now }
     ensures { FindsFirst (length inodes.now) (breaks_thirteenth inodes.now rows.now (length inodes.now)) result }
 {
     for place in 0..inodes.len() {

@@ -1,5 +1,6 @@
 // What is proved of the definitions: each function's contract is a law.
-ghost use Rattle.disk_tree.specs.Shown.{RowTestsAreRules, CountTestsAreRules, ReachedTestIsRule, ReadPartsShowRows};
+ghost use Rattle.disk_tree.specs.Shown.{RowTestsAreRules, CountTestsAreRules, ReachedTestIsRule, ReadPartsShowRows, FaultlessPartsAreRuled};
+ghost use Rattle.disk_tree.specs.Told.{FoundIsTheImages, FaultsAreTheImages};
 
 /// The rules on the rows of a directory are tests on its rows.
 pub fn row_tests_are_rules()
@@ -19,4 +20,19 @@ pub fn reached_test_is_rule()
 /// What was read of an image shows its rows.
 pub fn read_parts_show_rows()
     ensures { ReadPartsShowRows }
+{}
+
+/// Parts that reads gave, and that have no fault, show inodes that keep the rules.
+pub fn faultless_parts_are_ruled()
+    ensures { FaultlessPartsAreRuled }
+{}
+
+/// What is found on a disk that tells an image is the image's tree.
+pub fn found_is_the_images()
+    ensures { FoundIsTheImages }
+{}
+
+/// The first fault of what is read of a disk that tells an image is the image's first fault.
+pub fn faults_are_the_images()
+    ensures { FaultsAreTheImages }
 {}

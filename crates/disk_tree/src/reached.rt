@@ -3,7 +3,7 @@ ghost use Rattle.std.specs.Prelude.{◌≡◌, ◌⊎◌, ℕ, ◌<◌, ◌≤�
 ghost use Rattle.sfs_tree.specs.Tree.{is_directory_kind};
 ghost use Rattle.disk_tree.specs.Apart.{is_marked};
 ghost use Rattle.disk_tree.specs.Reached.{MarksReached, Visits, Passes, Marks};
-ghost use Rattle.disk_tree.specs.Rows.{rows_at};
+ghost use Rattle.disk_tree.specs.Rows.{rows_of_inode};
 
 use crate::rows::RowList;
 use fmt_slots::SlotRow;
@@ -13,7 +13,7 @@ use std::alloc::Global;
 /// Marks each directory that a walk from the root reaches. Each row names one of the inodes.
 pub fn reached(alloc: Global, rows: &[RowList]) -> Result<Vec<bool>, NoMemory>
     requires some { 0 < length rows.now }
-    requires within { (i : ℕ) → i < length rows.now → All (λ row. row.inode < length rows.now) (rows_at rows.now i) }
+    requires within { (i : ℕ) → i < length rows.now → All (λ row. row.inode < length rows.now) (rows_of_inode rows.now i) }
     ensures { IfOk result (λ reached. MarksReached rows.now (length rows.now) reached.items) }
 {
     let mut reached = vec![in alloc; false; rows.len()]?;
@@ -24,7 +24,7 @@ pub fn reached(alloc: Global, rows: &[RowList]) -> Result<Vec<bool>, NoMemory>
 // Visits the root, and then each directory that had no mark when it was met.
 fn walk(alloc: Global, reached: &mut [bool], rows: &[RowList]) -> Result<(), NoMemory>
     requires some { 0 < length rows.now }
-    requires within { (i : ℕ) → i < length rows.now → All (λ row. row.inode < length rows.now) (rows_at rows.now i) }
+    requires within { (i : ℕ) → i < length rows.now → All (λ row. row.inode < length rows.now) (rows_of_inode rows.now i) }
     requires size { length reached.old ≡ length rows.now }
     requires unmarked { (i : ℕ) → is_marked reached.old i ≡ false }
     ensures { OnOk result (MarksReached rows.now (length rows.now) reached.new) }

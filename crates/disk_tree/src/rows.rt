@@ -6,7 +6,7 @@ ghost use Rattle.sfs_tree.specs.Tree.{is_directory_kind};
 ghost use Rattle.disk_tree.specs.Blocks.{slots_at};
 ghost use Rattle.disk_tree.specs.First.{FindsFirst};
 ghost use Rattle.disk_tree.specs.Inodes.{inode_at};
-ghost use Rattle.disk_tree.specs.Rows.{AreRowLists, AnswersTwice, rows_in_slots, slots_together, rows_in_bucket, has_full_bucket, is_misplaced_by, rows_at, directories_in, named_rows, AreNamed, Counts};
+ghost use Rattle.disk_tree.specs.Rows.{AreRowLists, AnswersTwice, rows_in_slots, slots_together, rows_in_bucket, has_full_bucket, is_misplaced_by, rows_of_inode, directory_row_count, named_rows, AreNamingCounts, CountsNamings};
 
 use crate::inodes::{DIRECTORY, FILE};
 use fmt_inode::Inode;
@@ -63,8 +63,8 @@ fn push_row(rows: &mut Vec<SlotRow>, slot: &Option<SlotRow>) -> Result<(), NoMem
     Ok(())
 }
 
-/// Two rows have one name.
-pub fn have_one_name(alloc: Global, rows: &[SlotRow]) -> Result<bool, NoMemory>
+/// Whether two rows have one name.
+pub fn has_duplicate_name(alloc: Global, rows: &[SlotRow]) -> Result<bool, NoMemory>
     ensures { IfOk result (AnswersTwice rows.now) }
 {
     let mut names = NameMap::new(alloc);
@@ -124,7 +124,7 @@ pub fn names_root(rows: &[SlotRow]) -> bool
 
 /// How many rows name directories.
 pub fn count_directories(rows: &[SlotRow]) -> usize
-    ensures { result ≡ directories_in rows.now }
+    ensures { result ≡ directory_row_count rows.now }
 {
     rows.iter()
         .filter(|row| matches!(row.kind, Kind::Directory))
@@ -133,9 +133,9 @@ pub fn count_directories(rows: &[SlotRow]) -> usize
 
 /// How many rows name each inode. Each row names one of the inodes.
 pub fn count_named(alloc: Global, count: usize, rows: &[RowList]) -> Result<Vec<u32>, NoMemory>
-    requires within { (i : ℕ) → i < length rows.now → All (λ row. row.inode < count) (rows_at rows.now i) }
+    requires within { (i : ℕ) → i < length rows.now → All (λ row. row.inode < count) (rows_of_inode rows.now i) }
     requires few { named_rows rows.now (length rows.now) < 2 ^ 32 }
-    ensures ok { IfOk result (λ named. AreNamed rows.now (length rows.now) count named.items) }
+    ensures ok { IfOk result (λ named. AreNamingCounts rows.now (length rows.now) count named.items) }
 {
     let mut named = vec![in alloc; 0u32; count]?;
     count_all(&mut named, rows);
@@ -145,9 +145,9 @@ pub fn count_named(alloc: Global, count: usize, rows: &[RowList]) -> Result<Vec<
 // Counts the rows of all inodes.
 fn count_all(named: &mut [u32], rows: &[RowList])
     requires zeros { (i : ℕ) → slice_index named.old i ≡ 0 }
-    requires within { (i : ℕ) → i < length rows.now → All (λ row. row.inode < length named.old) (rows_at rows.now i) }
+    requires within { (i : ℕ) → i < length rows.now → All (λ row. row.inode < length named.old) (rows_of_inode rows.now i) }
     requires few { named_rows rows.now (length rows.now) < 2 ^ 32 }
-    ensures { AreNamed rows.now (length rows.now) (length named.old) named.new }
+    ensures { AreNamingCounts rows.now (length rows.now) (length named.old) named.new }
 {
     for place in 0..rows.len() {
         count_in(named, rows[place].as_slice());
@@ -158,7 +158,7 @@ fn count_all(named: &mut [u32], rows: &[RowList])
 fn count_in(named: &mut [u32], rows: &[SlotRow])
     requires within { All (λ row. row.inode < length named.old) rows.now }
     requires room { (i : ℕ) → slice_index named.old i + length rows.now < 2 ^ 32 }
-    ensures { Counts named.old named.new rows.now (length rows.now) }
+    ensures { CountsNamings named.old named.new rows.now (length rows.now) }
 {
     for row in rows {
         named[row.inode as usize] += 1;

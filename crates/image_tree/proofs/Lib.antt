@@ -1,3 +1,4 @@
+pub mod Alike
 pub mod Basics
 pub mod BlockRows
 pub mod Committed

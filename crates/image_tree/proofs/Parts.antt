@@ -1,13 +1,13 @@
 -- What the settled parts of an image show, where no rule on bytes is broken.
 use Rattle.std.proofs.Common.{◌≡◌, ◌≢◌, ℕ, zero, suc, ◌+◌, ◌-◌, ◌*◌, ◌/◌, ◌<◌, ◌≤◌, true, false, cond, List, [], ◌∷◌, take, drop, length, slice_index, None, ◌⊎◌, inl, inr, refl, sym, ap, subst, ◌∙◌, arith, nat_eq, nat_lt}
 use borrow.Author.Tests.{eqb-true, eq-eqb, ltb-false}
-use Rattle.std.specs.Prelude.{is_some, position, slice_index_or}
+use Rattle.std.specs.Prelude.{position, slice_index_or}
 use Rattle.std.specs.List.{flat_map}
 use Rattle.std.proofs.lemmas.List.{get_or-drop, get_or-take, get_or_past, length-take-le}
 use Rattle.std.proofs.lemmas.Bool.{cases_lt}
 use Rattle.sfs_base.specs.declared.numbers.Kind.TheVariants.{File, Directory}
 use Rattle.sfs_image.specs.Bytes.{part, number_from, u32s_at, nonzero_in, is_nonzero}
-use Rattle.sfs_image.specs.Inode.{inode_of, inode_fault, pointers_of, table_of, entry_of}
+use Rattle.sfs_image.specs.Inode.{inode_fault, pointers_of, table_of, entry_of}
 use Rattle.sfs_image.specs.Part.{Part, inode_in, part_of, block_pointer, pointer_at, seen_of, is_free_part, is_file_part, is_directory_part, directory_blocks, shown_bytes, shown_slots, tabulate}
 use Rattle.sfs_image.specs.Rules.{HasBlockAt, breaks_record, breaks_root, breaks_size, breaks_apart}
 use Rattle.sfs_image.specs.Seen.{SeenInodes, FILE_BLOCKS, PLACES}
@@ -15,7 +15,7 @@ use Rattle.sfs_image.specs.Slot.{kind_byte}
 use Rattle.sfs_image.specs.SlotBlock.{slots_of}
 use Rattle.sfs_image.proofs.Basics.{length-tabulate}
 use Rattle.sfs_image.proofs.BytesLaws.{zeros_from_none, zeros-byte, None-option_map}
-use Rattle.sfs_image.proofs.InodeLaws.{InodeFacts, inode_facts}
+use Rattle.sfs_image.proofs.InodeLaws.{InodeFacts, inode_facts, pointers_of-zeros}
 use Rattle.sfs_image.proofs.PiecesLaws.{length-u32s_at, get_or-u32s_at}
 use Rattle.sfs_image.proofs.PartLaws.{pointer_of_block, pointer_of_table, table_is_read, hole_is_read}
 use Rattle.sfs_base.proofs.BasicOptions.{none_of}
@@ -63,75 +63,71 @@ zero_behind raw none k lt =
     ∙ ap (λ (bytes : List ℕ). slice_index bytes k) (zeros_from_none (part 4 508 raw) (None-option_map (λ j. 4 + j) (position is_nonzero (part 4 508 raw)) none))
     ∙ zeros-byte (length (part 4 508 raw)) k
 
-module _ (store : ℕ → List ℕ) (raw : List ℕ) where
-  abbrev own : Part
-  own = part_of store raw
+-- A part has all its blocks, and each of its indirect blocks that has no pointer reads as holes.
+pub record IsWholePart (part : Part) : Type 0 where
+  pub blocks : length part.blocks ≡ FILE_BLOCKS
+  pub holes : (k : ℕ) → k < 16 → slice_index (inode_in part).indirect k ≡ 0 → (entry : ℕ) → slice_index (pointers_of (slice_index_or part.tables k [])) entry ≡ 0
 
-  own_raw : own.raw ≡ raw
-  unfolding part_of
-  own_raw = refl
+gathered_blocks : (store : ℕ → List ℕ) (raw : List ℕ) → length (part_of store raw).blocks ≡ FILE_BLOCKS
+unfolding part_of
+gathered_blocks store raw = length-tabulate FILE_BLOCKS _
 
-  own_inode : inode_in own ≡ inode_of raw
-  own_inode = ap inode_of own_raw
+-- the part of a record that a store of blocks has is whole
+pub gathered_whole : (store : ℕ → List ℕ) (raw : List ℕ) → IsWholePart (part_of store raw)
+gathered_whole store raw = record {
+  blocks = gathered_blocks store raw;
+  holes = λ k lt none entry.
+      ap (λ (block : List ℕ). slice_index (pointers_of block) entry) (table_is_read store raw k lt ∙ hole_is_read store (pointer_at (part_of store raw) (FILE_BLOCKS + k)) (pointer_of_table (part_of store raw) k ∙ none))
+      ∙ pointers_of-zeros entry;
+}
 
-  length_blocks : length own.blocks ≡ FILE_BLOCKS
-  unfolding part_of
-  length_blocks = length-tabulate FILE_BLOCKS _
+-- the part of a free record has no pointer
+module _ (part : Part) (whole : IsWholePart part) (none : nonzero_in 4 508 part.raw ≡ None) where
+  no_direct : (k : ℕ) → slice_index (inode_in part).direct k ≡ 0
+  no_direct = zero_u32s 16 108 part.raw (λ k lt. ap (slice_index part.raw) (apart k) ∙ zero_behind part.raw none (12 + k) (omega arith))
+    where
+      apart : (k : ℕ) → 16 + k ≡ 4 + (12 + k)
+      apart k = omega arith
 
-  module _ (none : nonzero_in 4 508 raw ≡ None) where
-    no_direct : (k : ℕ) → slice_index (inode_of raw).direct k ≡ 0
-    no_direct = zero_u32s 16 108 raw (λ k lt. ap (slice_index raw) (apart k) ∙ zero_behind raw none (12 + k) (omega arith))
-      where
-        apart : (k : ℕ) → 16 + k ≡ 4 + (12 + k)
-        apart k = omega arith
+  no_indirect : (k : ℕ) → slice_index (inode_in part).indirect k ≡ 0
+  no_indirect = zero_u32s 448 16 part.raw (λ k lt. ap (slice_index part.raw) (apart k) ∙ zero_behind part.raw none (444 + k) (omega arith))
+    where
+      apart : (k : ℕ) → 448 + k ≡ 4 + (444 + k)
+      apart k = omega arith
 
-    no_indirect : (k : ℕ) → slice_index (inode_of raw).indirect k ≡ 0
-    no_indirect = zero_u32s 448 16 raw (λ k lt. ap (slice_index raw) (apart k) ∙ zero_behind raw none (444 + k) (omega arith))
-      where
-        apart : (k : ℕ) → 448 + k ≡ 4 + (444 + k)
-        apart k = omega arith
+  no_block : (n : ℕ) → n < FILE_BLOCKS → block_pointer (inode_in part) part.tables n ≡ 0
+  no_block n lt = elim (nat_lt n 108) as (λ b. nat_lt n 108 ≡ b → cond b (slice_index (inode_in part).direct n) (slice_index (pointers_of (slice_index_or part.tables (table_of n) [])) (entry_of n)) ≡ 0) [
+    | true ↦ λ t. no_direct n
+    | false ↦ λ t. let le = ltb-false _ _ t in whole.holes (table_of n) (omega arith) (no_indirect (table_of n)) (entry_of n)
+  ] refl
 
-    no_table : (k : ℕ) → pointer_at own (FILE_BLOCKS + k) ≡ 0
-    no_table k = pointer_of_table own k ∙ ap (λ (r : List ℕ). slice_index (inode_of r).indirect k) own_raw ∙ no_indirect k
+  pub no_pointer : (place : ℕ) → place < PLACES → pointer_at part place ≡ 0
+  no_pointer place lt = elim (cases_lt place FILE_BLOCKS) [
+    | inl below ↦ pointer_of_block part place below ∙ no_block place below
+    | inr behind ↦ subst (λ (p : ℕ). pointer_at part p ≡ 0) (again place behind) (pointer_of_table part (place - FILE_BLOCKS) ∙ no_indirect (place - FILE_BLOCKS))
+  ]
+    where
+      again : (place : ℕ) → FILE_BLOCKS ≤ place → FILE_BLOCKS + (place - FILE_BLOCKS) ≡ place
+      again place le = omega arith
 
-    no_entry : (k j : ℕ) → k < 16 → slice_index (pointers_of (slice_index_or own.tables k [])) j ≡ 0
-    no_entry k j lt = zero_u32s 0 1024 (slice_index_or own.tables k []) (λ m less. ap (λ (b : List ℕ). slice_index b (0 + m)) (table_is_read store raw k lt ∙ hole_is_read store (pointer_at own (FILE_BLOCKS + k)) (no_table k)) ∙ zeros-byte 4096 (0 + m)) j
+-- inode 0 is a directory where its part breaks no rule
+pub root_shown : (part : Part) → breaks_root part 0 ≡ false → (seen_of part).kind ≡ kind_byte Directory
+root_shown part e = eqb-true _ _ (not_false _ e)
 
-    no_block : (n : ℕ) → n < FILE_BLOCKS → block_pointer (inode_in own) own.tables n ≡ 0
-    no_block n lt = elim (nat_lt n 108) as (λ b. nat_lt n 108 ≡ b → cond b (slice_index (inode_in own).direct n) (slice_index (pointers_of (slice_index_or own.tables (table_of n) [])) (entry_of n)) ≡ 0) [
-      | true ↦ λ t. ap (λ (r : List ℕ). slice_index (inode_of r).direct n) own_raw ∙ no_direct n
-      | false ↦ λ t. let le = ltb-false _ _ t in no_entry (table_of n) (entry_of n) (omega arith)
-    ] refl
-
-    pub no_pointer : (place : ℕ) → place < PLACES → pointer_at own place ≡ 0
-    no_pointer place lt = elim (cases_lt place FILE_BLOCKS) [
-      | inl below ↦ pointer_of_block own place below ∙ no_block place below
-      | inr behind ↦ subst (λ (p : ℕ). pointer_at own p ≡ 0) (again place behind) (no_table (place - FILE_BLOCKS))
-    ]
-      where
-        again : (place : ℕ) → FILE_BLOCKS ≤ place → FILE_BLOCKS + (place - FILE_BLOCKS) ≡ place
-        again place le = omega arith
-
--- the inodes that parts of a store show
-module _ (store : ℕ → List ℕ) (raws : ℕ → List ℕ) (count : ℕ) where
-  abbrev parts : ℕ → Part
-  parts i = part_of store (raws i)
-
+-- the inodes that whole parts show
+module _ (parts : ℕ → Part) (count : ℕ) (whole : (i : ℕ) → i < count → IsWholePart (parts i)) where
   abbrev inodes : SeenInodes
   inodes = record { count = count; seen = λ i. seen_of (parts i) }
 
   module _ (records : (i : ℕ) → i < count → breaks_record (parts i) ≡ false) where
-    facts : (i : ℕ) → i < count → InodeFacts (raws i)
-    facts i lt = inode_facts (raws i) (none_of (inode_fault (raws i)) (ap (λ (r : List ℕ). is_some (inode_fault r)) (sym (own_raw store (raws i))) ∙ records i lt))
-
-    kind_is : (i : ℕ) → (inode_in (parts i)).kind ≡ slice_index (raws i) 0
-    kind_is i = ap (λ (r : List ℕ). (inode_of r).kind) (own_raw store (raws i))
+    facts : (i : ℕ) → i < count → InodeFacts (parts i).raw
+    facts i lt = inode_facts (parts i).raw (none_of (inode_fault (parts i).raw) (records i lt))
 
     unused_shown : (i : ℕ) → i < count → (inode_in (parts i)).kind ≡ 0 → IsUnused (seen_of (parts i))
-    unused_shown i lt free = record { kind = free; blocks = no_pointer store (raws i) ((facts i lt).free (sym (kind_is i) ∙ free)) }
+    unused_shown i lt free = record { kind = free; blocks = no_pointer (parts i) (whole i lt) ((facts i lt).free free) }
 
     kinds_shown : (i : ℕ) → i < count → (inode_in (parts i)).kind ≢ 0 → ((inode_in (parts i)).kind ≡ kind_byte File) ⊎ ((inode_in (parts i)).kind ≡ kind_byte Directory)
-    kinds_shown i lt used = by_number (inode_in (parts i)).kind used (let a = (facts i lt).kind in let b = kind_is i in omega arith)
+    kinds_shown i lt used = by_number (inode_in (parts i)).kind used (facts i lt).kind
       where
         by_number : (n : ℕ) → n ≢ 0 → n ≤ 2 → (n ≡ kind_byte File) ⊎ (n ≡ kind_byte Directory)
         by_number zero some le = absurd (some refl)
@@ -151,7 +147,7 @@ module _ (store : ℕ → List ℕ) (raws : ℕ → List ℕ) (count : ℕ) wher
             let fits = (sizes_say (parts i)).0 (sizes i lt) in
             let whole_blocks = fits.whole is in
             let few = fits.few is in
-            let blocks = length_blocks store (raws i) in
+            let blocks = (whole i lt).blocks in
             let taken : length (take ((inode_in (parts i)).size / 4096) (parts i).blocks) ≡ (inode_in (parts i)).size / 4096 = length-take-le ((inode_in (parts i)).size / 4096) (parts i).blocks (omega arith) in
             let slots : length (shown_slots (parts i)) ≡ 15 * ((inode_in (parts i)).size / 4096) = (slots_shown (parts i) is).count ∙ ap (λ n. 15 * n) taken in
             let whole : (inode_in (parts i)).size ≡ 4096 * ((15 * ((inode_in (parts i)).size / 4096)) / 15) = omega arith in
@@ -181,7 +177,3 @@ module _ (store : ℕ → List ℕ) (raws : ℕ → List ℕ) (count : ℕ) wher
 
         at : (i p : ℕ) → i < count → p < PLACES → pointer_at (parts i) p ≢ 0 → HasBlockAt parts i p
         at i p lt small some = record { used = in_use i p lt small some; keeps = rule i lt; within = small; there = some }
-
-  -- inode 0 is a directory where it breaks no rule
-  pub root_shown : breaks_root (parts 0) 0 ≡ false → (seen_of (parts 0)).kind ≡ kind_byte Directory
-  root_shown e = eqb-true _ _ (not_false _ e)

@@ -1,5 +1,5 @@
 -- Images without a fault: their trees are sound and they stand for them; and which images have none.
-use Rattle.std.proofs.Common.{Bool, ◌≡◌, ℕ, ◌/◌, ◌<◌, ◌≤◌, true, false, cond, List, length, Option, Some, None, IsSome, inl, refl, sym, ap, subst, arith, nat_lt, ◌∙◌, ◌⊎◌, ◌≢◌, inr, nat_eq, not, ◌&&◌}
+use Rattle.std.proofs.Common.{Bool, ◌≡◌, ℕ, ◌/◌, ◌<◌, ◌≤◌, true, false, cond, List, length, replicate, Option, Some, None, IsSome, inl, refl, sym, ap, subst, arith, nat_lt, ◌∙◌, ◌⊎◌, ◌≢◌, inr, nat_eq, not, ◌&&◌}
 use borrow.Author.Tests.{ltb-true, ltb-false}
 use Rattle.std.specs.Prelude.{is_none}
 use Rattle.std.specs.FinMap.{get}
@@ -11,7 +11,7 @@ use Rattle.sfs_image.specs.Settled.{SlotFault, image_block, layout_of, settled, 
 use Rattle.sfs_image.specs.Seen.{SeenInodes, Seen}
 use Rattle.sfs_image.proofs.SuperLaws.{super_facts}
 use Rattle.sfs_base.proofs.BasicLists.{zeros_read}
-use Rattle.image_tree.specs.ImageTree.{is_node, image_tree}
+use Rattle.image_tree.specs.ImageTree.{is_node, nodes_where, image_tree}
 use Rattle.sfs_image.specs.Part.{Part, seen_of, is_directory_part}
 use Rattle.sfs_image.specs.Rules.{breaks_record, breaks_root, breaks_size, breaks_pointers, breaks_apart, breaks_tail, breaks_slots, breaks_bytes_rule}
 use Rattle.sfs_image.specs.ImageOf.{with_opened}
@@ -32,7 +32,20 @@ use Rattle.sfs_base.proofs.BasicOptions.{none_some, some_same, none_not_some}
 use Rattle.image_tree.proofs.Images.{no_node_outside, directory_is_node}
 use Rattle.image_tree.proofs.Faults.{no_break, no_fault_is_rules_kept}
 use Rattle.image_tree.proofs.Mounted.{sound_shown, limits_where, rules_make_standing}
-use Rattle.image_tree.proofs.Parts.{shows_by_kind, holds_apart, root_shown}
+use Rattle.image_tree.proofs.Parts.{gathered_whole, shows_by_kind, holds_apart, root_shown}
+
+-- the nodes of a tree of inodes have the numbers of these, and no core has made one
+pub numbered : (inodes : SeenInodes) (share cores : ℕ) → IsNumbered (image_tree inodes (record { first = inodes.count; share = share; made = replicate cores 0 }))
+numbered inodes share cores = record {
+  known = λ node some. inl (below node some);
+  within = λ core lt. let z = zeros_read cores core in omega arith;
+}
+  where
+    below : (node : ℕ) → IsSome (get (nodes_where (is_node inodes) inodes) node) → node < inodes.count
+    below node some = elim (nat_lt node inodes.count) as (λ b. nat_lt node inodes.count ≡ b → node < inodes.count) [
+      | true ↦ λ t. ltb-true _ _ t
+      | false ↦ λ t. absurd (none_not_some (get (nodes_where (is_node inodes) inodes) node) (no_node_outside inodes (is_node inodes) node (ltb-false _ _ t)) some)
+    ] refl
 
 module _ (image : List ℕ) where
   abbrev inodes : SeenInodes
@@ -56,12 +69,12 @@ module _ (image : List ℕ) where
 
   module _ (g : IsGood) where
     shows : ShowsByKind inodes
-    shows = shows_by_kind (image_block image) (settled layout image) layout.inodes (λ i lt. g.inodes_good 1 i (omega arith) (omega arith) lt) (λ i lt. g.inodes_good 3 i (omega arith) (omega arith) lt)
+    shows = shows_by_kind (parts_of layout image) layout.inodes (λ i lt. gathered_whole (image_block image) (settled layout image i)) (λ i lt. g.inodes_good 1 i (omega arith) (omega arith) lt) (λ i lt. g.inodes_good 3 i (omega arith) (omega arith) lt)
 
     byte_rules : KeepsByteRules inodes
     byte_rules = record {
-      root = (some_inodes g.start.super, root_shown (image_block image) (settled layout image) layout.inodes (g.inodes_good 2 0 (omega arith) (omega arith) (some_inodes g.start.super)));
-      apart = holds_apart (image_block image) (settled layout image) layout.inodes (λ i lt. g.inodes_good 1 i (omega arith) (omega arith) lt) (λ i lt. g.inodes_good 5 i (omega arith) (omega arith) lt);
+      root = (some_inodes g.start.super, root_shown (parts_of layout image 0) (g.inodes_good 2 0 (omega arith) (omega arith) (some_inodes g.start.super)));
+      apart = holds_apart (parts_of layout image) layout.inodes (λ i lt. gathered_whole (image_block image) (settled layout image i)) (λ i lt. g.inodes_good 1 i (omega arith) (omega arith) lt) (λ i lt. g.inodes_good 5 i (omega arith) (omega arith) lt);
     }
 
     no_tree_fault : KeepsRules inodes → tree_fault (breaks_bytes_of image) inodes ≡ None
@@ -109,18 +122,6 @@ module _ (image : List ℕ) where
   rules_kept : fault_of image ≡ None → KeepsRules inodes
   rules_kept e = let g = good_bytes e in (no_fault_is_rules_kept inodes (breaks_bytes_of image) (byte_rules g) g.inodes_good).0 (parts_of_none e).tree
 
-  numbered : (share : ℕ) → IsNumbered (image_tree inodes (making_at_mount image share))
-  numbered share = record {
-    known = λ node some. inl (below node some);
-    within = λ core lt. let z = zeros_read layout.cores core in omega arith;
-  }
-    where
-      below : (node : ℕ) → IsSome (get (image_tree inodes (making_at_mount image share)).nodes node) → node < layout.inodes
-      below node some = elim (nat_lt node layout.inodes) as (λ b. nat_lt node layout.inodes ≡ b → node < layout.inodes) [
-        | true ↦ λ t. ltb-true _ _ t
-        | false ↦ λ t. absurd (none_not_some (get (image_tree inodes (making_at_mount image share)).nodes node) (no_node_outside inodes (is_node inodes) node (ltb-false _ _ t)) some)
-      ] refl
-
   no_fault : (share : ℕ) (tree : TreeState) (o : Option ImageFault) → fault_of image ≡ o →
       cond (is_none o) (Some (image_tree inodes (making_at_mount image share))) None ≡ Some tree →
       (fault_of image ≡ None) × (image_tree inodes (making_at_mount image share) ≡ tree)
@@ -155,7 +156,7 @@ trees_of_images_are_mounted image share tree is =
     let f = no_fault image share tree (fault_of image) refl is in
     let k = rules_kept image f.0 in
     record {
-      sound = subst IsSoundTree f.1 (record { sound = sound_shown (image_inodes image) (making_at_mount image share) k; numbered = numbered image share });
+      sound = subst IsSoundTree f.1 (record { sound = sound_shown (image_inodes image) (making_at_mount image share) k; numbered = numbered (image_inodes image) share (layout_of image).cores });
       limits = subst IsWithinLimits f.1 (limits_where (image_inodes image) (is_node (image_inodes image)) (directory_is_node (image_inodes image)) (making_at_mount image share) (shows image (good_bytes image f.0)).directories k);
       itself = rules_make_standing (image_inodes image) (making_at_mount image share) k (shows image (good_bytes image f.0));
     }
@@ -195,7 +196,7 @@ stands_alike num tree image other count same st = record {
 
 -- a rule on bytes other than that on blocks that are held twice looks at one part
 module _ (divided : Layout) (parts others : ℕ → Part) (i : ℕ) (same : parts i ≡ others i) where
-  rule_alike : (rule : ℕ) → rule ≢ 5 → breaks_bytes_rule rule divided parts i ≡ breaks_bytes_rule rule divided others i
+  pub rule_alike : (rule : ℕ) → rule ≢ 5 → breaks_bytes_rule rule divided parts i ≡ breaks_bytes_rule rule divided others i
   rule_alike rule other =
       ap (λ (p : Part). by_rule p (breaks_apart parts i) (nat_eq rule 5)) same
       ∙ ap (λ b. by_rule (others i) (breaks_apart parts i) b) (not_same rule 5 other)

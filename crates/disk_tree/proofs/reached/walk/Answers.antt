@@ -1,7 +1,7 @@
 use Rattle.std.proofs.Common.{ℕ, List, ◌<◌, length, ◌∙◌, All, subst, sym}
 use Rattle.sfs_image.specs.Slot.{Row}
 use Rattle.disk_tree.specs.Reached.{Visits}
-use Rattle.disk_tree.specs.Rows.{rows_at}
+use Rattle.disk_tree.specs.Rows.{rows_of_inode}
 use Rattle.disk_tree.proofs.RowsCounted.{rows_of_number}
 use Rattle.disk_tree.proofs.Visited.{root_frontier, next_frontier, popped_within}
 use Rattle.disk_tree.proofs.reached.walk.Goals as goal
@@ -19,7 +19,7 @@ visit-requires c =
     let own = c.as_slice.ensures ∙ rows_of_number c.args.rows.now c.in-Some.directory _ inside c.index-rows-directory.is in
     let size = c.loop-directory.invariant.frontier.size in
     subst (All (λ (row : Row). row.inode < length c.loop-directory.reached)) (sym own)
-    (subst (λ (n : ℕ). All (λ (row : Row). row.inode < n) (rows_at c.args.rows.now c.in-Some.directory)) (sym size) (c.requires.within c.in-Some.directory inside))
+    (subst (λ (n : ℕ). All (λ (row : Row). row.inode < n) (rows_of_inode c.args.rows.now c.in-Some.directory)) (sym size) (c.requires.within c.in-Some.directory inside))
 
 pub loop-directory-preserved : goal.loop-directory-preserved
 loop-directory-preserved c =

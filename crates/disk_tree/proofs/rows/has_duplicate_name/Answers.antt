@@ -4,7 +4,7 @@ use Rattle.std.specs.FinMap.{get, insert}
 use Rattle.sfs_image.specs.Slot.{Row}
 use Rattle.disk_tree.specs.Rows.{NO_ROW}
 use Rattle.disk_tree.proofs.NamesMet.{NamesSoFar, no_names, one_more_name}
-use Rattle.disk_tree.proofs.rows.have_one_name.Goals as goal
+use Rattle.disk_tree.proofs.rows.has_duplicate_name.Goals as goal
 
 pub loop-row-init : goal.loop-row-init
 loop-row-init c = subst (NamesSoFar c.args.rows.now 0) (sym c.new-names.ensures) (no_names c.args.rows.now)

@@ -1,0 +1,21 @@
+-- Parts of the first inodes, each made where its number is below their count.
+use Rattle.std.proofs.Common.{ℕ, ◌⊎◌, ◌<◌, ◌≤◌, [], arith, inl, inr}
+use Rattle.std.proofs.lemmas.Bool.{cases_lt}
+use Rattle.sfs_image.specs.Part.{Part}
+
+module _ (count : ℕ) (make : (i : ℕ) → i < count → Part) where
+  part_or : (i : ℕ) → (i < count) ⊎ (count ≤ i) → Part
+  part_or i (inl within) = make i within
+  part_or i (inr past) = record { raw = []; tables = []; blocks = [] }
+
+  pub parts_made : ℕ → Part
+  parts_made i = part_or i (cases_lt i count)
+
+  -- what holds of each part that is made holds of the parts
+  pub made_within : (P : ℕ → Part → Type 0) → ((i : ℕ) (within : i < count) → P i (make i within)) → (i : ℕ) → i < count → P i (parts_made i)
+  unfolding parts_made part_or
+  made_within P each i within = by (cases_lt i count)
+    where
+      by : (o : (i < count) ⊎ (count ≤ i)) → P i (part_or i o)
+      by (inl here) = each i here
+      by (inr past) = absurd (omega arith)
