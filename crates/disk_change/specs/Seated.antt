@@ -1,5 +1,5 @@
 -- What a commit makes of each node that has an inode afterwards, before it has numbers and fresh blocks.
-use Rattle.std.specs.Prelude.{ℕ, ◌*◌, ◌-◌, ◌^◌, min, List, [], take, replicate, Option, Some, None}
+use Rattle.std.specs.Prelude.{ℕ, ◌*◌, ◌-◌, ◌^◌, ◌≤◌, min, List, [], take, replicate, Option, Some, None}
 use Rattle.std.specs.Option.{option_map_or}
 use Rattle.sfs_base.specs.declared.numbers.Kind.{Kind}
 use Rattle.sfs_base.specs.declared.numbers.Kind.TheVariants.{File, Directory}
@@ -49,6 +49,11 @@ pub record Seated : Type 0 where
   pub tables : List Table
   pub slots : List (List (Option Row))
   pub changed : List ChangedBlock
+
+-- an inode in use is a file's or a directory's
+pub record IsInUse (inode : Inode) : Type 0 where
+  pub some : 1 ≤ inode.kind
+  pub known : inode.kind ≤ 2
 
 -- the inode of a free record
 abbrev pub free_inode : Inode

@@ -20,9 +20,9 @@ use std::marker::Model;
 /// becomes of each node that has an inode afterwards, and the nodes that lose theirs.
 #[derive(Drop)]
 pub struct DiskChange {
-    seats: Vec<Seat>,
-    gone: Vec<OldEntry>,
-    plans: Plans,
+    pub(crate) seats: Vec<Seat>,
+    pub(crate) gone: Vec<OldEntry>,
+    pub(crate) plans: Plans,
 }
 
 impl Model for DiskChange {
