@@ -59,10 +59,6 @@ begun inside current next rows body fill_at open_at same next_is fits fill_is op
   rows_are = rows_again rows next.count body few apart is_body;
 }
 
-pub on_err : {T E : Type 0} (result : Result T E) (P : Type 0) → P → OnErr result P
-on_err (Ok value) P p = tt
-on_err (Err fault) P p = p
-
 module _ (current : Option Current) (next : Current) (old new : List Row) (body : List ℕ) (fill_at open_at : ℕ) (begins : Begins current next new body fill_at open_at) (start : View) (has : HasAreas start) where
   fill_here : fill_at ≡ body_at (next_of current).area
   fill_here = begins.fill_is ∙ ap (λ (n : Current). body_at n.area) begins.next_is

@@ -16,6 +16,6 @@ pub record HasOpenCause {V : Type 0} (before now : ℕ) (result : Result V OpenF
   pub kept : OnOk result (now ≡ before)
 
 -- what a commit says of it: a doubt has its cause, and names the count as it is now
-pub record HasDoubt {V : Type 0} (before now : ℕ) (result : Result V Doubt) : Type 0 where
+pub record HasAreaDoubt {V : Type 0} (before now : ℕ) (result : Result V Doubt) : Type 0 where
   pub named : IfErr result (λ doubt. doubt.faults ≡ now)
   pub cause : HasCause before now result

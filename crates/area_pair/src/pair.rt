@@ -7,7 +7,7 @@
 //   the old gate, one byte   the new rows stand, whether it is open or closed
 ghost use Rattle.std.specs.Prelude.{◌≡◌, ◌⊎◌, ◌+◌, ◌-◌, ◌*◌, ◌%◌, ◌^◌, ◌<◌, ◌≤◌, min, List, length, Some, IfSome, IfOk, IfErr, OnOk, OnErr};
 ghost use Rattle.sfs_base.specs.Ends.{HasCause};
-ghost use Rattle.area_pair.specs.Fault.{HasDoubt};
+ghost use Rattle.area_pair.specs.Fault.{HasAreaDoubt};
 ghost use Rattle.sfs_dev.specs.Run.{CountsOn, Advances, EachMoment};
 ghost use Rattle.area_pair.specs.Area.{area_of, next_of};
 ghost use Rattle.sfs_dev.specs.Steps.{TellsAlike};
@@ -69,7 +69,7 @@ impl Areas {
 
         ensures content { TellsAlike (D.view disk.old) (D.view disk.new) }
         ensures advances { Advances (D.view disk.old) (D.view disk.new) }
-        ensures doubtful { HasDoubt (D.view disk.old).faults (D.view disk.new).faults result }
+        ensures doubtful { HasAreaDoubt (D.view disk.old).faults (D.view disk.new).faults result }
     {
         let old = self.current;
         let next = next(old);

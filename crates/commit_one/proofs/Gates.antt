@@ -6,16 +6,17 @@ use Rattle.sfs_dev.specs.Disk.{View, images}
 use Rattle.sfs_dev.specs.Run.{Advances}
 use Rattle.journal_one.specs.Calls.{IsWrite, IsSync}
 use Rattle.journal_one.specs.Job.{Job, fill_piece, gate_piece, IsJob}
-use Rattle.journal_one.specs.Known.{Leaves, AreFilled, IsFilled, IsDurable, IsCopied, IsClosed}
+use Rattle.journal_one.specs.Known.{EachLeft, AreFilled, IsFilled, IsDurable, IsCopied, IsEnded}
 use Rattle.journal_one.specs.Laws.{HasPieces}
 use Rattle.journal_one.proofs.Kept.{IsLawful}
 use Rattle.commit_one.specs.Carried.{LaterLeaves, GoesOnTelling, Keeps}
 use Rattle.commit_one.specs.Change.{IsBefore, IsByItsSlot, IsAfter, IsChangeOf}
 use Rattle.commit_one.proofs.Images.{gate_opens_or_stays, open_is_by_its_slot, records_in_table, gate_shuts_or_stays, shut_is_after}
-use Rattle.commit_one.proofs.Moments.{sync_keeps, later_call, later_trans, later_more, telling_trans, writes_tell, writes_told, call_advances}
+use Rattle.sfs_dev.proofs.Runs.{call_advances}
+use Rattle.commit_one.proofs.Moments.{sync_keeps, later_call, later_trans, later_more, telling_trans, writes_tell, writes_told}
 
 -- every image has the pieces of a commit, each piece in each image
-has_pieces : (job : Job) (disk : View) → AreFilled job disk → Leaves disk (HasPieces job)
+has_pieces : (job : Job) (disk : View) → AreFilled job disk → EachLeft disk (HasPieces job)
 has_pieces job disk filled content told image left k lt = filled k lt content told image left
 
 -- every fresh block has all of its bytes
@@ -34,7 +35,7 @@ module _ (job : Job) (is : IsJob job) (parts : ℕ → Part) (new : List InodePa
   Either image = IsBefore job parts image ⊎ IsByItsSlot job parts new image
 
   -- the seal
-  module _ {V E : Type 0} (old first : View) (sealed : Result V E) (seal : IsSync old first sealed) (lawful : IsLawful old) (leaves : Leaves old (IsBefore job parts)) where
+  module _ {V E : Type 0} (old first : View) (sealed : Result V E) (seal : IsSync old first sealed) (lawful : IsLawful old) (leaves : EachLeft old (IsBefore job parts)) where
     pub seal_keeps : Keeps (IsBefore job parts) old first
     seal_keeps = sync_keeps (IsBefore job parts) old first sealed lawful seal leaves
 
@@ -52,7 +53,7 @@ module _ (job : Job) (is : IsJob job) (parts : ℕ → Part) (new : List InodePa
       pub gate_tells : GoesOnTelling old second
       gate_tells = telling_trans old first second seal_keeps.told (writes_tell (gate_piece job.place 1) first second opened write)
 
-      pub gate_leaves : Leaves second Either
+      pub gate_leaves : EachLeft second Either
       gate_leaves content told image left =
           let was = writes_told (gate_piece job.place 1) first second opened write content told in
           gate_images was.0 was.1 image left
@@ -83,7 +84,7 @@ module _ (job : Job) (is : IsJob job) (parts : ℕ → Part) (new : List InodePa
               settle_keeps.now content (settle.content ∙ told) image left,
             )))
 
-        pub settle_leaves : IsDurable job 0 now → Leaves now (IsByItsSlot job parts new)
+        pub settle_leaves : IsDurable job 0 now → EachLeft now (IsByItsSlot job parts new)
         settle_leaves knows content told image left = open_is_by_its_slot job is parts new change image (knows.opened content told image left) (settle_keeps.now content told image left)
 
   -- what each moment of the closing leaves
@@ -91,7 +92,7 @@ module _ (job : Job) (is : IsJob job) (parts : ℕ → Part) (new : List InodePa
   New image = IsByItsSlot job parts new image ⊎ IsAfter job parts new image
 
   -- the sync before the gate
-  module _ {V E : Type 0} (old first : View) (copied : Result V E) (copy : IsSync old first copied) (lawful : IsLawful old) (leaves : Leaves old (IsByItsSlot job parts new)) where
+  module _ {V E : Type 0} (old first : View) (copied : Result V E) (copy : IsSync old first copied) (lawful : IsLawful old) (leaves : EachLeft old (IsByItsSlot job parts new)) where
     pub copy_keeps : Keeps (IsByItsSlot job parts new) old first
     copy_keeps = sync_keeps (IsByItsSlot job parts new) old first copied lawful copy leaves
 
@@ -109,7 +110,7 @@ module _ (job : Job) (is : IsJob job) (parts : ℕ → Part) (new : List InodePa
       pub shut_tells : GoesOnTelling old second
       shut_tells = telling_trans old first second copy_keeps.told (writes_tell (gate_piece job.place 0) first second shut write)
 
-      shut_leaves : Leaves second New
+      shut_leaves : EachLeft second New
       shut_leaves content told image left =
           let was = writes_told (gate_piece job.place 0) first second shut write content told in
           shut_images was.0 was.1 image left
@@ -130,5 +131,5 @@ module _ (job : Job) (is : IsJob job) (parts : ℕ → Part) (new : List InodePa
         pub finish_later : LaterLeaves (λ k image. New image) old now
         finish_later = later_trans (λ k image. New image) old second now shut_tells (call_advances second now finished finish_fits finish.call) shut_later finish_keeps.later
 
-        pub finish_leaves : IsClosed job now → Leaves now (IsAfter job parts new)
+        pub finish_leaves : IsEnded job now → EachLeft now (IsAfter job parts new)
         finish_leaves closed content told image left = shut_is_after job is parts new change image (closed.idle content told image left) (finish_keeps.now content told image left)

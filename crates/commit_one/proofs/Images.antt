@@ -21,7 +21,7 @@ use Rattle.sfs_image.proofs.BytesLaws.{None-option_map}
 use Rattle.sfs_image.proofs.WrittenLaws.{data_written, table_written, body_written, gate_written}
 use Rattle.sfs_dev.specs.Ranges.{SameOutside}
 use Rattle.journal_one.specs.Job.{Job, Piece, fill_piece, body_piece, table_piece, no_block, no_entry, IsJob}
-use Rattle.journal_one.specs.Known.{StandsIn, IsShutIn, IsOpenIn}
+use Rattle.journal_one.specs.Known.{IsWrittenIn, IsShutIn, IsOpenIn}
 use Rattle.journal_one.specs.Laws.{HasPieces}
 use Rattle.journal_one.proofs.Bodies.{body_read, placed_in_table}
 use Rattle.journal_one.proofs.Places.{body_lies, fresh_is, body_is, in_data, entry_long, entry_below}
@@ -136,7 +136,7 @@ module _ (job : Job) (is : IsJob job) (parts : ℕ → Part) (new : List InodePa
   blocks_stand image has whole =
       All-from_get_or (λ (one : FreshBlock). image_block image one.block ≡ one.bytes) job.fresh no_block
       (λ k lt.
-      let stands : StandsIn (fill_piece job k) image = has k (omega arith) in
+      let stands : IsWrittenIn (fill_piece job k) image = has k (omega arith) in
       let long = whole k lt in
       let own : part (fill_piece job k).at 4096 image ≡ (fill_piece job k).bytes = ap (λ (n : ℕ). part (fill_piece job k).at n image) (sym long) ∙ stands in
       subst (λ (p : Piece). part p.at 4096 image ≡ p.bytes) (fresh_is job is k lt) own)
@@ -216,7 +216,7 @@ module _ (job : Job) (is : IsJob job) (parts : ℕ → Part) (new : List InodePa
       })
 
   -- the table has the records of the commit where they stand there
-  pub records_in_table : (image : List ℕ) → ((k : ℕ) → k < length job.entries → StandsIn (table_piece job k) image) → HasRecordsOf job.place.layout (transaction_of job new) image
+  pub records_in_table : (image : List ℕ) → ((k : ℕ) → k < length job.entries → IsWrittenIn (table_piece job k) image) → HasRecordsOf job.place.layout (transaction_of job new) image
   records_in_table image stand =
       All-from_get_or (λ (own : InodePart). table_record job.place.layout image own.inode ≡ own.part.raw) new no_part
       (λ k lt.

@@ -7,12 +7,13 @@ use Rattle.sfs_dev.specs.Run.{Advances, CountsOn}
 use Rattle.sfs_dev.proofs.Runs.{GoesOn-refl, GoesOn-trans}
 use Rattle.journal_one.specs.Calls.{IsWrite}
 use Rattle.journal_one.specs.Job.{Job, fill_count, fill_piece, table_piece, IsJob}
-use Rattle.journal_one.specs.Known.{Leaves, IsFilling, IsFilled, IsDurable, IsPlaced}
+use Rattle.journal_one.specs.Known.{EachLeft, IsFilling, IsFilled, IsDurable, AreAllPlaced}
 use Rattle.journal_one.specs.Stage.{Stage, left_to_fill, left_to_place, next_stage}
 use Rattle.commit_one.specs.Carried.{Keeps}
 use Rattle.commit_one.specs.Change.{IsBefore, IsByItsSlot, AreFree, IsChangeOf}
 use Rattle.commit_one.proofs.Images.{fill_keeps, place_keeps}
-use Rattle.commit_one.proofs.Moments.{keeps_none, keeps_trans, write_keeps, writes_told, call_advances}
+use Rattle.sfs_dev.proofs.Runs.{call_advances}
+use Rattle.commit_one.proofs.Moments.{keeps_none, keeps_trans, write_keeps, writes_told}
 
 -- From the first stage, on a disk as it was, so many writes were made that the loop is at this stage.
 pub record FillsSoFar (first : Stage) (old : View) (stage : Stage) (now : View) : Type 0 where
@@ -22,7 +23,7 @@ pub record FillsSoFar (first : Stage) (old : View) (stage : Stage) (now : View) 
   pub time : CountsOn now → now.now + left_to_fill stage ≡ old.now + left_to_fill first
   pub faults : now.faults ≡ old.faults
   pub filled : IsFilling first.job first.done old → IsFilling first.job stage.done now
-  pub keeps : (parts : ℕ → Part) → IsJob first.job → AreFree first.job parts → Leaves old (IsBefore first.job parts) → Keeps (IsBefore first.job parts) old now
+  pub keeps : (parts : ℕ → Part) → IsJob first.job → AreFree first.job parts → EachLeft old (IsBefore first.job parts) → Keeps (IsBefore first.job parts) old now
 
 pub fills_none : (first : Stage) (disk : View) → 0 < left_to_fill first → FillsSoFar first disk first disk
 fills_none first disk some = record {
@@ -41,7 +42,7 @@ module _ {V E : Type 0} (first stage : Stage) (old mid new : View) (result : Res
   pub fill_goes : Advances old new
   fill_goes = GoesOn-trans old mid new before.goes (call_advances mid new result fits write.call)
 
-  pub fill_shows : (parts : ℕ → Part) → IsJob first.job → AreFree first.job parts → Leaves old (IsBefore first.job parts) → Keeps (IsBefore first.job parts) old new
+  pub fill_shows : (parts : ℕ → Part) → IsJob first.job → AreFree first.job parts → EachLeft old (IsBefore first.job parts) → Keeps (IsBefore first.job parts) old new
   fill_shows parts is free leaves =
       let sofar = before.keeps parts is free leaves in
       let same_job : IsWrite (fill_piece first.job stage.done) mid new result = subst (λ (j : Job). IsWrite (fill_piece j stage.done) mid new result) before.job write in
@@ -92,7 +93,7 @@ pub record PlacesSoFar (first : Stage) (old : View) (stage : Stage) (now : View)
   pub time : CountsOn now → now.now + left_to_place stage ≡ old.now + left_to_place first
   pub faults : now.faults ≡ old.faults
   pub placed : IsDurable first.job first.done old → IsDurable first.job stage.done now
-  pub keeps : (parts : ℕ → Part) (new : List InodePart) → IsJob first.job → IsChangeOf first.job parts new → Leaves old (IsByItsSlot first.job parts new) → Keeps (IsByItsSlot first.job parts new) old now
+  pub keeps : (parts : ℕ → Part) (new : List InodePart) → IsJob first.job → IsChangeOf first.job parts new → EachLeft old (IsByItsSlot first.job parts new) → Keeps (IsByItsSlot first.job parts new) old now
 
 pub places_none : (first : Stage) (disk : View) → 0 < left_to_place first → PlacesSoFar first disk first disk
 places_none first disk some = record {
@@ -110,7 +111,7 @@ module _ {V E : Type 0} (first stage : Stage) (old mid now : View) (result : Res
   pub place_goes : Advances old now
   place_goes = GoesOn-trans old mid now before.goes (call_advances mid now result fits write.call)
 
-  pub place_shows : (parts : ℕ → Part) (new : List InodePart) → IsJob first.job → IsChangeOf first.job parts new → Leaves old (IsByItsSlot first.job parts new) → Keeps (IsByItsSlot first.job parts new) old now
+  pub place_shows : (parts : ℕ → Part) (new : List InodePart) → IsJob first.job → IsChangeOf first.job parts new → EachLeft old (IsByItsSlot first.job parts new) → Keeps (IsByItsSlot first.job parts new) old now
   place_shows parts new is change leaves =
       let sofar = before.keeps parts new is change leaves in
       let same_job : IsWrite (table_piece first.job stage.done) mid now result = subst (λ (j : Job). IsWrite (table_piece j stage.done) mid now result) before.job write in
@@ -143,7 +144,7 @@ places_more {V} {E} first stage next old mid now value before fits write is many
     })
 
 pub places_done : (first stage : Stage) (old mid now : View) → PlacesSoFar first old stage mid → left_to_place stage ≡ 1
-    → (IsDurable stage.job stage.done mid → IsDurable stage.job (stage.done + 1) now) → IsDurable first.job first.done old → IsPlaced first.job now
+    → (IsDurable stage.job stage.done mid → IsDurable stage.job (stage.done + 1) now) → IsDurable first.job first.done old → AreAllPlaced first.job now
 places_done first stage old mid now before last placed knows =
     let then = subst (λ (j : Job). IsDurable j stage.done mid → IsDurable j (stage.done + 1) now) before.job placed (before.placed knows) in
     let end : stage.done + 1 ≡ length first.job.entries = omega (arith, ap (λ (j : Job). length j.entries) before.job) in

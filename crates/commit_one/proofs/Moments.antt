@@ -4,16 +4,15 @@ use Rattle.std.proofs.lemmas.Bool.{cases_lt}
 use Rattle.sfs_dev.specs.Ranges.{put, SameOutside}
 use Rattle.sfs_dev.specs.Disk.{View, TornTold, Elapses, IsDeviceCall, images}
 use Rattle.sfs_dev.specs.Run.{Advances, CountsOn}
-use Rattle.sfs_dev.proofs.Runs.{GoesOn-call}
 use Rattle.journal_one.specs.Calls.{IsWrite, IsSync}
 use Rattle.journal_one.specs.Job.{Piece}
-use Rattle.journal_one.specs.Known.{Leaves}
+use Rattle.journal_one.specs.Known.{EachLeft}
 use Rattle.journal_one.proofs.Kept.{IsLawful, synced_rests, put_told}
 use Rattle.sfs_dev.proofs.Held.{told_before}
 use Rattle.commit_one.specs.Carried.{LaterLeaves, GoesOnTelling, Keeps}
 
 -- no device call
-pub keeps_none : (P : List ℕ → Type 0) (disk : View) → Leaves disk P → Keeps P disk disk
+pub keeps_none : (P : List ℕ → Type 0) (disk : View) → EachLeft disk P → Keeps P disk disk
 keeps_none P disk leaves = record {
   told = λ content is. (content, is);
   now = leaves;
@@ -59,14 +58,10 @@ writes_tell piece old new (Err fault) is content told =
 pub syncs_tell : {V E : Type 0} (old new : View) (result : Result V E) → IsSync old new result → GoesOnTelling old new
 syncs_tell old new result is content told = (content, is.content ∙ told)
 
--- a device call advances the disk
-pub call_advances : {V E : Type 0} (old new : View) (result : Result V E) → old.now < 2 ^ 64 → IsDeviceCall old new result → Advances old new
-call_advances old new result fits call = GoesOn-call old new fits call.time call.size call.cause.never_falls
-
 -- a write all of whose images have P where those before had
 pub write_keeps : {V E : Type 0} (P : List ℕ → Type 0) (piece : Piece) (old new : View) (result : Result V E)
     → ((was image : List ℕ) → SameOutside piece.at (length piece.bytes) was image → P was → P image)
-    → ((content : List ℕ) → new.content ≡ Some content → (was : List ℕ) × (old.content ≡ Some was)) → IsWrite piece old new result → Leaves old P → Keeps P old new
+    → ((content : List ℕ) → new.content ≡ Some content → (was : List ℕ) × (old.content ≡ Some was)) → IsWrite piece old new result → EachLeft old P → Keeps P old new
 write_keeps P piece old new result frame back is leaves =
     let now : (content : List ℕ) → old.content ≡ Some content → (image : List ℕ) → images new image → P image = λ content told image left.
     let was = is.torn image left in
@@ -78,7 +73,7 @@ write_keeps P piece old new result frame back is leaves =
     }
 
 -- and a sync
-pub sync_keeps : {V E : Type 0} (P : List ℕ → Type 0) (old new : View) (result : Result V E) → IsLawful old → IsSync old new result → Leaves old P → Keeps P old new
+pub sync_keeps : {V E : Type 0} (P : List ℕ → Type 0) (old new : View) (result : Result V E) → IsLawful old → IsSync old new result → EachLeft old P → Keeps P old new
 sync_keeps P old new result lawful is leaves =
     let rests = synced_rests old new result lawful is in
     record {

@@ -7,7 +7,7 @@ use Rattle.sfs_dev.specs.Disk.{View, images}
 use Rattle.sfs_dev.specs.Run.{Advances, CountsOn, EachMoment}
 use Rattle.sfs_dev.proofs.Runs.{GoesOn-trans}
 use Rattle.journal_one.specs.Job.{Job, fill_count, IsJob}
-use Rattle.journal_one.specs.Known.{Leaves, IsIdle, IsFilling}
+use Rattle.journal_one.specs.Known.{EachLeft, IsIdle, IsFilling}
 use Rattle.commit_one.specs.Carried.{LaterLeaves, GoesOnTelling, Keeps, IsMomentOf, durable_at}
 use Rattle.commit_one.specs.Change.{IsBefore, IsByItsSlot, IsAfter, IsChangeOf}
 use Rattle.commit_one.proofs.Moments.{later_trans, telling_trans}
@@ -16,7 +16,7 @@ use Rattle.commit_one.proofs.Moments.{later_trans, telling_trans}
 later_counted : (P Q : ℕ → List ℕ → Type 0) (old new : View) → (CountsOn new → (k : ℕ) (image : List ℕ) → old.now < k → k ≤ new.now → P k image → Q k image) → LaterLeaves P old new → LaterLeaves Q old new
 later_counted P Q old new more leaves content is counts k image from to left = more counts k image from to (leaves content is counts k image from to left)
 
-module _ (job : Job) (is : IsJob job) (parts : ℕ → Part) (new : List InodePart) (change : IsChangeOf job parts new) (old : View) (before : Leaves old (IsBefore job parts)) where
+module _ (job : Job) (is : IsJob job) (parts : ℕ → Part) (new : List InodePart) (change : IsChangeOf job parts new) (old : View) (before : EachLeft old (IsBefore job parts)) where
   abbrev Moment : ℕ → List ℕ → Type 0
   Moment k image = IsMomentOf job parts new old.now k image
 
@@ -99,7 +99,7 @@ module _ (job : Job) (is : IsJob job) (parts : ℕ → Part) (new : List InodePa
               shuts)
 
           -- what a crash at the moment at which it was durable leaves
-          pub acknowledged : Leaves second (IsByItsSlot job parts new) → (content : List ℕ) → old.content ≡ Some content → CountsOn now
+          pub acknowledged : EachLeft second (IsByItsSlot job parts new) → (content : List ℕ) → old.content ≡ Some content → CountsOn now
               → (image : List ℕ) → now.crash_images (durable_at old.now job) image → IsByItsSlot job parts new image
           acknowledged leaves content told counts image left =
               let d = durable_is (omega (arith, goes_third.later, goes_now.later, counts)) in

@@ -5,7 +5,7 @@ use Rattle.sfs_image.specs.Part.{Part}
 use Rattle.sfs_dev.specs.Disk.{View}
 use Rattle.sfs_dev.specs.Run.{CountsOn, EachMoment}
 use Rattle.journal_one.specs.Job.{Job, fill_count}
-use Rattle.journal_one.specs.Known.{Leaves}
+use Rattle.journal_one.specs.Known.{EachLeft}
 use Rattle.commit_one.specs.Change.{IsBefore, IsByItsSlot, IsAfter}
 
 -- each image of each later moment has P of the moment and the image
@@ -21,7 +21,7 @@ GoesOnTelling old new = (content : List ℕ) → old.content ≡ Some content �
 -- Some device calls were made whose images have P, now and at each later moment.
 pub record Keeps (P : List ℕ → Type 0) (old new : View) : Type 0 where
   pub told : GoesOnTelling old new
-  pub now : Leaves new P
+  pub now : EachLeft new P
   pub later : LaterLeaves (λ k image. P image) old new
 
 -- so many device calls were made, or fewer where one of them failed
@@ -39,8 +39,8 @@ durable_at began job = sealed_at began job + 2
 
 -- how many device calls it makes: a write for each fresh block, three for the slot's body, a sync, the gate, a sync, a write for each
 -- record, a sync, the gate, a sync
-abbrev pub calls_of : Job → ℕ
-calls_of job = fill_count job + 3 + length job.entries + 3
+abbrev pub device_calls : Job → ℕ
+device_calls job = fill_count job + 3 + length job.entries + 3
 
 -- What a crash at a moment leaves of a commit: up to its seal the old parts, with no slot open; then, up to the moment at which it is
 -- durable, these or the new ones by its slot; and later the new ones, by its slot or in the table.
@@ -55,16 +55,16 @@ pub record Carries {V E : Type 0} (job : Job) (parts : ℕ → Part) (new : List
   pub each_moment : (content : List ℕ) → old.content ≡ Some content → CountsOn now → EachMoment old now (IsMomentOf job parts new old.now)
   pub acknowledged : OnOk result ((content : List ℕ) → old.content ≡ Some content → CountsOn now
       → (image : List ℕ) → now.crash_images (durable_at old.now job) image → IsByItsSlot job parts new image)
-  pub ended : OnOk result (Leaves now (IsAfter job parts new))
+  pub ended : OnOk result (EachLeft now (IsAfter job parts new))
 
 -- A slot that was filled becomes durable: up to its seal an image is as before, then so or the commit's by its slot, and after Ok the latter.
 pub record Opens {V E : Type 0} (job : Job) (parts : ℕ → Part) (new : List InodePart) (old now : View) (result : Result V E) : Type 0 where
   pub told : GoesOnTelling old now
   pub later : LaterLeaves (λ k image. (k ≤ old.now + 1 → IsBefore job parts image) × (IsBefore job parts image ⊎ IsByItsSlot job parts new image)) old now
-  pub opened : OnOk result (Leaves now (IsByItsSlot job parts new))
+  pub opened : OnOk result (EachLeft now (IsByItsSlot job parts new))
 
 -- A slot whose records were placed is closed: an image has the new parts, by the slot or in the table, and after Ok in the table.
 pub record Shuts {V E : Type 0} (job : Job) (parts : ℕ → Part) (new : List InodePart) (old now : View) (result : Result V E) : Type 0 where
   pub told : GoesOnTelling old now
   pub later : LaterLeaves (λ k image. IsByItsSlot job parts new image ⊎ IsAfter job parts new image) old now
-  pub ended : OnOk result (Leaves now (IsAfter job parts new))
+  pub ended : OnOk result (EachLeft now (IsAfter job parts new))

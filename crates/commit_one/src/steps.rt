@@ -6,9 +6,9 @@ ghost use Rattle.sfs_image.specs.Part.{Part};
 ghost use Rattle.sfs_dev.specs.Run.{Advances, CountsOn};
 ghost use Rattle.journal_one.specs.Calls.{HasDoubt, IsCalm};
 ghost use Rattle.journal_one.specs.Job.{IsJob, LiesInData};
-ghost use Rattle.journal_one.specs.Known.{Leaves, IsFilling, IsFilled, IsDurable, IsPlaced, IsClosed};
+ghost use Rattle.journal_one.specs.Known.{EachLeft, IsFilling, IsFilled, IsDurable, AreAllPlaced, IsEnded};
 ghost use Rattle.journal_one.specs.Stage.{left_to_fill, left_to_place};
-ghost use Rattle.commit_one.specs.Carried.{Keeps, Opens, Shuts, Carries, TakesCalls, calls_of, durable_at};
+ghost use Rattle.commit_one.specs.Carried.{Keeps, Opens, Shuts, Carries, TakesCalls, device_calls, durable_at};
 ghost use Rattle.commit_one.specs.Change.{IsBefore, IsByItsSlot, IsAfter, AreFree, IsChangeOf, job_for};
 
 use journal_one::{Doubt, Durable, Fill, Filled, Filling, Idle, Packed, Placed, Put};
@@ -37,11 +37,11 @@ pub fn commit<D: Disk>(
     ensures idle { IfOk result (λ done. done.idle ≡ idle) }
     ensures moment { IfOk result (λ done. CountsOn (D.view disk.new) → done.moment ≡ durable_at (D.view disk.old).now (job_for idle packed stamp)) }
     ensures goes { Advances (D.view disk.old) (D.view disk.new) }
-    ensures time { TakesCalls (calls_of (job_for idle packed stamp)) (D.view disk.old) (D.view disk.new) result }
+    ensures time { TakesCalls (device_calls (job_for idle packed stamp)) (D.view disk.old) (D.view disk.new) result }
     ensures doubt { HasDoubt (D.view disk.old) (D.view disk.new) result }
     ensures calm { OnOk result (IsCalm (D.view disk.new)) }
     ensures carried { (parts : ℕ → Part) (new : List InodePart) → IsChangeOf (job_for idle packed stamp) parts new
-        → Leaves (D.view disk.old) (IsBefore (job_for idle packed stamp) parts)
+        → EachLeft (D.view disk.old) (IsBefore (job_for idle packed stamp) parts)
         → Carries (job_for idle packed stamp) parts new (D.view disk.old) (D.view disk.new) result }
 {
     let filled = fill(disk, idle.begin(packed, stamp))?;
@@ -61,7 +61,7 @@ fn fill<D: Disk>(disk: &mut D, filling: Filling) -> Result<Filled, Doubt>
     ensures time { TakesCalls (left_to_fill filling) (D.view disk.old) (D.view disk.new) result }
     ensures doubt { HasDoubt (D.view disk.old) (D.view disk.new) result }
     ensures filled { OnOk result (IsFilling filling.job filling.done (D.view disk.old) → IsFilled filling.job (D.view disk.new)) }
-    ensures keeps { (parts : ℕ → Part) → IsJob filling.job → AreFree filling.job parts → Leaves (D.view disk.old) (IsBefore filling.job parts)
+    ensures keeps { (parts : ℕ → Part) → IsJob filling.job → AreFree filling.job parts → EachLeft (D.view disk.old) (IsBefore filling.job parts)
         → Keeps (IsBefore filling.job parts) (D.view disk.old) (D.view disk.new) }
 {
     let mut filling = filling;
@@ -82,7 +82,7 @@ fn make_durable<D: Disk>(disk: &mut D, filled: Filled) -> Result<Durable, Doubt>
     ensures doubt { HasDoubt (D.view disk.old) (D.view disk.new) result }
     ensures durable { OnOk result (IsFilled filled (D.view disk.old) → IsDurable filled 0 (D.view disk.new)) }
     ensures opens { (parts : ℕ → Part) (new : List InodePart) → IsJob filled → IsChangeOf filled parts new → IsFilled filled (D.view disk.old)
-        → Leaves (D.view disk.old) (IsBefore filled parts) → Opens filled parts new (D.view disk.old) (D.view disk.new) result }
+        → EachLeft (D.view disk.old) (IsBefore filled parts) → Opens filled parts new (D.view disk.old) (D.view disk.new) result }
 {
     filled.seal(disk)?.open_gate(disk)?.settle(disk)
 }
@@ -95,9 +95,9 @@ fn place<D: Disk>(disk: &mut D, durable: Durable) -> Result<Placed, Doubt>
     ensures goes { Advances (D.view disk.old) (D.view disk.new) }
     ensures time { TakesCalls (left_to_place durable) (D.view disk.old) (D.view disk.new) result }
     ensures doubt { HasDoubt (D.view disk.old) (D.view disk.new) result }
-    ensures placed { OnOk result (IsDurable durable.job durable.done (D.view disk.old) → IsPlaced durable.job (D.view disk.new)) }
+    ensures placed { OnOk result (IsDurable durable.job durable.done (D.view disk.old) → AreAllPlaced durable.job (D.view disk.new)) }
     ensures keeps { (parts : ℕ → Part) (new : List InodePart) → IsJob durable.job → IsChangeOf durable.job parts new
-        → Leaves (D.view disk.old) (IsByItsSlot durable.job parts new) → Keeps (IsByItsSlot durable.job parts new) (D.view disk.old) (D.view disk.new) }
+        → EachLeft (D.view disk.old) (IsByItsSlot durable.job parts new) → Keeps (IsByItsSlot durable.job parts new) (D.view disk.old) (D.view disk.new) }
 {
     let mut durable = durable;
     loop {
@@ -116,9 +116,9 @@ fn shut<D: Disk>(disk: &mut D, placed: Placed) -> Result<Idle, Doubt>
     ensures time { TakesCalls 3 (D.view disk.old) (D.view disk.new) result }
     ensures doubt { HasDoubt (D.view disk.old) (D.view disk.new) result }
     ensures calm { OnOk result (IsCalm (D.view disk.new)) }
-    ensures closed { OnOk result (IsPlaced placed (D.view disk.old) → IsClosed placed (D.view disk.new)) }
-    ensures shuts { (parts : ℕ → Part) (new : List InodePart) → IsJob placed → IsChangeOf placed parts new → IsPlaced placed (D.view disk.old)
-        → Leaves (D.view disk.old) (IsByItsSlot placed parts new) → Shuts placed parts new (D.view disk.old) (D.view disk.new) result }
+    ensures closed { OnOk result (AreAllPlaced placed (D.view disk.old) → IsEnded placed (D.view disk.new)) }
+    ensures shuts { (parts : ℕ → Part) (new : List InodePart) → IsJob placed → IsChangeOf placed parts new → AreAllPlaced placed (D.view disk.old)
+        → EachLeft (D.view disk.old) (IsByItsSlot placed parts new) → Shuts placed parts new (D.view disk.old) (D.view disk.new) result }
 {
     placed.copy(disk)?.shut_gate(disk)?.finish(disk)
 }

@@ -6,8 +6,8 @@ use Rattle.dev_fake.specs.Calls.{IsCallUnder}
 use Rattle.dev_fake.specs.declared.fuse.Fuse.{Fuse}
 
 -- the disk under it
-abbrev pub disk_of : Fuse → Memory
-disk_of fuse = fuse.disk
+abbrev pub disk_under : Fuse → Memory
+disk_under fuse = fuse.disk
 
 -- how many more device calls it passes on
 abbrev pub passes_of : Fuse → ℕ
@@ -15,5 +15,5 @@ passes_of fuse = fuse.passes
 
 -- A device call: it fails where no more are passed on, and is passed on otherwise, which lowers their number by one.
 pub record IsFuseCall {V E : Type 0} (act : Act) (bytes : List ℕ) (old new : Fuse) (result : Result V E) : Type 0 where
-  pub call : IsCallUnder (passes_of old == 0) act bytes (disk_of old) (disk_of new) result
+  pub call : IsCallUnder (passes_of old == 0) act bytes (disk_under old) (disk_under new) result
   pub passes : passes_of new ≡ passes_of old - 1

@@ -1,5 +1,5 @@
 ghost use Rattle.std.specs.Prelude.{◌≡◌, ◌-◌, ◌==◌};
-ghost use Rattle.dev_fake.specs.Fuse.{disk_of, passes_of};
+ghost use Rattle.dev_fake.specs.Fuse.{disk_under, passes_of};
 
 use sfs_base::Failed;
 use sfs_dev::{Disk, Memory};
@@ -17,7 +17,7 @@ pub struct Fuse {
 impl Fuse {
     /// A disk over this one that passes on so many device calls.
     pub fn new(disk: Memory, passes: u64) -> Fuse
-        ensures disk { disk_of result ≡ disk }
+        ensures disk { disk_under result ≡ disk }
         ensures passes { passes_of result ≡ passes }
     {
         Fuse { disk, passes }
@@ -25,7 +25,7 @@ impl Fuse {
 
     /// The disk under it.
     pub fn into_inner(self) -> Memory
-        ensures { result ≡ disk_of self }
+        ensures { result ≡ disk_under self }
     {
         self.disk
     }
@@ -34,7 +34,7 @@ impl Fuse {
     fn is_burnt(&mut self) -> bool
         ensures burnt { result ≡ (passes_of self.old == 0) }
         ensures passes { passes_of self.new ≡ passes_of self.old - 1 }
-        ensures disk { disk_of self.new ≡ disk_of self.old }
+        ensures disk { disk_under self.new ≡ disk_under self.old }
     {
         let burnt = self.passes == 0;
         self.passes = self.passes.saturating_sub(1);
@@ -49,7 +49,7 @@ impl Disk for Fuse {
     ghost use Rattle.sfs_dev.specs.Memory.{memory_view};
     ghost use Rattle.sfs_dev.specs.MemoryLaws.{memory_whole, memory_left};
     ghost use Rattle.sfs_dev.specs.declared.call.Act.TheVariants.{Read, Write, Sync};
-    ghost use Rattle.dev_fake.specs.Fuse.{disk_of, IsFuseCall};
+    ghost use Rattle.dev_fake.specs.Fuse.{disk_under, IsFuseCall};
 
     ghost view = { λ fake. memory_view fake.disk };
 
@@ -75,12 +75,12 @@ impl Disk for Fuse {
 
     fn read_at(&mut self, at: u64, into: &mut [u8]) -> Result<(), Failed>
         requires some { 0 < length into.old }
-        requires within { at + length into.old ≤ 4096 * (memory_view (disk_of self.old)).size }
+        requires within { at + length into.old ≤ 4096 * (memory_view (disk_under self.old)).size }
 
-        ensures ok { OnOk result (Gives (memory_view (disk_of self.old)).content at into.new) }
-        ensures content { (memory_view (disk_of self.new)).content ≡ (memory_view (disk_of self.old)).content }
-        ensures images { SameImages (images (memory_view (disk_of self.old))) (images (memory_view (disk_of self.new))) }
-        ensures call { IsDeviceCall (memory_view (disk_of self.old)) (memory_view (disk_of self.new)) result }
+        ensures ok { OnOk result (Gives (memory_view (disk_under self.old)).content at into.new) }
+        ensures content { (memory_view (disk_under self.new)).content ≡ (memory_view (disk_under self.old)).content }
+        ensures images { SameImages (images (memory_view (disk_under self.old))) (images (memory_view (disk_under self.new))) }
+        ensures call { IsDeviceCall (memory_view (disk_under self.old)) (memory_view (disk_under self.new)) result }
         ensures planned { IsFuseCall (Read at (length into.old)) [] self.old self.new result }
     {
         if self.is_burnt() {
@@ -91,13 +91,13 @@ impl Disk for Fuse {
 
     fn write_at(&mut self, at: u64, from: &[u8]) -> Result<(), Failed>
         requires some { 0 < length from.now }
-        requires within { at + length from.now ≤ 4096 * (memory_view (disk_of self.old)).size }
+        requires within { at + length from.now ≤ 4096 * (memory_view (disk_under self.old)).size }
 
-        ensures ok { OnOk result ((memory_view (disk_of self.new)).content ≡ option_map (put at from.now) (memory_view (disk_of self.old)).content) }
-        ensures err { OnErr result (TornTold at (length from.now) (memory_view (disk_of self.old)).content (memory_view (disk_of self.new)).content) }
-        ensures images { Torn at (length from.now) (images (memory_view (disk_of self.old))) (images (memory_view (disk_of self.new))) }
-        ensures any { OnOk result (AnyIn at (length from.now) (images (memory_view (disk_of self.old))) (images (memory_view (disk_of self.new)))) }
-        ensures call { IsDeviceCall (memory_view (disk_of self.old)) (memory_view (disk_of self.new)) result }
+        ensures ok { OnOk result ((memory_view (disk_under self.new)).content ≡ option_map (put at from.now) (memory_view (disk_under self.old)).content) }
+        ensures err { OnErr result (TornTold at (length from.now) (memory_view (disk_under self.old)).content (memory_view (disk_under self.new)).content) }
+        ensures images { Torn at (length from.now) (images (memory_view (disk_under self.old))) (images (memory_view (disk_under self.new))) }
+        ensures any { OnOk result (AnyIn at (length from.now) (images (memory_view (disk_under self.old))) (images (memory_view (disk_under self.new)))) }
+        ensures call { IsDeviceCall (memory_view (disk_under self.old)) (memory_view (disk_under self.new)) result }
         ensures planned { IsFuseCall (Write at (length from.now)) from.now self.old self.new result }
     {
         if self.is_burnt() {
@@ -107,10 +107,10 @@ impl Disk for Fuse {
     }
 
     fn sync(&mut self) -> Result<(), Failed>
-        ensures ok { OnOk result (OnlyTold (memory_view (disk_of self.new)).content (images (memory_view (disk_of self.new)))) }
-        ensures content { (memory_view (disk_of self.new)).content ≡ (memory_view (disk_of self.old)).content }
-        ensures images { OnErr result (SameImages (images (memory_view (disk_of self.old))) (images (memory_view (disk_of self.new)))) }
-        ensures call { IsDeviceCall (memory_view (disk_of self.old)) (memory_view (disk_of self.new)) result }
+        ensures ok { OnOk result (OnlyTold (memory_view (disk_under self.new)).content (images (memory_view (disk_under self.new)))) }
+        ensures content { (memory_view (disk_under self.new)).content ≡ (memory_view (disk_under self.old)).content }
+        ensures images { OnErr result (SameImages (images (memory_view (disk_under self.old))) (images (memory_view (disk_under self.new)))) }
+        ensures call { IsDeviceCall (memory_view (disk_under self.old)) (memory_view (disk_under self.new)) result }
         ensures planned { IsFuseCall Sync [] self.old self.new result }
     {
         if self.is_burnt() {

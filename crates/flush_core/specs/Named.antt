@@ -34,8 +34,8 @@ abbrev pub AreChildren : TreeState → List OwnChange → Cut → NodeSet → Ty
 AreChildren first changes cut named = (node : ℕ) → (has_node named node ≡ true) ↔ ((directory : ℕ) × IsChildIn first changes cut directory node)
 
 -- A change stands in a directory.
-abbrev pub StandsIn : OwnChange → ℕ → Type 0
-StandsIn change directory = change.directory ≡ directory
+abbrev pub StandsInDirectory : OwnChange → ℕ → Type 0
+StandsInDirectory change directory = change.directory ≡ directory
 
 -- A set is the nodes that the rows at a cut name.
 abbrev pub AreNamed : TreeState → List Entry → Cut → NodeSet → Type 0

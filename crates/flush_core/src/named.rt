@@ -7,7 +7,7 @@ ghost use Rattle.sfs_tree.specs.Changes.{is_own_below, with_change};
 ghost use Rattle.flush_core.specs.declared.past.OwnChange.{OwnChange};
 ghost use Rattle.flush_core.specs.Cut.{cut_of};
 ghost use Rattle.flush_core.specs.Engine.{OfSome, Joins};
-ghost use Rattle.flush_core.specs.Named.{kept_rows, IsChild, IsChildOf, IsChildIn, AreChildren, StandsIn, AreNamed};
+ghost use Rattle.flush_core.specs.Named.{kept_rows, IsChild, IsChildOf, IsChildIn, AreChildren, StandsInDirectory, AreNamed};
 ghost use Rattle.flush_core.specs.NodeSets.{has_node};
 ghost use Rattle.flush_core.specs.Past.{IsPast, row_change_of};
 ghost use Rattle.flush_core.specs.Rules.{IsOneOf};
@@ -71,7 +71,7 @@ fn add_nodes(directories: &mut NodeSet, first: &Tree) -> Result<(), NoMemory>
 
 // Puts in the directories that changes stand in.
 fn add_changed(directories: &mut NodeSet, changes: &[OwnChange]) -> Result<(), NoMemory>
-    ensures { OnOk result (Joins (OfSome changes.now StandsIn) directories.old directories.new) }
+    ensures { OnOk result (Joins (OfSome changes.now StandsInDirectory) directories.old directories.new) }
 {
     for change in changes {
         add_directory(directories, change)?;
@@ -81,7 +81,7 @@ fn add_changed(directories: &mut NodeSet, changes: &[OwnChange]) -> Result<(), N
 
 // Puts in the directory that a change stands in.
 fn add_directory(directories: &mut NodeSet, change: &OwnChange) -> Result<(), NoMemory>
-    ensures { OnOk result (Joins (StandsIn change.now) directories.old directories.new) }
+    ensures { OnOk result (Joins (StandsInDirectory change.now) directories.old directories.new) }
 {
     directories.insert(change.directory)
 }

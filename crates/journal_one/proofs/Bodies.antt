@@ -10,23 +10,23 @@ use Rattle.sfs_image.proofs.EntriesLaws.{read_again, ranges_have}
 use Rattle.sfs_image.proofs.FrameLaws.{part-part}
 use Rattle.sfs_image.proofs.SettledLaws.{settled_newest}
 use Rattle.journal_one.specs.Job.{Job, Piece, numbers_piece, records_piece, head_piece, body_piece, table_piece, no_entry, IsJob}
-use Rattle.journal_one.specs.Known.{StandsIn, IsOpenIn}
+use Rattle.journal_one.specs.Known.{IsWrittenIn, IsOpenIn}
 use Rattle.journal_one.specs.Laws.{job_body, HasPieces, HasBodyOf}
 use Rattle.journal_one.proofs.Places.{body_is, body_lies, length-numbers, length-records, length-head, entry_long, few_entries}
 
 -- a part of bytes that stand
-part_of_standing : (piece : Piece) (image : List ℕ) (off n : ℕ) → StandsIn piece image → off + n ≤ length piece.bytes → part (piece.at + off) n image ≡ part off n piece.bytes
+part_of_standing : (piece : Piece) (image : List ℕ) (off n : ℕ) → IsWrittenIn piece image → off + n ≤ length piece.bytes → part (piece.at + off) n image ≡ part off n piece.bytes
 part_of_standing piece image off n stands within = sym (part-part off n piece.at (length piece.bytes) image within) ∙ ap (part off n) stands
 
 module _ (job : Job) (image : List ℕ) (is : IsJob job) (has : HasPieces job image) where
   slot : List ℕ
   slot = journal_slot job.place.layout image job.place.slot
 
-  body_stands : (k : ℕ) → k < 3 → StandsIn (body_piece job k) image
+  body_stands : (k : ℕ) → k < 3 → IsWrittenIn (body_piece job k) image
   body_stands k lt =
       let back : length job.fresh + k - length job.fresh ≡ k = omega arith in
-      subst (λ (m : ℕ). StandsIn (body_piece job m) image) back
-      (subst (λ (p : Piece). StandsIn p image) (body_is job is (length job.fresh + k) (omega arith)) (has (length job.fresh + k) (omega arith)))
+      subst (λ (m : ℕ). IsWrittenIn (body_piece job m) image) back
+      (subst (λ (p : Piece). IsWrittenIn p image) (body_is job is (length job.fresh + k) (omega arith)) (has (length job.fresh + k) (omega arith)))
 
   -- a part of the slot is one of the image
   in_slot : (from n : ℕ) → from + n ≤ 4096 * slot_blocks job.place.layout.inodes → part from n slot ≡ part (slot_byte job.place.layout job.place.slot + from) n image
@@ -94,7 +94,7 @@ module _ (job : Job) (image : List ℕ) (is : IsJob job) (has : HasPieces job im
       settled_newest job.place.layout image i job.place.slot ours is.place.within here others
 
 -- a placed record is the table's
-pub placed_in_table : (job : Job) (image : List ℕ) (k : ℕ) → IsJob job → k < length job.entries → StandsIn (table_piece job k) image
+pub placed_in_table : (job : Job) (image : List ℕ) (k : ℕ) → IsJob job → k < length job.entries → IsWrittenIn (table_piece job k) image
     → table_record job.place.layout image (get_or job.entries k no_entry).inode ≡ (get_or job.entries k no_entry).bytes
 placed_in_table job image k is lt stands =
     ap (λ (n : ℕ). part (table_byte job.place.layout (get_or job.entries k no_entry).inode) n image) (sym (entry_long job is k lt)) ∙ stands

@@ -13,7 +13,7 @@ use Rattle.sfs_dev.specs.Disk.{View, Torn, OnlyTold, images}
 use Rattle.sfs_dev.proofs.Held.{told_before}
 use Rattle.journal_one.specs.Calls.{IsWrite, IsSync, IsCalm}
 use Rattle.journal_one.specs.Job.{Place, Piece, gate_piece}
-use Rattle.journal_one.specs.Known.{Reads, Leaves, StandsIn}
+use Rattle.journal_one.specs.Known.{Reads, EachLeft, IsWrittenIn}
 use Rattle.journal_one.proofs.Apart.{AreApart}
 
 -- what a law says of every disk: what a read gives has the disk's size, and is one of the images
@@ -56,10 +56,10 @@ module _ (piece : Piece) (old new : View) (large : piece.at + length piece.bytes
   written_touches (Err fault) is = record { left = is.torn; read = λ content told. told_before piece.at (length piece.bytes) old.content new.content content is.err told }
 
   -- and after Ok they stand
-  pub written_stands : new.content ≡ option_map (put piece.at piece.bytes) old.content → Reads new (StandsIn piece)
+  pub written_stands : new.content ≡ option_map (put piece.at piece.bytes) old.content → Reads new (IsWrittenIn piece)
   written_stands is content told =
       let p = put_told piece old.content new.content content is told in
-      subst (StandsIn piece) (sym p.2) (part-put piece.at piece.bytes p.0 (omega (arith, lawful.whole p.0 p.1)))
+      subst (IsWrittenIn piece) (sym p.2) (part-put piece.at piece.bytes p.0 (omega (arith, lawful.whole p.0 p.1)))
 
 -- a sync that failed, and one that answered Ok, writes nothing
 pub synced_rests : {V E : Type 0} (old new : View) (result : Result V E) → IsLawful old → IsSync old new result → Rests old new
@@ -73,7 +73,7 @@ synced_rests old new (Err fault) lawful is = record { content = is.content; left
 
 -- what is known goes on where the bytes that it is of are not touched
 pub leaves_kept : (piece : Piece) (old new : View) (P : List ℕ → Type 0) → Touches piece old new
-    → ((was image : List ℕ) → SameOutside piece.at (length piece.bytes) was image → P was → P image) → Leaves old P → Leaves new P
+    → ((was image : List ℕ) → SameOutside piece.at (length piece.bytes) was image → P was → P image) → EachLeft old P → EachLeft new P
 leaves_kept piece old new P touches frame knows content told image left =
     let was = touches.read content told in
     let before = touches.left image left in
@@ -85,24 +85,24 @@ reads_kept piece old new P touches frame knows content told =
     let was = touches.read content told in
     frame was.0 content was.2 (knows was.0 was.1)
 
-pub leaves_rest : (old new : View) (P : List ℕ → Type 0) → Rests old new → Leaves old P → Leaves new P
+pub leaves_rest : (old new : View) (P : List ℕ → Type 0) → Rests old new → EachLeft old P → EachLeft new P
 leaves_rest old new P rests knows content told image left = knows content (sym rests.content ∙ told) image (rests.left content told image left)
 
 pub reads_rest : (old new : View) (P : List ℕ → Type 0) → Rests old new → Reads old P → Reads new P
 reads_rest old new P rests knows content told = knows content (sym rests.content ∙ told)
 
 -- what every image has, a read gives
-pub reads_from_leaves : (disk : View) (P : List ℕ → Type 0) → IsLawful disk → Leaves disk P → Reads disk P
+pub reads_from_leaves : (disk : View) (P : List ℕ → Type 0) → IsLawful disk → EachLeft disk P → Reads disk P
 reads_from_leaves disk P lawful knows content told = knows content told content (lawful.read_is_left content told)
 
 -- where nothing is pending, every image has what a read gives
-pub leaves_from_reads : (disk : View) (P : List ℕ → Type 0) → IsCalm disk → Reads disk P → Leaves disk P
+pub leaves_from_reads : (disk : View) (P : List ℕ → Type 0) → IsCalm disk → Reads disk P → EachLeft disk P
 leaves_from_reads disk P calm knows content told image left =
     let sole = subst (λ (t : Option (List ℕ)). OnlyTold t (images disk)) told calm in
     subst P (sym (sole image left)) (knows content told)
 
 -- bytes that stand go on standing through a write elsewhere
-pub stands_kept : (written piece : Piece) (was image : List ℕ) → AreApart written piece → SameOutside written.at (length written.bytes) was image → StandsIn piece was → StandsIn piece image
+pub stands_kept : (written piece : Piece) (was image : List ℕ) → AreApart written piece → SameOutside written.at (length written.bytes) was image → IsWrittenIn piece was → IsWrittenIn piece image
 stands_kept written piece was image apart same stands = part_apart piece.at (length piece.bytes) written.at (length written.bytes) was image apart same ∙ stands
 
 -- the gate is one byte of the slot
@@ -124,7 +124,7 @@ gate_stays place written byte was image apart same =
     ∙ sym (gate_is place was)
 
 -- and is what was put there
-pub gate_put : (place : Place) (byte : ℕ) (image : List ℕ) → StandsIn (gate_piece place byte) image → (head_of (part 0 4096 (journal_slot place.layout image place.slot))).gate ≡ eqb byte 1
+pub gate_put : (place : Place) (byte : ℕ) (image : List ℕ) → IsWrittenIn (gate_piece place byte) image → (head_of (part 0 4096 (journal_slot place.layout image place.slot))).gate ≡ eqb byte 1
 gate_put place byte image stands = gate_is place image ∙ ap (λ (l : List ℕ). eqb (slice_index l 0) 1) stands
 
 -- a write that answered Ok is that write, whatever value comes with it

@@ -11,7 +11,7 @@ use Rattle.sfs_image.specs.Journal.{Entry}
 use Rattle.fmt_journal.specs.declared.tx.TxBlock.{TxBlock}
 use Rattle.fmt_journal.specs.declared.tx.TxRecord.{TxRecord}
 use Rattle.journal_one.specs.Job.{no_entry, no_block}
-use Rattle.journal_one.specs.Packed.{entry_of, block_of, inode_of_entry, bytes_of_entry, IsPacked}
+use Rattle.journal_one.specs.Packed.{record_entry, block_of, inode_of_entry, bytes_of_entry, IsPacked}
 
 -- an entry has its 512 bytes
 abbrev pub IsLong : Entry → Type 0
@@ -19,9 +19,9 @@ IsLong entry = length entry.bytes ≡ 512
 
 -- The numbers and the bytes of these records stand one behind another, and each record has its bytes.
 pub record Packing (records : List TxRecord) (numbers bytes : List ℕ) : Type 0 where
-  pub long : All IsLong (map entry_of records)
-  pub numbered : numbers ≡ u32s_bytes (map inode_of_entry (map entry_of records))
-  pub laid : bytes ≡ flat_map bytes_of_entry (map entry_of records)
+  pub long : All IsLong (map record_entry records)
+  pub numbered : numbers ≡ u32s_bytes (map inode_of_entry (map record_entry records))
+  pub laid : bytes ≡ flat_map bytes_of_entry (map record_entry records)
 
 pub packing_none : Packing [] [] []
 packing_none = record { long = All-nil IsLong; numbered = refl; laid = refl }
@@ -33,16 +33,16 @@ one_long entry long (suc k) d lt = absurd (omega arith)
 pub packing_more : (records : List TxRecord) (one : TxRecord) (numbers bytes : List ℕ) → length one.bytes ≡ 512 → Packing records numbers bytes
     → Packing (records ++ one ∷ []) (numbers ++ u32_bytes one.inode) (bytes ++ one.bytes)
 packing_more records one numbers bytes long before =
-    let more : map entry_of (records ++ one ∷ []) ≡ map entry_of records ++ entry_of one ∷ [] = map-append entry_of records (one ∷ []) in
-    let inodes : map inode_of_entry (map entry_of (records ++ one ∷ [])) ≡ map inode_of_entry (map entry_of records) ++ one.inode ∷ [] =
-    ap (map inode_of_entry) more ∙ map-append inode_of_entry (map entry_of records) (entry_of one ∷ []) in
+    let more : map record_entry (records ++ one ∷ []) ≡ map record_entry records ++ record_entry one ∷ [] = map-append record_entry records (one ∷ []) in
+    let inodes : map inode_of_entry (map record_entry (records ++ one ∷ [])) ≡ map inode_of_entry (map record_entry records) ++ one.inode ∷ [] =
+    ap (map inode_of_entry) more ∙ map-append inode_of_entry (map record_entry records) (record_entry one ∷ []) in
     record {
-      long = subst (All IsLong) (sym more) (All-append IsLong (map entry_of records) (entry_of one ∷ []) before.long (one_long (entry_of one) long));
-      numbered = ap (λ (l : List ℕ). l ++ u32_bytes one.inode) before.numbered ∙ sym (ap u32s_bytes inodes ∙ flat_map-append u32_bytes (map inode_of_entry (map entry_of records)) (one.inode ∷ []) ∙ ap (λ (l : List ℕ). u32s_bytes (map inode_of_entry (map entry_of records)) ++ l) (append-nil (u32_bytes one.inode)));
-      laid = ap (λ (l : List ℕ). l ++ one.bytes) before.laid ∙ sym (ap (flat_map bytes_of_entry) more ∙ flat_map-append bytes_of_entry (map entry_of records) (entry_of one ∷ []) ∙ ap (λ (l : List ℕ). flat_map bytes_of_entry (map entry_of records) ++ l) (append-nil one.bytes));
+      long = subst (All IsLong) (sym more) (All-append IsLong (map record_entry records) (record_entry one ∷ []) before.long (one_long (record_entry one) long));
+      numbered = ap (λ (l : List ℕ). l ++ u32_bytes one.inode) before.numbered ∙ sym (ap u32s_bytes inodes ∙ flat_map-append u32_bytes (map inode_of_entry (map record_entry records)) (one.inode ∷ []) ∙ ap (λ (l : List ℕ). u32s_bytes (map inode_of_entry (map record_entry records)) ++ l) (append-nil (u32_bytes one.inode)));
+      laid = ap (λ (l : List ℕ). l ++ one.bytes) before.laid ∙ sym (ap (flat_map bytes_of_entry) more ∙ flat_map-append bytes_of_entry (map record_entry records) (record_entry one ∷ []) ∙ ap (λ (l : List ℕ). flat_map bytes_of_entry (map record_entry records) ++ l) (append-nil one.bytes));
     }
 
-map_inodes : (records : List TxRecord) → map inode_of_entry (map entry_of records) ≡ map (λ (one : TxRecord). one.inode) records
+map_inodes : (records : List TxRecord) → map inode_of_entry (map record_entry records) ≡ map (λ (one : TxRecord). one.inode) records
 map_inodes [] = refl
 map_inodes (one ∷ records) = ap (λ (l : List ℕ). one.inode ∷ l) (map_inodes records)
 
@@ -68,13 +68,13 @@ packing_next items i numbers bytes new_numbers new_bytes lt long added laid befo
 -- all records are packed
 pub packed_all : (records : List TxRecord) (fresh : List FreshBlock) (numbers bytes : List ℕ) (i : ℕ) → length records ≤ i → 0 < length records
     → IsStrictlyIncreasing (map (λ (one : TxRecord). one.inode) records) → Packing (take i records) numbers bytes
-    → IsPacked (record { entries = map entry_of records; fresh = fresh }) numbers bytes
+    → IsPacked (record { entries = map record_entry records; fresh = fresh }) numbers bytes
 packed_all records fresh numbers bytes i all some ascend before =
     let full : take i records ≡ records = take_all i records all in
     let p : Packing records numbers bytes = subst (λ (l : List TxRecord). Packing l numbers bytes) full before in
     record {
       sound = record {
-        some = omega (arith, length-map records entry_of);
+        some = omega (arith, length-map records record_entry);
         ascend = subst IsStrictlyIncreasing (sym (map_inodes records)) ascend;
         long = p.long;
       };
@@ -83,11 +83,11 @@ packed_all records fresh numbers bytes i all some ascend before =
     }
 
 -- what a list of records, and one of blocks, has at a number
-pub record_at : (items : List TxRecord) (entries : List Entry) (k : ℕ) → map entry_of items ≡ entries → k < length entries
-    → entry_of (get_or items k no_record) ≡ get_or entries k no_entry
+pub record_at : (items : List TxRecord) (entries : List Entry) (k : ℕ) → map record_entry items ≡ entries → k < length entries
+    → record_entry (get_or items k no_record) ≡ get_or entries k no_entry
 record_at items entries k are lt =
-    let as_many : length items ≡ length entries = sym (length-map items entry_of) ∙ ap length are in
-    sym (get_or-map entry_of items k no_record no_entry (omega (arith, as_many))) ∙ ap (λ (l : List Entry). get_or l k no_entry) are
+    let as_many : length items ≡ length entries = sym (length-map items record_entry) ∙ ap length are in
+    sym (get_or-map record_entry items k no_record no_entry (omega (arith, as_many))) ∙ ap (λ (l : List Entry). get_or l k no_entry) are
 
 pub block_at : (items : List TxBlock) (fresh : List FreshBlock) (k : ℕ) → map block_of items ≡ fresh → k < length fresh
     → block_of (get_or items k no_tx_block) ≡ get_or fresh k no_block

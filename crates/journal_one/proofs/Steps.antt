@@ -5,14 +5,9 @@ use Rattle.std.proofs.lemmas.Bool.{cases_lt}
 use Rattle.sfs_dev.specs.Disk.{View}
 use Rattle.journal_one.specs.Calls.{IsCalm}
 use Rattle.journal_one.specs.Job.{Place, Job, Piece, fill_count, fill_piece, table_piece, gate_piece, IsJob}
-use Rattle.journal_one.specs.Known.{Reads, Leaves, StandsIn, IsShutIn, IsOpenIn, AreWritten, AreOnDisk, AreFilled, IsFilling, IsFilled, IsSealed, IsOpened, IsDurable, IsPlaced, IsCopied, IsClosing, IsClosed, IsBetween}
+use Rattle.journal_one.specs.Known.{Reads, EachLeft, IsWrittenIn, IsShutIn, IsOpenIn, AreWritten, AreOnDisk, AreFilled, IsFilling, IsFilled, IsSealed, IsOpened, IsDurable, AreAllPlaced, IsCopied, IsClosing, IsEnded, IsBetween}
 use Rattle.journal_one.proofs.Apart.{AreApart, apart_from_gate, table_from_gate, table_from_fill, tables_apart, fills_apart, AreApart-swap}
 use Rattle.journal_one.proofs.Kept.{Touches, Rests, leaves_kept, reads_kept, leaves_rest, reads_rest, leaves_from_reads, stands_kept, gate_stays, gate_put}
-
--- on a fault, what is so in any case
-pub on_err : {V E : Type 0} (result : Result V E) (P : Type 0) → P → OnErr result P
-on_err (Ok value) P holds = tt
-on_err (Err fault) P holds = holds
 
 -- no device call was made
 pub Rests-refl : (disk : View) → Rests disk disk
@@ -22,37 +17,37 @@ Rests-refl disk = record { content = refl; left = λ content told image left. le
 pub on_disk_kept : (n : ℕ) (piece : ℕ → Piece) (written : Piece) (old new : View) → Touches written old new → ((k : ℕ) → k < n → AreApart written (piece k))
     → AreOnDisk n piece old → AreOnDisk n piece new
 on_disk_kept n piece written old new touches apart knows k lt =
-    leaves_kept written old new (StandsIn (piece k)) touches (λ was image same stands. stands_kept written (piece k) was image (apart k lt) same stands) (knows k lt)
+    leaves_kept written old new (IsWrittenIn (piece k)) touches (λ was image same stands. stands_kept written (piece k) was image (apart k lt) same stands) (knows k lt)
 
 pub written_kept : (n : ℕ) (piece : ℕ → Piece) (written : Piece) (old new : View) → Touches written old new → ((k : ℕ) → k < n → AreApart written (piece k))
     → AreWritten n piece old → AreWritten n piece new
 written_kept n piece written old new touches apart knows k lt =
-    reads_kept written old new (StandsIn (piece k)) touches (λ was image same stands. stands_kept written (piece k) was image (apart k lt) same stands) (knows k lt)
+    reads_kept written old new (IsWrittenIn (piece k)) touches (λ was image same stands. stands_kept written (piece k) was image (apart k lt) same stands) (knows k lt)
 
 pub on_disk_rest : (n : ℕ) (piece : ℕ → Piece) (old new : View) → Rests old new → AreOnDisk n piece old → AreOnDisk n piece new
-on_disk_rest n piece old new rests knows k lt = leaves_rest old new (StandsIn (piece k)) rests (knows k lt)
+on_disk_rest n piece old new rests knows k lt = leaves_rest old new (IsWrittenIn (piece k)) rests (knows k lt)
 
 pub written_rest : (n : ℕ) (piece : ℕ → Piece) (old new : View) → Rests old new → AreWritten n piece old → AreWritten n piece new
-written_rest n piece old new rests knows k lt = reads_rest old new (StandsIn (piece k)) rests (knows k lt)
+written_rest n piece old new rests knows k lt = reads_rest old new (IsWrittenIn (piece k)) rests (knows k lt)
 
 -- and where nothing is pending, what was written is on the disk
 pub on_disk_by_sync : (n : ℕ) (piece : ℕ → Piece) (disk : View) → IsCalm disk → AreWritten n piece disk → AreOnDisk n piece disk
-on_disk_by_sync n piece disk calm knows k lt = leaves_from_reads disk (StandsIn (piece k)) calm (knows k lt)
+on_disk_by_sync n piece disk calm knows k lt = leaves_from_reads disk (IsWrittenIn (piece k)) calm (knows k lt)
 
 -- one piece more was written
-written_one : (n : ℕ) (piece : ℕ → Piece) (disk : View) → AreWritten n piece disk → Reads disk (StandsIn (piece n)) → AreWritten (n + 1) piece disk
+written_one : (n : ℕ) (piece : ℕ → Piece) (disk : View) → AreWritten n piece disk → Reads disk (IsWrittenIn (piece n)) → AreWritten (n + 1) piece disk
 written_one n piece disk before here k lt =
     elim (cases_lt k n) [
       | inl low ↦ before k low
-      | inr high ↦ subst (λ (m : ℕ). Reads disk (StandsIn (piece m))) (let e : n ≡ k = omega arith in e) here
+      | inr high ↦ subst (λ (m : ℕ). Reads disk (IsWrittenIn (piece m))) (let e : n ≡ k = omega arith in e) here
     ]
 
 -- the gate stays closed, and open, through a write elsewhere
-shut_kept : (place : Place) (written : Piece) (old new : View) → Touches written old new → AreApart written (gate_piece place 0) → Leaves old (IsShutIn place) → Leaves new (IsShutIn place)
+shut_kept : (place : Place) (written : Piece) (old new : View) → Touches written old new → AreApart written (gate_piece place 0) → EachLeft old (IsShutIn place) → EachLeft new (IsShutIn place)
 shut_kept place written old new touches apart =
     leaves_kept written old new (IsShutIn place) touches (λ was image same shut. gate_stays place written 0 was image apart same ∙ shut)
 
-open_kept : (place : Place) (written : Piece) (old new : View) → Touches written old new → AreApart written (gate_piece place 0) → Leaves old (IsOpenIn place) → Leaves new (IsOpenIn place)
+open_kept : (place : Place) (written : Piece) (old new : View) → Touches written old new → AreApart written (gate_piece place 0) → EachLeft old (IsOpenIn place) → EachLeft new (IsOpenIn place)
 open_kept place written old new touches apart =
     leaves_kept written old new (IsOpenIn place) touches (λ was image same open_then. gate_stays place written 0 was image apart same ∙ open_then)
 
@@ -71,7 +66,7 @@ module _ (job : Job) (is : IsJob job) where
       written = written_kept done (fill_piece job) (fill_piece job done) old new touches apart knows.written;
     }
 
-    pub filling_more : Reads new (StandsIn (fill_piece job done)) → IsFilling job (done + 1) new
+    pub filling_more : Reads new (IsWrittenIn (fill_piece job done)) → IsFilling job (done + 1) new
     filling_more stands = record {
       own = knows.own;
       whole = λ k lt low. elim (cases_lt k done) [
@@ -111,7 +106,7 @@ module _ (job : Job) (is : IsJob job) where
   pub opening_doubted : (old new : View) → Touches (gate_piece job.place 1) old new → IsSealed job old → AreFilled job new
   opening_doubted old new touches knows = filled_kept 1 old new touches knows.filled
 
-  pub opened_then : (old new : View) → Touches (gate_piece job.place 1) old new → Reads new (StandsIn (gate_piece job.place 1)) → IsSealed job old → IsOpened job new
+  pub opened_then : (old new : View) → Touches (gate_piece job.place 1) old new → Reads new (IsWrittenIn (gate_piece job.place 1)) → IsSealed job old → IsOpened job new
   opened_then old new touches stands knows = record {
     opened = λ content told. gate_put job.place 1 content (stands content told);
     filled = filled_kept 1 old new touches knows.filled;
@@ -137,7 +132,7 @@ module _ (job : Job) (is : IsJob job) where
       placed = written_kept done (table_piece job) (table_piece job done) old new touches (λ k lt. tables_apart job is done k (λ same. let e = same in omega arith) within (omega arith)) knows.placed;
     }
 
-    pub durable_more : Reads new (StandsIn (table_piece job done)) → IsDurable job (done + 1) new
+    pub durable_more : Reads new (IsWrittenIn (table_piece job done)) → IsDurable job (done + 1) new
     durable_more stands = record {
       opened = durable_kept.opened;
       filled = durable_kept.filled;
@@ -151,12 +146,12 @@ module _ (job : Job) (is : IsJob job) where
     placed = written_rest done (table_piece job) old new rests knows.placed;
   }
 
-  pub copied_then : (old new : View) → Rests old new → IsCalm new → IsPlaced job old → IsCopied job new
+  pub copied_then : (old new : View) → Rests old new → IsCalm new → AreAllPlaced job old → IsCopied job new
   copied_then old new rests calm knows =
       let then = durable_rests (length job.entries) old new rests knows in
       record { opened = then.opened; filled = then.filled; copied = on_disk_by_sync (length job.entries) (table_piece job) new calm then.placed }
 
-  pub closing_then : (old new : View) → Touches (gate_piece job.place 0) old new → Reads new (StandsIn (gate_piece job.place 0)) → IsCopied job old → IsClosing job new
+  pub closing_then : (old new : View) → Touches (gate_piece job.place 0) old new → Reads new (IsWrittenIn (gate_piece job.place 0)) → IsCopied job old → IsClosing job new
   closing_then old new touches stands knows = record {
     shut = λ content told. gate_put job.place 0 content (stands content told);
     filled = filled_kept 0 old new touches knows.filled;
@@ -170,7 +165,7 @@ module _ (job : Job) (is : IsJob job) where
   pub shutting_doubted : (old new : View) → Touches (gate_piece job.place 0) old new → IsCopied job old → IsBetween job new
   shutting_doubted old new touches knows = between_copied new (filled_kept 0 old new touches knows.filled) (copied_kept 0 old new touches knows.copied)
 
-  pub placed_between : (old new : View) → Rests old new → IsPlaced job old → IsBetween job new
+  pub placed_between : (old new : View) → Rests old new → AreAllPlaced job old → IsBetween job new
   placed_between old new rests knows =
       let then = durable_rests (length job.entries) old new rests knows in
       record {
@@ -191,7 +186,7 @@ module _ (job : Job) (is : IsJob job) where
     copied = on_disk_rest (length job.entries) (table_piece job) old new rests knows.copied;
   }
 
-  pub closed_then : (old new : View) → Rests old new → IsCalm new → IsClosing job old → IsClosed job new
+  pub closed_then : (old new : View) → Rests old new → IsCalm new → IsClosing job old → IsEnded job new
   closed_then old new rests calm knows = record {
     idle = leaves_from_reads new (IsShutIn job.place) calm (reads_rest old new (IsShutIn job.place) rests knows.shut);
     copied = on_disk_rest (length job.entries) (table_piece job) old new rests knows.copied;

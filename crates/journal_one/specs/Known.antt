@@ -12,12 +12,12 @@ abbrev pub Reads : View → (List ℕ → Type 0) → Type 0
 Reads disk P = (content : List ℕ) → disk.content ≡ Some content → P content
 
 -- each image of a disk that tells what a read gives has P
-abbrev pub Leaves : View → (List ℕ → Type 0) → Type 0
-Leaves disk P = (content : List ℕ) → disk.content ≡ Some content → (image : List ℕ) → images disk image → P image
+abbrev pub EachLeft : View → (List ℕ → Type 0) → Type 0
+EachLeft disk P = (content : List ℕ) → disk.content ≡ Some content → (image : List ℕ) → images disk image → P image
 
 -- bytes stand at their place
-abbrev pub StandsIn : Piece → List ℕ → Type 0
-StandsIn piece image = part piece.at (length piece.bytes) image ≡ piece.bytes
+abbrev pub IsWrittenIn : Piece → List ℕ → Type 0
+IsWrittenIn piece image = part piece.at (length piece.bytes) image ≡ piece.bytes
 
 -- the slot's gate is closed, and is open, in an image
 abbrev pub IsShutIn : Place → List ℕ → Type 0
@@ -28,11 +28,11 @@ IsOpenIn place image = (head_of (part 0 4096 (journal_slot place.layout image pl
 
 -- of the first n pieces each is written: it stands in what a read gives
 abbrev pub AreWritten : ℕ → (ℕ → Piece) → View → Type 0
-AreWritten n piece disk = (k : ℕ) → k < n → Reads disk (StandsIn (piece k))
+AreWritten n piece disk = (k : ℕ) → k < n → Reads disk (IsWrittenIn (piece k))
 
 -- of the first n pieces each is on the disk: it stands in every image
 abbrev pub AreOnDisk : ℕ → (ℕ → Piece) → View → Type 0
-AreOnDisk n piece disk = (k : ℕ) → k < n → Leaves disk (StandsIn (piece k))
+AreOnDisk n piece disk = (k : ℕ) → k < n → EachLeft disk (IsWrittenIn (piece k))
 
 -- the fresh blocks and the body of a commit are on the disk
 abbrev pub AreFilled : Job → View → Type 0
@@ -40,13 +40,13 @@ AreFilled job disk = AreOnDisk (fill_count job) (fill_piece job) disk
 
 -- Idle: the gate is closed in every image.
 abbrev pub IsIdle : Place → View → Type 0
-IsIdle place disk = Leaves disk (IsShutIn place)
+IsIdle place disk = EachLeft disk (IsShutIn place)
 
 -- Filling, with some pieces written: the gate is closed in every image, no block is written twice, and each that was has its bytes.
 pub record IsFilling (job : Job) (done : ℕ) (disk : View) : Type 0 where
   pub own : HaveOwnBlocks job.fresh
   pub whole : (k : ℕ) → k < done → k < length job.fresh → length (fill_piece job k).bytes ≡ 4096
-  pub shut : Leaves disk (IsShutIn job.place)
+  pub shut : EachLeft disk (IsShutIn job.place)
   pub written : AreWritten done (fill_piece job) disk
 
 -- Filled: all pieces are written.
@@ -55,7 +55,7 @@ IsFilled job disk = IsFilling job (fill_count job) disk
 
 -- Sealed: the gate is closed in every image, and behind it the body is on the disk.
 pub record IsSealed (job : Job) (disk : View) : Type 0 where
-  pub shut : Leaves disk (IsShutIn job.place)
+  pub shut : EachLeft disk (IsShutIn job.place)
   pub filled : AreFilled job disk
 
 -- Opened: the gate is open in what a read gives, and any byte in an image.
@@ -65,17 +65,17 @@ pub record IsOpened (job : Job) (disk : View) : Type 0 where
 
 -- Durable, with some records placed: the gate is open in every image.
 pub record IsDurable (job : Job) (done : ℕ) (disk : View) : Type 0 where
-  pub opened : Leaves disk (IsOpenIn job.place)
+  pub opened : EachLeft disk (IsOpenIn job.place)
   pub filled : AreFilled job disk
   pub placed : AreWritten done (table_piece job) disk
 
 -- Placed: all records are placed.
-abbrev pub IsPlaced : Job → View → Type 0
-IsPlaced job disk = IsDurable job (length job.entries) disk
+abbrev pub AreAllPlaced : Job → View → Type 0
+AreAllPlaced job disk = IsDurable job (length job.entries) disk
 
 -- Copied: the records are on the disk, in the table too.
 pub record IsCopied (job : Job) (disk : View) : Type 0 where
-  pub opened : Leaves disk (IsOpenIn job.place)
+  pub opened : EachLeft disk (IsOpenIn job.place)
   pub filled : AreFilled job disk
   pub copied : AreOnDisk (length job.entries) (table_piece job) disk
 
@@ -86,11 +86,11 @@ pub record IsClosing (job : Job) (disk : View) : Type 0 where
   pub copied : AreOnDisk (length job.entries) (table_piece job) disk
 
 -- Closed: the slot is idle, and the table has the records.
-pub record IsClosed (job : Job) (disk : View) : Type 0 where
+pub record IsEnded (job : Job) (disk : View) : Type 0 where
   pub idle : IsIdle job.place disk
   pub copied : AreOnDisk (length job.entries) (table_piece job) disk
 
 -- After a close that failed: the body is on the disk, and where the gate is closed the table has the records.
 pub record IsBetween (job : Job) (disk : View) : Type 0 where
   pub filled : AreFilled job disk
-  pub copied : (k : ℕ) → k < length job.entries → Leaves disk (λ image. IsShutIn job.place image → StandsIn (table_piece job k) image)
+  pub copied : (k : ℕ) → k < length job.entries → EachLeft disk (λ image. IsShutIn job.place image → IsWrittenIn (table_piece job k) image)

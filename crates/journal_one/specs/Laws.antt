@@ -6,7 +6,7 @@ use Rattle.sfs_image.specs.Laws.{record_at}
 use Rattle.sfs_image.specs.Settled.{Body, Stamped, body_in, record_in, journal_slot, slot_count, settled, table_record}
 use Rattle.sfs_dev.specs.Ranges.{Apart}
 use Rattle.journal_one.specs.Job.{Job, fill_count, fill_piece, table_piece, gate_piece, no_entry, IsJob}
-use Rattle.journal_one.specs.Known.{StandsIn, IsOpenIn}
+use Rattle.journal_one.specs.Known.{IsWrittenIn, IsOpenIn}
 
 -- the body of a commit: its stamp and its records
 abbrev pub job_body : Job → Body
@@ -14,7 +14,7 @@ job_body job = record { stamp = job.stamp; entries = job.entries }
 
 -- the fresh blocks and the body of a commit stand in an image
 abbrev pub HasPieces : Job → List ℕ → Type 0
-HasPieces job image = (k : ℕ) → k < fill_count job → StandsIn (fill_piece job k) image
+HasPieces job image = (k : ℕ) → k < fill_count job → IsWrittenIn (fill_piece job k) image
 
 -- The slot of a commit has its body in an image, with nothing wrong in it.
 pub record HasBodyOf (job : Job) (image : List ℕ) : Type 0 where
@@ -41,5 +41,5 @@ PiecesLeaveTheGate = (job : Job) (k byte : ℕ) → IsJob job
 
 -- A record that stands at its place is the table's.
 abbrev pub PlacedRecordsAreInTheTable : Type 0
-PlacedRecordsAreInTheTable = (job : Job) (image : List ℕ) (k : ℕ) → IsJob job → k < length job.entries → StandsIn (table_piece job k) image
+PlacedRecordsAreInTheTable = (job : Job) (image : List ℕ) (k : ℕ) → IsJob job → k < length job.entries → IsWrittenIn (table_piece job k) image
     → table_record job.place.layout image (slice_index_or job.entries k no_entry).inode ≡ (slice_index_or job.entries k no_entry).bytes

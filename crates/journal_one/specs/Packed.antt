@@ -15,8 +15,8 @@ pub record Contents : Type 0 where
   pub fresh : List FreshBlock
 
 -- an inode and its record
-abbrev pub entry_of : TxRecord → Entry
-entry_of one = record { inode = one.inode; bytes = one.bytes }
+abbrev pub record_entry : TxRecord → Entry
+record_entry one = record { inode = one.inode; bytes = one.bytes }
 
 -- a block and its bytes
 abbrev pub block_of : TxBlock → FreshBlock
@@ -31,7 +31,7 @@ bytes_of_entry entry = entry.bytes
 
 -- what a transaction writes
 abbrev pub contents_of : Tx → Contents
-contents_of tx = record { entries = map entry_of tx.records.items; fresh = map block_of tx.fresh.items }
+contents_of tx = record { entries = map record_entry tx.records.items; fresh = map block_of tx.fresh.items }
 
 -- What a transaction writes can be: it has records, which ascend by inode, and each has its 512 bytes.
 pub record AreContents (contents : Contents) : Type 0 where

@@ -4,7 +4,7 @@ ghost use Rattle.sfs_dev.specs.Run.{Advances};
 ghost use Rattle.sfs_dev.specs.Steps.{TearsOnly};
 ghost use Rattle.journal_one.specs.Calls.{IsWrite, IsSync, IsCalm, HasDoubt};
 ghost use Rattle.journal_one.specs.Job.{gate_piece};
-ghost use Rattle.journal_one.specs.Known.{IsPlaced, IsCopied, IsClosing, IsClosed, IsBetween};
+ghost use Rattle.journal_one.specs.Known.{AreAllPlaced, IsCopied, IsClosing, IsEnded, IsBetween};
 ghost use Rattle.journal_one.specs.Work.{job_of};
 
 use crate::doubt::sync;
@@ -73,8 +73,8 @@ impl Placed {
         ensures ok { IfOk result (λ copied. copied ≡ self) }
         ensures sync { IsSync (D.view disk.old) (D.view disk.new) result }
         ensures faults { IfErr result (λ doubt. doubt.faults ≡ (D.view disk.new).faults) }
-        ensures copied { OnOk result (IsPlaced self (D.view disk.old) → IsCopied self (D.view disk.new)) }
-        ensures err { OnErr result (IsPlaced self (D.view disk.old) → IsPlaced self (D.view disk.new)) }
+        ensures copied { OnOk result (AreAllPlaced self (D.view disk.old) → IsCopied self (D.view disk.new)) }
+        ensures err { OnErr result (AreAllPlaced self (D.view disk.old) → AreAllPlaced self (D.view disk.new)) }
     {
         let Placed { work } = self;
         sync(disk)?;
@@ -90,8 +90,8 @@ impl Placed {
         ensures torn { TearsOnly (gate_piece self.place SHUT).at 1 (D.view disk.old) (D.view disk.new) }
         ensures calm { OnOk result (IsCalm (D.view disk.new)) }
         ensures faults { HasDoubt (D.view disk.old) (D.view disk.new) result }
-        ensures closed { OnOk result (IsPlaced self (D.view disk.old) → IsClosed self (D.view disk.new)) }
-        ensures err { OnErr result (IsPlaced self (D.view disk.old) → IsBetween self (D.view disk.new)) }
+        ensures closed { OnOk result (AreAllPlaced self (D.view disk.old) → IsEnded self (D.view disk.new)) }
+        ensures err { OnErr result (AreAllPlaced self (D.view disk.old) → IsBetween self (D.view disk.new)) }
     {
         let Placed { work } = self;
         // The records have to be on the disk first: behind a closed gate those of the table count.
@@ -106,7 +106,7 @@ impl Placed {
     pub fn copied_by<D: Disk>(self, _disk: &D) -> Copied
         requires calm { IsCalm (D.view _disk.now) }
         ensures ok { result ≡ self }
-        ensures copied { IsPlaced self (D.view _disk.now) → IsCopied self (D.view _disk.now) }
+        ensures copied { AreAllPlaced self (D.view _disk.now) → IsCopied self (D.view _disk.now) }
     {
         let Placed { work } = self;
         Copied { work }
@@ -145,7 +145,7 @@ impl Closing {
         ensures ok { IfOk result (λ idle. idle ≡ self.place) }
         ensures sync { IsSync (D.view disk.old) (D.view disk.new) result }
         ensures faults { IfErr result (λ doubt. doubt.faults ≡ (D.view disk.new).faults) }
-        ensures closed { OnOk result (IsClosing self (D.view disk.old) → IsClosed self (D.view disk.new)) }
+        ensures closed { OnOk result (IsClosing self (D.view disk.old) → IsEnded self (D.view disk.new)) }
         ensures err { OnErr result (IsClosing self (D.view disk.old) → IsClosing self (D.view disk.new)) }
     {
         let Closing { work } = self;
@@ -158,7 +158,7 @@ impl Closing {
     pub fn idle_by<D: Disk>(self, _disk: &D) -> Idle
         requires calm { IsCalm (D.view _disk.now) }
         ensures ok { result ≡ self.place }
-        ensures idle { IsClosing self (D.view _disk.now) → IsClosed self (D.view _disk.now) }
+        ensures idle { IsClosing self (D.view _disk.now) → IsEnded self (D.view _disk.now) }
     {
         let Closing { work } = self;
         Idle::of(work.into_spot())

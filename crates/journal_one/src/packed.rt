@@ -1,7 +1,7 @@
 ghost use Rattle.std.specs.Prelude.{◌≡◌, ◌<◌, [], map, length, ◌++◌, IfOk, OnOk};
 ghost use Rattle.sfs_image.specs.Bytes.{u32_bytes, u32s_bytes};
 ghost use Rattle.std.specs.List.{flat_map};
-ghost use Rattle.journal_one.specs.Packed.{contents_of, entry_of, block_of, inode_of_entry, bytes_of_entry, AreContents};
+ghost use Rattle.journal_one.specs.Packed.{contents_of, record_entry, block_of, inode_of_entry, bytes_of_entry, AreContents};
 
 use fmt_journal::{Tx, TxBlock, TxRecord};
 use sfs_base::NoMemory;
@@ -78,7 +78,7 @@ impl Packed {
 
     // Its records, each for itself.
     pub(crate) fn entries(&self) -> &[TxRecord]
-        ensures { map entry_of result.now ≡ self.now.entries }
+        ensures { map record_entry result.now ≡ self.now.entries }
     {
         self.tx.records.as_slice()
     }

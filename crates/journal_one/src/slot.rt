@@ -19,8 +19,8 @@ ghost use Rattle.sfs_image.specs.Journal.{Entry};
 ghost use Rattle.sfs_image.specs.Super.{IsLayout};
 ghost use Rattle.journal_one.specs.Calls.{IsWrite, IsSync, IsCalm};
 ghost use Rattle.journal_one.specs.Job.{IsJob, LiesInData, gate_piece, fill_count, fill_piece, table_piece};
-ghost use Rattle.journal_one.specs.Work.{place_of, job_of};
-ghost use Rattle.journal_one.specs.Known.{IsFilling, IsFilled, IsSealed, IsOpened, IsDurable, IsPlaced, AreFilled};
+ghost use Rattle.journal_one.specs.Work.{spot_place, job_of};
+ghost use Rattle.journal_one.specs.Known.{IsFilling, IsFilled, IsSealed, IsOpened, IsDurable, AreAllPlaced, AreFilled};
 ghost use Rattle.journal_one.specs.Stage.{next_stage, left_to_fill, left_to_place};
 ghost use Rattle.journal_one.specs.Outcome.{FillsOn, PlacesOn};
 
@@ -45,9 +45,9 @@ impl Model for Idle {
 
     ghost Value = { Place };
 
-    ghost use Rattle.journal_one.specs.Work.{place_of};
+    ghost use Rattle.journal_one.specs.Work.{spot_place};
 
-    ghost view = { λ idle. place_of idle.spot };
+    ghost view = { λ idle. spot_place idle.spot };
 }
 
 /// A slot that is being filled behind its closed gate.
@@ -155,7 +155,7 @@ pub enum Put {
 impl Idle {
     // The slot that begins here.
     pub(crate) fn of(spot: Spot) -> Idle
-        ensures { result ≡ place_of spot }
+        ensures { result ≡ spot_place spot }
     {
         Idle { spot }
     }

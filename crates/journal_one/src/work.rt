@@ -44,7 +44,7 @@ pub(crate) struct Work {
 
 impl Spot {
     ghost use Rattle.sfs_image.specs.Super.{IsLayout as Fits};
-    ghost use Rattle.journal_one.specs.Work.{place_of};
+    ghost use Rattle.journal_one.specs.Work.{spot_place};
 
     /// A slot of a core.
     pub(crate) fn of(layout: &Layout, core: u32, slot: u32) -> Spot
@@ -71,7 +71,7 @@ impl Spot {
 
     /// The byte of the gate.
     pub(crate) fn gate(&self) -> u64
-        ensures at { result ≡ (gate_piece (place_of self.now) 0).at }
+        ensures at { result ≡ (gate_piece (spot_place self.now) 0).at }
         ensures within { result + 1 ≤ 4096 * self.now.layout.blocks }
     {
         self.at
@@ -79,13 +79,13 @@ impl Spot {
 }
 
 impl Work {
-    ghost use Rattle.journal_one.specs.Work.{place_of, job_of};
+    ghost use Rattle.journal_one.specs.Work.{spot_place, job_of};
 
     /// A commit of what is packed, under a commit stamp.
     pub(crate) fn new(spot: Spot, packed: Packed, stamp: u64) -> Work
         requires below { All (λ entry. entry.inode < spot.layout.inodes) packed.entries }
         requires in_data { All (LiesInData spot.layout) packed.fresh }
-        ensures { job_of result ≡ record { place = place_of spot; stamp = stamp; entries = packed.entries; fresh = packed.fresh } }
+        ensures { job_of result ≡ record { place = spot_place spot; stamp = stamp; entries = packed.entries; fresh = packed.fresh } }
     {
         let head = head_of(packed.count() as u32, stamp);
         Work {
@@ -98,7 +98,7 @@ impl Work {
 
     /// The slot, once the commit is over.
     pub(crate) fn into_spot(self) -> Spot
-        ensures { place_of result ≡ (job_of self).place }
+        ensures { spot_place result ≡ (job_of self).place }
     {
         self.spot
     }

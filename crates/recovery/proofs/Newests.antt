@@ -6,7 +6,7 @@ use Rattle.std.proofs.lemmas.Bool.{ltb-true, cases_order}
 use Rattle.std.proofs.lemmas.List.{map-append}
 use Rattle.std.proofs.lemmas.List.Folds.{find-append}
 use borrow.Author.Tests.{eqb-true}
-use Rattle.sfs_base.proofs.BasicNumbers.{none_below, zero_plus, not_same, le_itself}
+use Rattle.sfs_base.proofs.BasicNumbers.{none_below, zero_plus, not_same, le_itself, less_earlier, le_earlier}
 use Rattle.sfs_base.proofs.BasicTruth.{and_first, and_second, not_false}
 use Rattle.sfs_base.proofs.BasicOptions.{or_none}
 use Rattle.sfs_image.specs.Bytes.{part}
@@ -15,12 +15,12 @@ use Rattle.sfs_image.specs.Settled.{Body, Stamped, newer, record_in}
 use Rattle.sfs_image.proofs.BytesLaws.{false_from_fault}
 use Rattle.sfs_image.proofs.PiecesLaws.{first_of-None}
 use Rattle.block_map.proofs.Places.{range_more}
-use Rattle.recovery.specs.Settling.{with_record, with_body, entry_in, entries_in, AreSettled}
+use Rattle.recovery.specs.Settling.{with_record, with_body, packed_entry, packed_entries, AreSettled}
 use Rattle.recovery.specs.declared.newest.Newest.{Newest}
 
-more_entries : (numbers bytes : List ℕ) (n : ℕ) → entries_in numbers bytes (n + 1) ≡ entries_in numbers bytes n ++ entry_in numbers bytes n ∷ []
+more_entries : (numbers bytes : List ℕ) (n : ℕ) → packed_entries numbers bytes (n + 1) ≡ packed_entries numbers bytes n ++ packed_entry numbers bytes n ∷ []
 more_entries numbers bytes n =
-    ap (map (entry_in numbers bytes)) (range_more 0 n ∙ ap (λ m. range_with_len 0 n ++ m ∷ []) (zero_plus n)) ∙ map-append (entry_in numbers bytes) (range_with_len 0 n) (n ∷ [])
+    ap (map (packed_entry numbers bytes)) (range_more 0 n ∙ ap (λ m. range_with_len 0 n ++ m ∷ []) (zero_plus n)) ∙ map-append (packed_entry numbers bytes) (range_with_len 0 n) (n ∷ [])
 
 module _ (inodes : ℕ) (numbers : List ℕ) (sound : numbers_fault inodes numbers ≡ None) where
   next_there : (k : ℕ) → k < length numbers → is_next inodes numbers k ≡ true
@@ -50,13 +50,10 @@ module _ (inodes : ℕ) (numbers : List ℕ) (sound : numbers_fault inodes numbe
   number_above j zero less within = absurd (none_below less)
   number_above j (suc k) less within = elim (cases_order j k) [
     | inl same ↦ subst (λ i. slice_index numbers i < slice_index numbers (suc k)) (sym same) (one_more k within)
-    | inr (inl lt) ↦ further (number_above j k lt (earlier within)) (one_more k within)
+    | inr (inl lt) ↦ further (number_above j k lt (less_earlier within)) (one_more k within)
     | inr (inr gt) ↦ absurd (between less gt)
   ]
     where
-      earlier : {k n : ℕ} → suc k < n → k < n
-      earlier lt = omega arith
-
       further : {a b c : ℕ} → a < b → b < c → a < c
       further x y = omega arith
 
@@ -64,36 +61,33 @@ module _ (inodes : ℕ) (numbers : List ℕ) (sound : numbers_fault inodes numbe
       between x y = omega arith
 
   -- the first entries have none of a later number
-  none_before : (bytes : List ℕ) (i k n : ℕ) → n ≤ k → k < length numbers → slice_index numbers k ≡ i → find (λ (e : Entry). nat_eq e.inode i) (entries_in numbers bytes n) ≡ None
+  none_before : (bytes : List ℕ) (i k n : ℕ) → n ≤ k → k < length numbers → slice_index numbers k ≡ i → find (λ (e : Entry). nat_eq e.inode i) (packed_entries numbers bytes n) ≡ None
   none_before bytes i k zero le less is = refl
   none_before bytes i k (suc n) le less is =
-      ap (λ m. find (λ (e : Entry). nat_eq e.inode i) (entries_in numbers bytes m)) (sym (add-one n)) ∙ ap (find (λ (e : Entry). nat_eq e.inode i)) (more_entries numbers bytes n)
-      ∙ find-append (λ (e : Entry). nat_eq e.inode i) (entries_in numbers bytes n) (entry_in numbers bytes n ∷ [])
-      ∙ ap (λ o. option_or o (find (λ (e : Entry). nat_eq e.inode i) (entry_in numbers bytes n ∷ []))) (none_before bytes i k n (earlier le) less is)
-      ∙ ap (λ b. cond b (Some (entry_in numbers bytes n)) None) (not_same (slice_index numbers n) i (other (slice_index numbers n) i (slice_index numbers k) is (number_above n k le less)))
+      ap (λ m. find (λ (e : Entry). nat_eq e.inode i) (packed_entries numbers bytes m)) (sym (add-one n)) ∙ ap (find (λ (e : Entry). nat_eq e.inode i)) (more_entries numbers bytes n)
+      ∙ find-append (λ (e : Entry). nat_eq e.inode i) (packed_entries numbers bytes n) (packed_entry numbers bytes n ∷ [])
+      ∙ ap (λ o. option_or o (find (λ (e : Entry). nat_eq e.inode i) (packed_entry numbers bytes n ∷ []))) (none_before bytes i k n (le_earlier le) less is)
+      ∙ ap (λ b. cond b (Some (packed_entry numbers bytes n)) None) (not_same (slice_index numbers n) i (other (slice_index numbers n) i (slice_index numbers k) is (number_above n k le less)))
     where
-      earlier : {n k : ℕ} → suc n ≤ k → n ≤ k
-      earlier le = omega arith
-
       other : (a i b : ℕ) → b ≡ i → a < b → a ≢ i
       other a i b is lt same = omega arith
 
   -- one record more of a body
   pub record_more : (stamp : ℕ) (bytes : List ℕ) (best : ℕ → Option (Stamped (List ℕ))) (k : ℕ) → k < length numbers → (i : ℕ)
-      → with_record (slice_index numbers k) stamp (part (512 * k) 512 bytes) (with_body (record { stamp = stamp; entries = entries_in numbers bytes k }) best) i
-      ≡ with_body (record { stamp = stamp; entries = entries_in numbers bytes (k + 1) }) best i
+      → with_record (slice_index numbers k) stamp (part (512 * k) 512 bytes) (with_body (record { stamp = stamp; entries = packed_entries numbers bytes k }) best) i
+      ≡ with_body (record { stamp = stamp; entries = packed_entries numbers bytes (k + 1) }) best i
   record_more stamp bytes best k less i =
       elim (nat_eq (slice_index numbers k) i) as (λ b. nat_eq (slice_index numbers k) i ≡ b → cond b (newer (Some here) (newer (own before) (best i))) (newer (own before) (best i)) ≡ newer (own (option_or before (cond b (Some entry) None))) (best i)) [
         | true ↦ λ same. ap (λ o. newer (Some here) (newer (own o) (best i))) (none same) ∙ ap (λ o. newer (own (option_or o (Some entry))) (best i)) (sym (none same))
         | false ↦ λ other. ap (λ o. newer (own o) (best i)) (sym (or_none before))
       ] refl
-      ∙ ap (λ o. newer (own o) (best i)) (sym (ap (find test) (more_entries numbers bytes k) ∙ find-append test (entries_in numbers bytes k) (entry ∷ [])))
+      ∙ ap (λ o. newer (own o) (best i)) (sym (ap (find test) (more_entries numbers bytes k) ∙ find-append test (packed_entries numbers bytes k) (entry ∷ [])))
     where
       test : Entry → Bool
       test e = nat_eq e.inode i
 
       entry : Entry
-      entry = entry_in numbers bytes k
+      entry = packed_entry numbers bytes k
 
       here : Stamped (List ℕ)
       here = record { stamp = stamp; value = part (512 * k) 512 bytes }
@@ -102,7 +96,7 @@ module _ (inodes : ℕ) (numbers : List ℕ) (sound : numbers_fault inodes numbe
       own o = option_map (λ (e : Entry). record { stamp = stamp; value = e.bytes }) o
 
       before : Option Entry
-      before = find test (entries_in numbers bytes k)
+      before = find test (packed_entries numbers bytes k)
 
       none : nat_eq (slice_index numbers k) i ≡ true → before ≡ None
       none same = none_before bytes i k k (le_itself k) less (eqb-true _ _ same)

@@ -22,7 +22,7 @@ use Rattle.sfs_dev.specs.Disk.{Gives}
 use Rattle.recovery.specs.declared.journals.OpenSlot.{OpenSlot}
 use Rattle.recovery.specs.declared.fault.RecoverFault.{RecoverFault}
 use Rattle.recovery.specs.declared.fault.RecoverFault.TheVariants.{DiskFailed, BadSuper, BadJournal, BadImage, NoMemory}
-use Rattle.recovery.specs.Open.{is_open, IsOpenSlot, IsGoodSlot, IsGoodIfSome, HasSlot, FindsSlot, IsWrongSlot, IsSlotRefusal, IsBadJournal, IsJournalRefusal, AreOpen}
+use Rattle.recovery.specs.Open.{is_slot_open, IsOpenSlot, IsGoodSlot, IsGoodIfSome, HasSlot, FindsSlot, IsWrongSlot, IsSlotRefusal, IsBadJournal, IsJournalRefusal, AreOpen}
 
 -- the superblock that was read is the image's
 pub super_read : (size : ℕ) (image block : List ℕ) → length image ≡ 4096 * size → block ≡ part 0 4096 image → super_fault size block ≡ super_fault_of image
@@ -90,11 +90,11 @@ count_small inodes stamps head none = ltb-false inodes head.count (false_from_fa
 
 -- the bodies of open slots have the commit stamps of their heads
 body_stamps : (layout : Layout) (image : List ℕ) (ks : List ℕ) → map (λ (body : Body). body.stamp) (flat_map (λ k. open_body layout.inodes (journal_slot layout image k)) ks)
-    ≡ map (λ k. (head_of (part 0 4096 (journal_slot layout image k))).stamp) (filter (is_open layout image) ks)
+    ≡ map (λ k. (head_of (part 0 4096 (journal_slot layout image k))).stamp) (filter (is_slot_open layout image) ks)
 body_stamps layout image [] = refl
 body_stamps layout image (k ∷ ks) =
-    elim (is_open layout image k) as (λ b. map (λ (body : Body). body.stamp) (cond b (body_in layout.inodes (journal_slot layout image k) ∷ []) [] ++ flat_map (λ k. open_body layout.inodes (journal_slot layout image k)) ks)
-    ≡ map (λ k. (head_of (part 0 4096 (journal_slot layout image k))).stamp) (cond b (k ∷ filter (is_open layout image) ks) (filter (is_open layout image) ks))) [
+    elim (is_slot_open layout image k) as (λ b. map (λ (body : Body). body.stamp) (cond b (body_in layout.inodes (journal_slot layout image k) ∷ []) [] ++ flat_map (λ k. open_body layout.inodes (journal_slot layout image k)) ks)
+    ≡ map (λ k. (head_of (part 0 4096 (journal_slot layout image k))).stamp) (cond b (k ∷ filter (is_slot_open layout image) ks) (filter (is_slot_open layout image) ks))) [
       | true ↦ ap (λ (s : List ℕ). (head_of (part 0 4096 (journal_slot layout image k))).stamp ∷ s) (body_stamps layout image ks)
       | false ↦ body_stamps layout image ks
     ]
@@ -125,7 +125,7 @@ pub next_open : (layout : Layout) (image stamps : List ℕ) (k : ℕ) (found : L
     → FindsSlot layout image stamps k slot → AreOpen layout image (k + 1) (found ++ option_to_list slot)
 next_open layout image stamps k found slot are stamps_is finds = record {
   numbers = map-append (λ (one : OpenSlot). one.number) found (option_to_list slot) ∙ ap₂ (λ (a b : List ℕ). a ++ b) are.numbers (last slot finds)
-      ∙ sym (filter-append (is_open layout image) (range_with_len 0 k) (k ∷ [])) ∙ ap (filter (is_open layout image)) (sym (range_more 0 k ∙ ap (λ m. range_with_len 0 k ++ m ∷ []) (zero_plus k)));
+      ∙ sym (filter-append (is_slot_open layout image) (range_with_len 0 k) (k ∷ [])) ∙ ap (filter (is_slot_open layout image)) (sym (range_more 0 k ∙ ap (λ m. range_with_len 0 k ++ m ∷ []) (zero_plus k)));
   each = all_more found slot are.each finds;
   sound = λ j less. elim (cases j k less) [
     | inl lt ↦ are.sound j lt
@@ -140,7 +140,7 @@ next_open layout image stamps k found slot are stamps_is finds = record {
         beyond : (j k : ℕ) → j < k + 1 → k < j → ⊥
         beyond j k less gt = omega arith
 
-    last : (slot : Option OpenSlot) → FindsSlot layout image stamps k slot → map (λ (one : OpenSlot). one.number) (option_to_list slot) ≡ filter (is_open layout image) (k ∷ [])
+    last : (slot : Option OpenSlot) → FindsSlot layout image stamps k slot → map (λ (one : OpenSlot). one.number) (option_to_list slot) ≡ filter (is_slot_open layout image) (k ∷ [])
     last None shut = sym (ap (λ b. cond b (k ∷ []) []) shut)
     last (Some one) has = ap (λ n. n ∷ []) has.number ∙ sym (ap (λ b. cond b (k ∷ []) []) has.gate)
 

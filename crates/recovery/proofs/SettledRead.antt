@@ -1,6 +1,6 @@
 -- What reads of the open slots and of the inode table settle.
 use Rattle.std.proofs.Common.{◌≡◌, ℕ, zero, suc, ◌+◌, ◌*◌, ◌-◌, ◌/◌, ◌<◌, ◌≤◌, Bool, true, false, cond, List, [], ◌∷◌, ◌++◌, length, map, drop, Option, None, Some, slice_index, slice_index_or, refl, sym, ap, ap₂, subst, ◌∙◌, arith, get_or, drop-cons}
-use Rattle.sfs_base.proofs.BasicNumbers.{none_below}
+use Rattle.sfs_base.proofs.BasicNumbers.{none_below, less_lower}
 use Rattle.std.specs.List.{range_with_len, filter, flat_map, AllByRecursion}
 use Rattle.std.proofs.lemmas.List.FromFn.{length-range_with_len, get_or-range_with_len}
 use Rattle.std.proofs.Math.Seq.{drop-length}
@@ -14,9 +14,13 @@ use Rattle.sfs_image.proofs.FrameLaws.{part-part}
 use Rattle.sfs_image.proofs.LayoutLaws.{divided}
 use Rattle.recovery.specs.declared.journals.OpenSlot.{OpenSlot}
 use Rattle.recovery.specs.declared.newest.Newest.{Newest}
-use Rattle.recovery.specs.Open.{is_open, IsOpenSlot, IsGoodSlot, AreOpen}
-use Rattle.recovery.specs.Settling.{AreSettled, best_of, with_body, body_of, body_read, bodies_read, entry_in, entries_in, WereRead}
+use Rattle.recovery.specs.Open.{is_slot_open, IsOpenSlot, IsGoodSlot, AreOpen}
+use Rattle.recovery.specs.Settling.{AreSettled, best_of, with_body, packed_body, body_read, bodies_read, packed_entry, packed_entries, WereRead}
 use Rattle.recovery.specs.declared.settled.Journals.{Journals}
+
+-- a record lies within as many as there are
+record_within : (k n : ℕ) → k < n → 512 * k + 512 ≤ 512 * n
+record_within k n lt = omega arith
 
 -- where the records of a slot begin
 pub record RecordsLie (layout : Layout) (one : OpenSlot) (at : ℕ) : Type 0 where
@@ -45,7 +49,7 @@ records_within layout size one at count fits good lie count_is =
 
 -- the body that was read is the slot's
 pub body_same : (layout : Layout) (image bytes : List ℕ) (one : OpenSlot) (at : ℕ) → IsOpenSlot layout image one → IsGoodSlot layout one → RecordsLie layout one at
-    → bytes ≡ part at (512 * length one.numbers.items) image → body_of one.stamp one.numbers.items bytes ≡ body_read layout image one
+    → bytes ≡ part at (512 * length one.numbers.items) image → packed_body one.stamp one.numbers.items bytes ≡ body_read layout image one
 body_same layout image bytes one at slot good lie is = λ i. record {
   stamp = slot.stamp i;
   entries = (entries_same ∙ ap (λ (numbers : List ℕ). map (λ k. record { inode = slice_index numbers k; bytes = part (record_byte layout.inodes k) 512 (journal_slot layout image one.number) }) (range_with_len 0 (length numbers))) slot.numbers) i;
@@ -53,20 +57,17 @@ body_same layout image bytes one at slot good lie is = λ i. record {
   where
     piece : (k : ℕ) → k < length one.numbers.items → part (512 * k) 512 bytes ≡ part (record_byte layout.inodes k) 512 (journal_slot layout image one.number)
     piece k less =
-        ap (part (512 * k) 512) is ∙ part-part (512 * k) 512 at (512 * length one.numbers.items) image (inner k (length one.numbers.items) less)
+        ap (part (512 * k) 512) is ∙ part-part (512 * k) 512 at (512 * length one.numbers.items) image (record_within k (length one.numbers.items) less)
         ∙ ap (λ a. part a 512 image) (same_place at (slot_byte layout one.number) (1 + number_blocks layout.inodes) k (records_at layout one at lie))
         ∙ sym (part-part (record_byte layout.inodes k) 512 (slot_byte layout one.number) (4096 * slot_blocks layout.inodes) image (outer layout.inodes k (length one.numbers.items) less good.few))
       where
-        inner : (k n : ℕ) → k < n → 512 * k + 512 ≤ 512 * n
-        inner k n lt = omega arith
-
         same_place : (at a r k : ℕ) → at ≡ a + 4096 * r → at + 512 * k ≡ a + (4096 * r + 512 * k)
         same_place at a r k at_is = omega arith
 
         outer : (i k n : ℕ) → k < n → n ≤ i → 4096 * (1 + (i + 1023) / 1024) + 512 * k + 512 ≤ 4096 * (1 + (i + 1023) / 1024 + (i + 7) / 8)
         outer i k n lt few = omega arith
 
-    entries_same : entries_in one.numbers.items bytes (length one.numbers.items)
+    entries_same : packed_entries one.numbers.items bytes (length one.numbers.items)
         ≡ map (λ k. record { inode = slice_index one.numbers.items k; bytes = part (record_byte layout.inodes k) 512 (journal_slot layout image one.number) }) (range_with_len 0 (length one.numbers.items))
     entries_same = map_same _ _ 0 (range_with_len 0 (length one.numbers.items)) (λ k less.
         let there : get_or (range_with_len 0 (length one.numbers.items)) k 0 < length one.numbers.items = subst (λ j. j < length one.numbers.items) (sym (get_or-range_with_len 0 (length one.numbers.items) k 0 (within k less))) (in_range k (within k less)) in
@@ -87,13 +88,10 @@ table_settled layout image bytes kept stamp_count record_count stamps_are is cop
   stamp_count = stamp_count;
   record_count = record_count;
   stamps = λ i less. stamps_are i;
-  records = λ i less. copied i less ∙ ap (part (512 * i) 512) is ∙ part-part (512 * i) 512 (table_byte layout 0) (512 * layout.inodes) image (inner i layout.inodes less)
+  records = λ i less. copied i less ∙ ap (part (512 * i) 512) is ∙ part-part (512 * i) 512 (table_byte layout 0) (512 * layout.inodes) image (record_within i layout.inodes less)
       ∙ ap (λ a. part a 512 image) (place (table_start layout) i);
 }
   where
-    inner : (k n : ℕ) → k < n → 512 * k + 512 ≤ 512 * n
-    inner k n lt = omega arith
-
     place : (s i : ℕ) → 4096 * s + 512 * 0 + 512 * i ≡ 4096 * s + 512 * i
     place s i = omega arith
 
@@ -108,10 +106,7 @@ slot_settled layout image found left k one kept next is less are =
 one_of : (P : OpenSlot → Type 0) (found : List OpenSlot) (k : ℕ) (d : OpenSlot) → AllByRecursion P found → k < length found → P (slice_index_or found k d)
 one_of P [] k d all less = absurd (none_below less)
 one_of P (first ∷ found) zero d all less = all.0
-one_of P (first ∷ found) (suc k) d all less = one_of P found k d all.1 (lower less)
-  where
-    lower : {a b : ℕ} → suc a < suc b → a < b
-    lower lt = omega arith
+one_of P (first ∷ found) (suc k) d all less = one_of P found k d all.1 (less_lower less)
 
 -- each of those that were found has what all have
 pub found_has : (P : OpenSlot → Type 0) (found : List OpenSlot) (k : ℕ) (one : OpenSlot) → AllByRecursion P found → k < length found → one ≡ slice_index_or found k one → P one
@@ -125,11 +120,11 @@ bodies_are layout image found are = by_number found ∙ ap (map (λ k. body_in l
     by_number [] = refl
     by_number (one ∷ found) = ap (λ (rest : List Body). body_in layout.inodes (journal_slot layout image one.number) ∷ rest) (by_number found)
 
-    opened : (ks : List ℕ) → flat_map (λ k. open_body layout.inodes (journal_slot layout image k)) ks ≡ map (λ k. body_in layout.inodes (journal_slot layout image k)) (filter (is_open layout image) ks)
+    opened : (ks : List ℕ) → flat_map (λ k. open_body layout.inodes (journal_slot layout image k)) ks ≡ map (λ k. body_in layout.inodes (journal_slot layout image k)) (filter (is_slot_open layout image) ks)
     opened [] = refl
     opened (k ∷ ks) =
-        elim (is_open layout image k) as (λ b. cond b (body_in layout.inodes (journal_slot layout image k) ∷ []) [] ++ flat_map (λ k. open_body layout.inodes (journal_slot layout image k)) ks
-        ≡ map (λ k. body_in layout.inodes (journal_slot layout image k)) (cond b (k ∷ filter (is_open layout image) ks) (filter (is_open layout image) ks))) [
+        elim (is_slot_open layout image k) as (λ b. cond b (body_in layout.inodes (journal_slot layout image k) ∷ []) [] ++ flat_map (λ k. open_body layout.inodes (journal_slot layout image k)) ks
+        ≡ map (λ k. body_in layout.inodes (journal_slot layout image k)) (cond b (k ∷ filter (is_slot_open layout image) ks) (filter (is_slot_open layout image) ks))) [
           | true ↦ ap (λ (rest : List Body). body_in layout.inodes (journal_slot layout image k) ∷ rest) (opened ks)
           | false ↦ opened ks
         ]

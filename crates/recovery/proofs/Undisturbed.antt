@@ -6,16 +6,13 @@ use Rattle.sfs_base.proofs.BasicTruth.{false_not_true}
 use Rattle.sfs_base.specs.declared.fault.Failed.{Failed}
 use Rattle.sfs_dev.specs.Disk.{View, IsDeviceCall}
 use Rattle.sfs_dev.specs.Run.{Advances}
-use Rattle.sfs_dev.proofs.Runs.{GoesOn-refl, GoesOn-call, GoesOn-trans}
+use Rattle.sfs_dev.proofs.Runs.{GoesOn-refl, GoesOn-trans, call_advances}
 use Rattle.recovery.specs.Cause.{Ran, Undisturbed}
 
 pub undisturbed-refl : (disk : View) → Undisturbed disk disk
 undisturbed-refl disk = record { advances = GoesOn-refl disk; kept = refl }
 
 -- one call more
-pub call_advances : {V E : Type 0} (old new : View) (result : Result V E) → old.now < 2 ^ 64 → IsDeviceCall old new result → Advances old new
-call_advances old new result fits call = GoesOn-call old new fits call.time call.size call.cause.never_falls
-
 pub undisturbed-call : {V E : Type 0} (old mid new : View) (v : V) → mid.now < 2 ^ 64 → Undisturbed old mid → IsDeviceCall {V = V} {E = E} mid new (Ok v) → Undisturbed old new
 undisturbed-call old mid new v fits so_far call =
     record { advances = GoesOn-trans old mid new so_far.advances (call_advances mid new (Ok v) fits call); kept = call.cause.kept ∙ so_far.kept }

@@ -1,9 +1,9 @@
 -- Why a call of this crate fails.
-use Rattle.std.specs.Prelude.{◌≡◌, ℕ, Result, Ok, Err, List, Option, Some}
+use Rattle.std.specs.Prelude.{◌≡◌, ℕ, Bool, true, false, Result, Ok, Err}
 use Rattle.sfs_base.specs.Ends.{HasRisen, HasCause}
 use Rattle.sfs_base.specs.declared.fault.Failed.{Failed}
 use Rattle.sfs_dev.specs.Disk.{View}
-use Rattle.sfs_dev.specs.Run.{Advances, Unwritten}
+use Rattle.sfs_dev.specs.Run.{Advances}
 use Rattle.recovery.specs.declared.fault.MkfsFault.{MkfsFault}
 use Rattle.recovery.specs.declared.fault.MkfsFault.TheVariants as mkfs
 use Rattle.recovery.specs.declared.fault.RecoverFault.{RecoverFault}
@@ -15,20 +15,13 @@ HasMkfsCause before now (Err mkfs.DiskFailed) = HasRisen before now
 HasMkfsCause before now (Err mkfs.NoMemory) = now ≡ before
 HasMkfsCause before now (Ok done) = now ≡ before
 
--- the same of a recovery
-abbrev pub HasRecoverCause : {V : Type 0} → ℕ → ℕ → Result V RecoverFault → Type 0
-HasRecoverCause before now (Err DiskFailed) = HasRisen before now
-HasRecoverCause before now (Err (BadSuper at)) = now ≡ before
-HasRecoverCause before now (Err (BadJournal core slot at)) = now ≡ before
-HasRecoverCause before now (Err (BadImage inode rule)) = now ≡ before
-HasRecoverCause before now (Err NoMemory) = now ≡ before
-HasRecoverCause before now (Ok value) = now ≡ before
-
--- A run of reads: nothing is written, and a failure has its cause in the count of faults.
-pub record OnlyReads {V : Type 0} (old new : View) (result : Result V RecoverFault) : Type 0 where
-  pub advances : Advances old new
-  pub unwritten : Unwritten old new
-  pub cause : HasRecoverCause old.faults new.faults result
+-- whether a refusal of a recovery is that the disk failed
+abbrev pub is_recover_disk_fault : RecoverFault → Bool
+is_recover_disk_fault DiskFailed = true
+is_recover_disk_fault (BadSuper at) = false
+is_recover_disk_fault (BadJournal core slot at) = false
+is_recover_disk_fault (BadImage inode rule) = false
+is_recover_disk_fault NoMemory = false
 
 -- Some device calls in a row, of which the last one may have failed.
 pub record Ran {V : Type 0} (old new : View) (result : Result V Failed) : Type 0 where

@@ -10,8 +10,8 @@ use Rattle.recovery.specs.declared.fault.RecoverFault.{RecoverFault}
 use Rattle.recovery.specs.declared.fault.RecoverFault.TheVariants.{DiskFailed, BadSuper, BadJournal, BadImage, NoMemory}
 
 -- whether a slot's gate is open in an image
-abbrev pub is_open : Layout → List ℕ → ℕ → Bool
-is_open layout image k = (head_of (part 0 4096 (journal_slot layout image k))).gate
+abbrev pub is_slot_open : Layout → List ℕ → ℕ → Bool
+is_slot_open layout image k = (head_of (part 0 4096 (journal_slot layout image k))).gate
 
 -- What holds of an open slot that was read, whatever the disk tells: it is one of the disk's, and its inode numbers ascend below the
 -- number of inodes.
@@ -33,13 +33,13 @@ pub record IsOpenSlot (layout : Layout) (image : List ℕ) (one : OpenSlot) : Ty
 -- An open slot was found, in which nothing is wrong where those are the commit stamps of the open slots before it.
 pub record HasSlot (layout : Layout) (image : List ℕ) (stamps : List ℕ) (k : ℕ) (one : OpenSlot) : Type 0 where
   pub number : one.number ≡ k
-  pub gate : is_open layout image k ≡ true
+  pub gate : is_slot_open layout image k ≡ true
   pub slot : IsOpenSlot layout image one
   pub sound : journal_fault layout.inodes stamps (journal_slot layout image k) ≡ None
 
 -- what was found of a slot of an image: nothing where it is closed, and what is read of it where it is open
 abbrev pub FindsSlot : Layout → List ℕ → List ℕ → ℕ → Option OpenSlot → Type 0
-FindsSlot layout image stamps k None = is_open layout image k ≡ false
+FindsSlot layout image stamps k None = is_slot_open layout image k ≡ false
 FindsSlot layout image stamps k (Some one) = HasSlot layout image stamps k one
 
 -- A slot is wrong, where those are the commit stamps of the open slots before it.
@@ -58,7 +58,7 @@ IsSlotRefusal layout image stamps k NoMemory = Unit {0}
 
 -- These are the open slots among the first n of an image, by their numbers; no slot among the first n is wrong.
 pub record AreOpen (layout : Layout) (image : List ℕ) (n : ℕ) (found : List OpenSlot) : Type 0 where
-  pub numbers : map (λ (one : OpenSlot). one.number) found ≡ filter (is_open layout image) (range_with_len 0 n)
+  pub numbers : map (λ (one : OpenSlot). one.number) found ≡ filter (is_slot_open layout image) (range_with_len 0 n)
   pub each : AllByRecursion (IsOpenSlot layout image) found
   pub sound : (k : ℕ) → k < n → slot_fault_of layout image k ≡ None
 
@@ -86,9 +86,9 @@ IsBadJournal layout k at DiskFailed = ⊥
 IsBadJournal layout k at NoMemory = ⊥
 
 -- a refusal is of nothing that an image has: the disk failed, or memory is wanting
-abbrev pub IsPlain : RecoverFault → Type 0
-IsPlain (BadSuper at) = ⊥
-IsPlain (BadJournal core slot at) = ⊥
-IsPlain (BadImage inode rule) = ⊥
-IsPlain DiskFailed = Unit {0}
-IsPlain NoMemory = Unit {0}
+abbrev pub BlamesNoImage : RecoverFault → Type 0
+BlamesNoImage (BadSuper at) = ⊥
+BlamesNoImage (BadJournal core slot at) = ⊥
+BlamesNoImage (BadImage inode rule) = ⊥
+BlamesNoImage DiskFailed = Unit {0}
+BlamesNoImage NoMemory = Unit {0}

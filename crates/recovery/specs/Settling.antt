@@ -33,16 +33,16 @@ pub record AreSettled (inodes : ℕ) (table : ℕ → List ℕ) (best : ℕ → 
   pub records : (i : ℕ) → i < inodes → slice_index_or kept.records.items i [] ≡ unwrap_or (option_map (λ (s : Stamped (List ℕ)). s.value) (best i)) (table i)
 
 -- so many records of 512 bytes, one behind another, each with its inode number
-abbrev pub entry_in : List ℕ → List ℕ → ℕ → Entry
-entry_in numbers bytes k = record { inode = slice_index numbers k; bytes = part (512 * k) 512 bytes }
+abbrev pub packed_entry : List ℕ → List ℕ → ℕ → Entry
+packed_entry numbers bytes k = record { inode = slice_index numbers k; bytes = part (512 * k) 512 bytes }
 
 -- the first n of them
-abbrev pub entries_in : List ℕ → List ℕ → ℕ → List Entry
-entries_in numbers bytes n = map (entry_in numbers bytes) (range_with_len 0 n)
+abbrev pub packed_entries : List ℕ → List ℕ → ℕ → List Entry
+packed_entries numbers bytes n = map (packed_entry numbers bytes) (range_with_len 0 n)
 
 -- a body with them
-abbrev pub body_of : ℕ → List ℕ → List ℕ → Body
-body_of stamp numbers bytes = record { stamp = stamp; entries = entries_in numbers bytes (length numbers) }
+abbrev pub packed_body : ℕ → List ℕ → List ℕ → Body
+packed_body stamp numbers bytes = record { stamp = stamp; entries = packed_entries numbers bytes (length numbers) }
 
 -- whether a commit stamp is none or at most another
 abbrev pub is_older : Option ℕ → ℕ → Bool
@@ -78,10 +78,10 @@ pub record IsSettledOn (image : List ℕ) (read : SettledRecords) : Type 0 where
   pub records : (i : ℕ) → i < read.layout.inodes → slice_index_or read.records.items i [] ≡ settled read.layout image i
 
 -- what a refusal says of an image: the first fault of its superblock, or of its journals where that is sound
-abbrev pub IsReadRefusal : List ℕ → RecoverFault → Type 0
-IsReadRefusal image (BadSuper at) = super_fault_of image ≡ Some at
-IsReadRefusal image (BadJournal core slot at) =
+abbrev pub IsSettledRefusal : List ℕ → RecoverFault → Type 0
+IsSettledRefusal image (BadSuper at) = super_fault_of image ≡ Some at
+IsSettledRefusal image (BadJournal core slot at) =
     (super_fault_of image ≡ None) × (journal_fault_of (layout_of image) image ≡ Some (record { core = core; slot = slot; at = at }))
-IsReadRefusal image (BadImage inode rule) = ⊥
-IsReadRefusal image DiskFailed = Unit {0}
-IsReadRefusal image NoMemory = Unit {0}
+IsSettledRefusal image (BadImage inode rule) = ⊥
+IsSettledRefusal image DiskFailed = Unit {0}
+IsSettledRefusal image NoMemory = Unit {0}

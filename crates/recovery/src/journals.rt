@@ -7,8 +7,9 @@ ghost use Rattle.sfs_image.specs.Bytes.{part, u32s_at};
 ghost use Rattle.sfs_image.specs.Journal.{head_of};
 ghost use Rattle.sfs_image.specs.Settled.{journal_slot, slot_count, layout_of, super_fault_of};
 ghost use Rattle.sfs_image.specs.Super.{InRange, IsLayout};
-ghost use Rattle.recovery.specs.Cause.{OnlyReads};
-ghost use Rattle.recovery.specs.Open.{AreOpen, FindsSlot, IsGoodSlot, IsGoodIfSome, IsBadJournal, IsPlain, IsSuperRefusal, IsSlotRefusal, IsJournalRefusal};
+ghost use Rattle.sfs_dev.specs.Run.{OnlyReads};
+ghost use Rattle.recovery.specs.Cause.{is_recover_disk_fault};
+ghost use Rattle.recovery.specs.Open.{AreOpen, FindsSlot, IsGoodSlot, IsGoodIfSome, IsBadJournal, BlamesNoImage, IsSuperRefusal, IsSlotRefusal, IsJournalRefusal};
 
 use crate::fault::RecoverFault;
 use crate::places::{BLOCK, slot_byte, slot_count};
@@ -33,7 +34,7 @@ pub fn read_layout<D: Disk>(disk: &mut D) -> Result<Layout, RecoverFault>
     ensures fits { IfOk result (IsLayout (D.view disk.old).size) }
     ensures ok { IfTold (D.view disk.old).content (λ image. IfOk result (λ layout. (super_fault_of image ≡ None) × (layout ≡ layout_of image))) }
     ensures err { IfTold (D.view disk.old).content (λ image. IfErr result (IsSuperRefusal image)) }
-    ensures reads { OnlyReads (D.view disk.old) (D.view disk.new) result }
+    ensures reads { OnlyReads is_recover_disk_fault (D.view disk.old) (D.view disk.new) result }
 {
     if disk.len() == 0 {
         return Err(RecoverFault::BadSuper { at: 0 });
@@ -56,7 +57,7 @@ pub fn read_open<D: Disk>(
     ensures ok { IfTold (D.view disk.old).content (λ image. IfOk result (λ found. AreOpen layout.now image (slot_count layout.now) found.items)) }
     ensures good { IfOk result (λ found. AllByRecursion (IsGoodSlot layout.now) found.items) }
     ensures err { IfTold (D.view disk.old).content (λ image. IfErr result (IsJournalRefusal layout.now image)) }
-    ensures reads { OnlyReads (D.view disk.old) (D.view disk.new) result }
+    ensures reads { OnlyReads is_recover_disk_fault (D.view disk.old) (D.view disk.new) result }
 {
     let mut found = Vec::new(alloc);
     let mut stamps = Vec::new(alloc);
@@ -96,7 +97,7 @@ fn read_slot<D: Disk>(
     ensures ok { IfTold (D.view disk.old).content (λ image. IfOk result (FindsSlot layout.now image stamps.now number)) }
     ensures good { IfOk result (IsGoodIfSome layout.now) }
     ensures err { IfTold (D.view disk.old).content (λ image. IfErr result (IsSlotRefusal layout.now image stamps.now number)) }
-    ensures reads { OnlyReads (D.view disk.old) (D.view disk.new) result }
+    ensures reads { OnlyReads is_recover_disk_fault (D.view disk.old) (D.view disk.new) result }
 {
     let head = read_head(disk, layout, number)?;
     if !head.gate {
@@ -134,8 +135,8 @@ fn read_head<D: Disk>(disk: &mut D, layout: &Layout, number: u32) -> Result<Head
     requires layout { IsLayout (D.view disk.old).size layout.now }
     requires number { number < slot_count layout.now }
     ensures ok { IfTold (D.view disk.old).content (λ image. IfOk result (λ head. head ≡ head_of (part 0 4096 (journal_slot layout.now image number)))) }
-    ensures plain { IfErr result IsPlain }
-    ensures reads { OnlyReads (D.view disk.old) (D.view disk.new) result }
+    ensures plain { IfErr result BlamesNoImage }
+    ensures reads { OnlyReads is_recover_disk_fault (D.view disk.old) (D.view disk.new) result }
 {
     let mut block = [0u8; 4096];
     disk.read_at(slot_byte(layout, number), &mut block)?;
@@ -153,8 +154,8 @@ fn read_numbers<D: Disk>(
     requires few { count ≤ 16384 }
     ensures ok { IfTold (D.view disk.old).content (λ image. IfOk result (λ numbers. numbers.items ≡ u32s_at at count image)) }
     ensures count { IfOk result (λ numbers. vec_len numbers ≡ count) }
-    ensures plain { IfErr result IsPlain }
-    ensures reads { OnlyReads (D.view disk.old) (D.view disk.new) result }
+    ensures plain { IfErr result BlamesNoImage }
+    ensures reads { OnlyReads is_recover_disk_fault (D.view disk.old) (D.view disk.new) result }
 {
     let bytes = read_bytes(alloc, disk, at, 4 * count as usize)?;
     let mut numbers = vec![in alloc; 0u32; count as usize]?;
@@ -172,8 +173,8 @@ pub fn read_bytes<D: Disk>(
     requires within { at + count ≤ 4096 * (D.view disk.old).size }
     ensures ok { IfTold (D.view disk.old).content (λ image. IfOk result (λ bytes. bytes.items ≡ part at count image)) }
     ensures count { IfOk result (λ bytes. vec_len bytes ≡ count) }
-    ensures plain { IfErr result IsPlain }
-    ensures reads { OnlyReads (D.view disk.old) (D.view disk.new) result }
+    ensures plain { IfErr result BlamesNoImage }
+    ensures reads { OnlyReads is_recover_disk_fault (D.view disk.old) (D.view disk.new) result }
 {
     if count == 0 {
         return Ok(Vec::new(alloc));

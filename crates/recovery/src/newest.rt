@@ -2,7 +2,7 @@
 ghost use Rattle.std.specs.Prelude.{◌≡◌, ℕ, ◌*◌, ◌<◌, ◌≤◌, List, Option, None, length};
 ghost use Rattle.sfs_image.specs.Journal.{numbers_fault};
 ghost use Rattle.sfs_image.specs.Settled.{Stamped};
-ghost use Rattle.recovery.specs.Settling.{AreSettled, with_record, with_body, body_of, is_older};
+ghost use Rattle.recovery.specs.Settling.{AreSettled, with_record, with_body, packed_body, is_older};
 
 /// Of each inode its newest record so far, of 512 bytes, and the commit stamp under which a slot has
 /// it: none where it is the table's.
@@ -20,7 +20,7 @@ pub fn put_all(newest: &mut Newest, stamp: u64, numbers: &[u32], bytes: &[u8])
     requires numbers { numbers_fault (length newest.old.stamps.items) numbers.now ≡ None }
     requires bytes { length bytes.now ≡ 512 * length numbers.now }
     ensures settled { (table : ℕ → List ℕ) (best : ℕ → Option (Stamped (List ℕ))) → AreSettled (length newest.old.stamps.items) table best newest.old
-        → AreSettled (length newest.old.stamps.items) table (with_body (body_of stamp numbers.now bytes.now) best) newest.new }
+        → AreSettled (length newest.old.stamps.items) table (with_body (packed_body stamp numbers.now bytes.now) best) newest.new }
     ensures stamps { length newest.new.stamps.items ≡ length newest.old.stamps.items }
     ensures records { length newest.new.records.items ≡ length newest.old.records.items }
 {

@@ -4,9 +4,10 @@ ghost use Rattle.std.specs.List.{AllByRecursion};
 ghost use Rattle.sfs_dev.specs.Steps.{IfTold};
 ghost use Rattle.sfs_image.specs.Settled.{Stamped, table_record};
 ghost use Rattle.sfs_image.specs.Super.{IsLayout};
-ghost use Rattle.recovery.specs.Cause.{OnlyReads};
-ghost use Rattle.recovery.specs.Open.{IsGoodSlot, IsOpenSlot, IsPlain};
-ghost use Rattle.recovery.specs.Settling.{AreSettled, HaveCounts, best_of, with_body, body_read, bodies_read, IsSettledOn, IsReadRefusal, WereRead};
+ghost use Rattle.sfs_dev.specs.Run.{OnlyReads};
+ghost use Rattle.recovery.specs.Cause.{is_recover_disk_fault};
+ghost use Rattle.recovery.specs.Open.{IsGoodSlot, IsOpenSlot, BlamesNoImage};
+ghost use Rattle.recovery.specs.Settling.{AreSettled, HaveCounts, best_of, with_body, body_read, bodies_read, IsSettledOn, IsSettledRefusal, WereRead};
 
 use crate::fault::RecoverFault;
 use crate::journals::{OpenSlot, read_bytes, read_layout, read_open};
@@ -42,8 +43,8 @@ pub fn read_settled<D: Disk>(alloc: Global, disk: &mut D) -> Result<Settled, Rec
     ensures fits { IfOk result (λ settled. IsLayout (D.view disk.old).size settled.layout) }
     ensures count { IfOk result (λ settled. length settled.records.items ≡ settled.layout.inodes) }
     ensures ok { IfTold (D.view disk.old).content (λ image. IfOk result (IsSettledOn image)) }
-    ensures err { IfTold (D.view disk.old).content (λ image. IfErr result (IsReadRefusal image)) }
-    ensures reads { OnlyReads (D.view disk.old) (D.view disk.new) result }
+    ensures err { IfTold (D.view disk.old).content (λ image. IfErr result (IsSettledRefusal image)) }
+    ensures reads { OnlyReads is_recover_disk_fault (D.view disk.old) (D.view disk.new) result }
 {
     let journals = read_journals(alloc, disk)?;
     let layout = journals.layout;
@@ -60,8 +61,8 @@ pub fn read_journals<D: Disk>(alloc: Global, disk: &mut D) -> Result<Journals, R
     ensures good { IfOk result (λ read. AllByRecursion (IsGoodSlot read.layout) read.open.items) }
     ensures counts { IfOk result (λ read. HaveCounts read.layout.inodes read.newest) }
     ensures ok { IfTold (D.view disk.old).content (λ image. IfOk result (WereRead image)) }
-    ensures err { IfTold (D.view disk.old).content (λ image. IfErr result (IsReadRefusal image)) }
-    ensures reads { OnlyReads (D.view disk.old) (D.view disk.new) result }
+    ensures err { IfTold (D.view disk.old).content (λ image. IfErr result (IsSettledRefusal image)) }
+    ensures reads { OnlyReads is_recover_disk_fault (D.view disk.old) (D.view disk.new) result }
 {
     let layout = read_layout(disk)?;
     let open = read_open(alloc, disk, &layout)?;
@@ -79,8 +80,8 @@ fn read_table<D: Disk>(alloc: Global, disk: &mut D, layout: &Layout) -> Result<N
     requires layout { IsLayout (D.view disk.old).size layout.now }
     ensures counts { IfOk result (HaveCounts layout.now.inodes) }
     ensures ok { IfTold (D.view disk.old).content (λ image. IfOk result (AreSettled layout.now.inodes (table_record layout.now image) (λ _. None))) }
-    ensures plain { IfErr result IsPlain }
-    ensures reads { OnlyReads (D.view disk.old) (D.view disk.new) result }
+    ensures plain { IfErr result BlamesNoImage }
+    ensures reads { OnlyReads is_recover_disk_fault (D.view disk.old) (D.view disk.new) result }
 {
     let inodes = layout.inodes as usize;
     let bytes = read_bytes(alloc, disk, table_byte(layout), 512 * inodes)?;
@@ -120,8 +121,8 @@ fn settle<D: Disk>(
     ensures ok { IfTold (D.view disk.old).content (λ image. AllByRecursion (IsOpenSlot layout.now image) found.now
         → AreSettled layout.now.inodes (table_record layout.now image) (λ _. None) newest.old
         → OnOk result (AreSettled layout.now.inodes (table_record layout.now image) (best_of (bodies_read layout.now image found.now)) newest.new)) }
-    ensures plain { IfErr result IsPlain }
-    ensures reads { OnlyReads (D.view disk.old) (D.view disk.new) result }
+    ensures plain { IfErr result BlamesNoImage }
+    ensures reads { OnlyReads is_recover_disk_fault (D.view disk.old) (D.view disk.new) result }
 {
     let mut left = found.len();
     while left > 0 {
@@ -145,8 +146,8 @@ fn put_slot<D: Disk>(
     ensures counts { OnOk result (HaveCounts layout.now.inodes newest.new) }
     ensures ok { IfTold (D.view disk.old).content (λ image. IsOpenSlot layout.now image one.now → (table : ℕ → List ℕ) (best : ℕ → Option (Stamped (List ℕ)))
         → AreSettled layout.now.inodes table best newest.old → OnOk result (AreSettled layout.now.inodes table (with_body (body_read layout.now image one.now) best) newest.new)) }
-    ensures plain { IfErr result IsPlain }
-    ensures reads { OnlyReads (D.view disk.old) (D.view disk.new) result }
+    ensures plain { IfErr result BlamesNoImage }
+    ensures reads { OnlyReads is_recover_disk_fault (D.view disk.old) (D.view disk.new) result }
 {
     let place = record_place(layout.inodes, 0);
     let at = slot_byte(layout, one.number) + 4096 * u64::from(place.block) + u64::from(place.byte);

@@ -12,7 +12,7 @@ use Rattle.sfs_base.specs.Name.{name_fault, is_bad_byte}
 use Rattle.script.specs.declared.writing.arguments.TheConstants.{ESCAPED}
 use Rattle.script.specs.Paths.{is_text_byte, begins_with_digits, is_name_text, name_in}
 use Rattle.script.specs.Texts.{is_shown, byte_text, name_text}
-use Rattle.sfs_base.proofs.BasicTruth.{and_second, or_second}
+use Rattle.sfs_base.proofs.BasicTruth.{and_second, or_second, not_true}
 use Rattle.sfs_base.proofs.BasicTruth.{and_first}
 use Rattle.script.proofs.LineLemmas.{none_passes}
 use Rattle.script.proofs.TextLemmas.{tested, percent_encode-name_text}
@@ -26,10 +26,6 @@ all_digits = refl
 
 good_digit : (d : ℕ) → d < 16 → is_good_digit (digit_glyph true d) ≡ true
 good_digit d small = tested (λ d. is_good_digit (digit_glyph true d)) 0 16 d all_digits (omega arith) (omega arith)
-
-not_true : (b : Bool) → not b ≡ true → b ≡ false
-not_true true e = cc
-not_true false e = refl
 
 -- a byte of a text that may stand there whatever comes behind
 stands : (b : ℕ) (text : List ℕ) → is_text_byte b ≡ true → nat_eq b 37 ≡ false → is_name_text text ≡ true → is_name_text (b ∷ text) ≡ true

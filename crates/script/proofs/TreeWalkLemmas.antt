@@ -8,6 +8,7 @@ use Rattle.std.proofs.lemmas.List.Folds.{flat_map-map}
 use Rattle.std.specs.List.{AllByRecursion, flat_map, filter, fold, list_any, position_or_len}
 use Rattle.std.specs.Cmp.Lexicographic.{nat_list_cmp_total}
 use Rattle.std.specs.FinMap.{entries, entries_sorted, get-entries, len}
+use Rattle.sfs_base.proofs.BasicNumbers.{not_less}
 use Rattle.sfs_base.proofs.BasicOptions.{some_same}
 use Rattle.sfs_tree.specs.Tree.{TreeState, row_of, is_directory, names_of}
 use Rattle.sfs_tree.specs.Sound.{Above, at_root, below, IsSound}
@@ -19,7 +20,7 @@ use Rattle.sfs_tree.proofs.Walks.{fewer_above}
 use Rattle.script.specs.declared.writing.tree.Unmet.{Unmet}
 use Rattle.script.specs.Texts.{name_text}
 use Rattle.script.specs.TreeTexts.{names_text, path_text, directory_text, file_text, group_in, met_text, tree_text}
-use Rattle.script.specs.TreeWalk.{Item, IsGroupIn, line_text, child_item, child_items, items_from, still_to_meet, files_then, shown_path, IsReached, IsWalk, item_of, items_of}
+use Rattle.script.specs.TreeWalk.{Item, IsGroupIn, line_text, child_item, child_items, items_from, still_to_meet, files_then, shown_path, IsBelowRoot, IsWalk, item_of, items_of}
 
 group_is : (file group : ℕ) (files : List ℕ) → IsGroupIn files file group → group_in files file ≡ group
 group_is file group files at =
@@ -189,10 +190,7 @@ module _ (tree : TreeState) (sound : IsSound tree) where
   no_rows : (rows : List (List ℕ × ℕ)) (node : ℕ) (above : List ℕ) → Above tree node above → is_directory tree node ≡ true → len tree.rows ≤ length above
       → AllByRecursion (λ (row : List ℕ × ℕ). row_of tree node row.0 ≡ Some row.1) rows → rows ≡ []
   no_rows [] node above way kind deep all = refl
-  no_rows (row ∷ rows) node above way kind deep all = absurd (contradicts (fewer_above tree sound row.0 row.1 way kind all.0) deep)
-    where
-      contradicts : {a n : ℕ} → a < n → n ≤ a → ⊥
-      contradicts lt le = omega arith
+  no_rows (row ∷ rows) node above way kind deep all = absurd (not_less (fewer_above tree sound row.0 row.1 way kind all.0) deep)
 
   childless : (item : Item) → IsDeep 0 item → child_items tree item ≡ []
   childless item deep =
@@ -232,38 +230,38 @@ module _ (tree : TreeState) (sound : IsSound tree) where
   unfolds_by zero item deep = ap (λ children. item ∷ flat_map (items_from zero tree) children) (sym (childless item deep))
   unfolds_by (suc steps) item deep = ap (λ t. item ∷ t) (sym (more_of_each steps (child_items tree item) (deep_children steps item deep)))
 
-  deep_at_all : (item : Item) → IsReached tree item → IsDeep (len tree.rows) item
+  deep_at_all : (item : Item) → IsBelowRoot tree item → IsDeep (len tree.rows) item
   deep_at_all item reached kind = let r = reached kind in (r.0, r.1, at_most (len tree.rows) (length r.0))
     where
       at_most : (n a : ℕ) → n ≤ n + a
       at_most n a = omega arith
 
   -- once a node was met its children are to be met, and then the others
-  next_met : (item : Item) (items : List Item) → IsReached tree item → still_to_meet tree (item ∷ items) ≡ item ∷ still_to_meet tree (child_items tree item ++ items)
+  next_met : (item : Item) (items : List Item) → IsBelowRoot tree item → still_to_meet tree (item ∷ items) ≡ item ∷ still_to_meet tree (child_items tree item ++ items)
   next_met item items reached =
       ap (λ t. t ++ still_to_meet tree items) (unfolds_by (len tree.rows) item (deep_at_all item reached))
       ∙ ap (λ t. item ∷ t) (sym (flat_map-append (items_from (len tree.rows) tree) (child_items tree item) items))
 
-  reached_children : (item : Item) → IsReached tree item → AllByRecursion (IsReached tree) (child_items tree item)
+  reached_children : (item : Item) → IsBelowRoot tree item → AllByRecursion (IsBelowRoot tree) (child_items tree item)
   reached_children item reached =
-      elim (is_directory tree item.node) as (λ b. is_directory tree item.node ≡ b → AllByRecursion (IsReached tree) (map (child_item item) (cond b (entries (names_of item.node tree.rows)) []))) [
+      elim (is_directory tree item.node) as (λ b. is_directory tree item.node ≡ b → AllByRecursion (IsBelowRoot tree) (map (child_item item) (cond b (entries (names_of item.node tree.rows)) []))) [
         | true ↦ λ kind.
             let r = reached kind in
-            mapped (entries (names_of item.node tree.rows)) (each_row (λ row. IsReached tree (child_item item row)) item.node (λ name child row child_kind.
+            mapped (entries (names_of item.node tree.rows)) (each_row (λ row. IsBelowRoot tree (child_item item row)) item.node (λ name child row child_kind.
             (item.node ∷ r.0, below child item.node name r.0 row r.1)))
         | false ↦ λ kind. tt
       ] refl
     where
-      mapped : (rows : List (List ℕ × ℕ)) → AllByRecursion (λ row. IsReached tree (child_item item row)) rows → AllByRecursion (IsReached tree) (map (child_item item) rows)
+      mapped : (rows : List (List ℕ × ℕ)) → AllByRecursion (λ row. IsBelowRoot tree (child_item item row)) rows → AllByRecursion (IsBelowRoot tree) (map (child_item item) rows)
       mapped [] all = tt
       mapped (row ∷ rows) all = (all.0, mapped rows all.1)
 
-  all_append : (first more : List Item) → AllByRecursion (IsReached tree) first → AllByRecursion (IsReached tree) more → AllByRecursion (IsReached tree) (first ++ more)
+  all_append : (first more : List Item) → AllByRecursion (IsBelowRoot tree) first → AllByRecursion (IsBelowRoot tree) more → AllByRecursion (IsBelowRoot tree) (first ++ more)
   all_append [] more all others = others
   all_append (item ∷ first) more all others = (all.0, all_append first more all.1 others)
 
   -- fewer nodes are to be met then
-  pub fewer_to_meet : (item : Item) (items : List Item) → IsReached tree item → length (still_to_meet tree (child_items tree item ++ items)) < length (still_to_meet tree (item ∷ items))
+  pub fewer_to_meet : (item : Item) (items : List Item) → IsBelowRoot tree item → length (still_to_meet tree (child_items tree item ++ items)) < length (still_to_meet tree (item ∷ items))
   fewer_to_meet item items reached = subst (λ n. length (still_to_meet tree (child_items tree item ++ items)) < n) (sym (ap length (next_met item items reached))) (omega arith)
 
   -- a directory is met: its line is written, and its children are to be met

@@ -54,15 +54,15 @@ pub record IsGroupIn (files : List ℕ) (file group : ℕ) : Type 0 where
   pub within : group < length files
 
 -- a node is a file, or a directory that lies below the root
-abbrev pub IsReached : TreeState → Item → Type 0
-IsReached tree item = is_directory tree item.node ≡ true → (above : List ℕ) × Above tree item.node above
+abbrev pub IsBelowRoot : TreeState → Item → Type 0
+IsBelowRoot tree item = is_directory tree item.node ≡ true → (above : List ℕ) × Above tree item.node above
 
 -- Where a walk stands: what it wrote and the lines of what is still to meet are the tree's text, and the files of both are those of
 -- the tree.
 pub record IsWalk (tree : TreeState) (text : List ℕ) (files : List ℕ) (items : List Item) : Type 0 where
   pub written : text ++ flat_map (line_text tree (files_met tree)) (still_to_meet tree items) ≡ tree_text tree
   pub found : files_then tree files (still_to_meet tree items) ≡ files_met tree
-  pub reached : AllByRecursion (IsReached tree) items
+  pub reached : AllByRecursion (IsBelowRoot tree) items
 
 -- a node of the walk as an item
 abbrev pub item_of : Unmet → Item

@@ -1,5 +1,5 @@
 -- Numbers and tests on them.
-use Rattle.std.proofs.Common.{◌≡◌, ◌≢◌, ℕ, suc, ◌+◌, ◌<◌, ◌≤◌, true, false, nat_eq, nat_lt, refl, ap, arith}
+use Rattle.std.proofs.Common.{◌≡◌, ◌≢◌, ℕ, suc, ◌+◌, ◌-◌, ◌<◌, ◌≤◌, true, false, nat_eq, nat_lt, refl, ap, arith}
 use Rattle.std.proofs.lemmas.Bool.{eq-eqb}
 use Rattle.std.proofs.lemmas.Bool.Decides.{nat_tests}
 
@@ -20,6 +20,18 @@ plus_suc a b = omega arith
 
 pub suc_plus : (a b : ℕ) → suc a + b ≡ a + suc b
 suc_plus a b = omega arith
+
+pub suc_is_one_more : (n : ℕ) → suc n ≡ n + 1
+suc_is_one_more n = omega arith
+
+pub suc_moves : (a b : ℕ) → a + 1 + b ≡ a + suc b
+suc_moves a b = omega arith
+
+pub suc_joins : (a b : ℕ) → suc (a + b) ≡ suc a + b
+suc_joins a b = omega arith
+
+pub suc_again : (n : ℕ) → 0 < n → n ≡ suc (n - 1)
+suc_again n some = omega arith
 
 pub suc_same : {a b : ℕ} → a ≡ b → suc a ≡ suc b
 suc_same e = ap suc e
@@ -44,6 +56,12 @@ less_plus_suc k a c less = omega arith
 
 pub less_suc_plus : (a c n : ℕ) → n < a + suc c → n < suc a + c
 less_suc_plus a c n less = omega arith
+
+pub less_earlier : {a b : ℕ} → suc a < b → a < b
+less_earlier less = omega arith
+
+pub less_lower : {a b : ℕ} → suc a < suc b → a < b
+less_lower less = omega arith
 
 pub le_earlier : {a b : ℕ} → suc a ≤ b → a ≤ b
 le_earlier le = omega arith

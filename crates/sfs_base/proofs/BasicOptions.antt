@@ -1,5 +1,5 @@
 -- Options and results.
-use Rattle.std.proofs.Common.{◌≡◌, ℕ, true, false, Option, Some, None, is_some, IsSome, Result, Ok, Err, OnErr, refl}
+use Rattle.std.proofs.Common.{◌≡◌, ℕ, true, false, Option, Some, None, is_some, IsSome, Result, Ok, Err, OnErr, OnOk, refl}
 use Rattle.std.specs.Option.{option_or}
 
 pub none_some : {X : Type 0} {x : X} → ◌≡◌ {A = Option X} None (Some x) → ⊥
@@ -39,3 +39,7 @@ or_none None = refl
 pub on_err : {A E : Type 0} {X : Type 0} (r : Result A E) → X → OnErr r X
 on_err (Ok a) x = tt
 on_err (Err e) x = x
+
+pub on_ok : {A E : Type 0} {X : Type 0} (r : Result A E) → X → OnOk r X
+on_ok (Ok a) holds = holds
+on_ok (Err e) holds = tt

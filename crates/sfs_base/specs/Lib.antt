@@ -1,5 +1,6 @@
 pub mod Ends
 pub mod Files
+pub mod Listed
 pub mod Lists
 pub mod Memory
 pub mod Name

@@ -1,7 +1,7 @@
 -- How runs of device calls follow one another.
-use Rattle.std.proofs.Common.{◌≡◌, ⊎_elim, ℕ, ◌^◌, ◌<◌, ◌≤◌, List, refl, ◌∙◌, subst, sym, arith}
+use Rattle.std.proofs.Common.{◌≡◌, ⊎_elim, ℕ, ◌^◌, ◌<◌, ◌≤◌, List, Result, refl, ◌∙◌, subst, sym, arith}
 use Rattle.std.proofs.lemmas.Bool.{cases_lt}
-use Rattle.sfs_dev.specs.Disk.{View, SameImages, Elapses, images}
+use Rattle.sfs_dev.specs.Disk.{View, SameImages, Elapses, IsDeviceCall, images}
 use Rattle.sfs_dev.specs.Run.{CountsOn, Advances, EachMoment, Unwritten}
 
 -- no device call
@@ -16,6 +16,10 @@ GoesOn-call old new fits time size faults = record {
   never_falls = faults;
   past = λ k image lt le. time.past k image (omega (arith, time.counted));
 }
+
+-- one device call, whatever it answers
+pub call_advances : {V E : Type 0} (old new : View) (result : Result V E) → old.now < 2 ^ 64 → IsDeviceCall old new result → Advances old new
+call_advances old new result fits call = GoesOn-call old new fits call.time call.size call.cause.never_falls
 
 -- one run after another
 pub GoesOn-trans : (old mid new : View) → Advances old mid → Advances mid new → Advances old new

@@ -181,8 +181,8 @@ module _ (layout : Layout) (opened : ℕ → Option Transaction) (parts : ℕ �
   }
 
 -- the table's record of an inode that a transaction gives, where it has those of all of them
-record_given_is : (layout : Layout) (one : Transaction) (image : List ℕ) (i : ℕ) (ours : Stamped Part) → HasRecordsOf layout one image →
-    part_given i (Some one) ≡ Some ours → table_record layout image i ≡ ours.value.raw
+record_given_is : (layout : Layout) (one : Transaction) (image : List ℕ) (i : ℕ) (ours : Stamped Part) → HasRecordsOf layout one image
+    → part_given i (Some one) ≡ Some ours → table_record layout image i ≡ ours.value.raw
 record_given_is layout one image i ours records gives =
     let found = given_from i one ours gives in
     let place : found.0.inode ≡ i = found.2 in
@@ -190,19 +190,19 @@ record_given_is layout one image i ours records gives =
     ∙ found_has (λ (inner : InodePart). table_record layout image inner.inode ≡ inner.part.raw) _ one.parts found.0 records found.1
     ∙ ap (λ (part : Part). part.raw) (sym found.3)
 
-pub gate_opens : (layout : Layout) (opened : ℕ → Option Transaction) (parts : ℕ → Part) (k : ℕ) (one : Transaction) (old new : List ℕ) →
-    IsImageOf layout opened parts old → OpensGate layout opened k one old new → IsImageOf layout (with_slot opened k (Some one)) parts new
+pub gate_opens : (layout : Layout) (opened : ℕ → Option Transaction) (parts : ℕ → Part) (k : ℕ) (one : Transaction) (old new : List ℕ)
+    → IsImageOf layout opened parts old → OpensGate layout opened k one old new → IsImageOf layout (with_slot opened k (Some one)) parts new
 gate_opens = opens_then
 
-pub gate_shuts : (layout : Layout) (opened : ℕ → Option Transaction) (parts : ℕ → Part) (k : ℕ) (old new : List ℕ) →
-    IsImageOf layout opened parts old → ShutsGate layout opened k old new → IsShutAfter layout opened parts k new
+pub gate_shuts : (layout : Layout) (opened : ℕ → Option Transaction) (parts : ℕ → Part) (k : ℕ) (old new : List ℕ)
+    → IsImageOf layout opened parts old → ShutsGate layout opened k old new → IsShutAfter layout opened parts k new
 gate_shuts layout opened parts k old new is shuts = record {
   stands = shut_then layout opened parts k old new is shuts;
   same = same_then layout opened parts k old new is shuts;
 }
 
-pub oldest_may_shut : (layout : Layout) (opened : ℕ → Option Transaction) (parts : ℕ → Part) (k : ℕ) (one : Transaction) (image : List ℕ) → k < slot_count layout →
-    opened k ≡ Some one → IsOldest layout opened k one → (IsFullTable layout opened parts image) ⊎ (HasRecordsOf layout one image) → MayShut layout opened k image
+pub oldest_may_shut : (layout : Layout) (opened : ℕ → Option Transaction) (parts : ℕ → Part) (k : ℕ) (one : Transaction) (image : List ℕ) → k < slot_count layout
+    → opened k ≡ Some one → IsOldest layout opened k one → (IsFullTable layout opened parts image) ⊎ (HasRecordsOf layout one image) → MayShut layout opened k image
 oldest_may_shut layout opened parts k one image within open_with oldest has = record {
   older = λ i j other ours h apart gives own.
       let giver = given_by i (opened j) other gives in
@@ -216,15 +216,15 @@ oldest_may_shut layout opened parts k one image within open_with oldest has = re
   ];
 }
 
-pub tables_stay_full : (layout : Layout) (opened : ℕ → Option Transaction) (parts : ℕ → Part) (k : ℕ) (old new : List ℕ) → IsImageOf layout opened parts old →
-    ShutsGate layout opened k old new → IsFullTable layout opened parts old → IsFullTable layout (with_slot opened k None) (with_opened layout opened parts) new
+pub tables_stay_full : (layout : Layout) (opened : ℕ → Option Transaction) (parts : ℕ → Part) (k : ℕ) (old new : List ℕ) → IsImageOf layout opened parts old
+    → ShutsGate layout opened k old new → IsFullTable layout opened parts old → IsFullTable layout (with_slot opened k None) (with_opened layout opened parts) new
 tables_stay_full layout opened parts k old new is shuts full i h =
     record_stays layout k old new shuts.within shuts.written i
     ∙ full i h
     ∙ ap (λ (part : Part). part.raw) (sym (same_then layout opened parts k old new is shuts i))
 
-pub newest_records_fill : (layout : Layout) (opened : ℕ → Option Transaction) (parts : ℕ → Part) (image : List ℕ) → IsImageOf layout opened parts image →
-    HasNewestRecords layout opened image → IsFullTable layout opened parts image
+pub newest_records_fill : (layout : Layout) (opened : ℕ → Option Transaction) (parts : ℕ → Part) (image : List ℕ) → IsImageOf layout opened parts image
+    → HasNewestRecords layout opened image → IsFullTable layout opened parts image
 newest_records_fill layout opened parts image is has i h = go (given layout opened i) refl
   where
     go : (o : Option Part) → given layout opened i ≡ o → table_record layout image i ≡ (unwrap_or o (parts i)).raw

@@ -32,8 +32,8 @@ record_given i one =
     ∙ sym (option_map-option_map (over (λ part. part.raw)) _ (find (λ own. eqb own.inode i) one.parts))
 
 -- what a slot shows of an inode is the record of the part that its transaction gives
-slot_shows : (inodes i : ℕ) (one : Option Transaction) (slot : List ℕ) → IsSlotOf inodes one slot →
-    IsOnce (record_in i) (open_body inodes slot) (option_map (over (λ part. part.raw)) (part_given i one))
+slot_shows : (inodes i : ℕ) (one : Option Transaction) (slot : List ℕ) → IsSlotOf inodes one slot
+    → IsOnce (record_in i) (open_body inodes slot) (option_map (over (λ part. part.raw)) (part_given i one))
 slot_shows inodes i None slot shut = subst (λ (those : List Body). IsOnce (record_in i) those None) (sym (cond-false (head_of (part 0 4096 slot)).gate _ _ shut)) nothing
 slot_shows inodes i (Some one) slot is =
     let body = body_in inodes slot in
@@ -56,8 +56,8 @@ module _ (layout : Layout) (opened : ℕ → Option Transaction) (image : List �
 
 -- among the bodies of slots there is none with a commit stamp that none of them has
 none_stamped : (stamp : ℕ) (at : ℕ → List Body) (a n : ℕ) →
-    ((j : ℕ) → a ≤ j → j < a + n → list_any (λ other. eqb other stamp) (map (λ body. body.stamp) (at j)) ≡ false) →
-    list_any (λ other. eqb other stamp) (map (λ body. body.stamp) (flat_map at (range_with_len a n))) ≡ false
+    ((j : ℕ) → a ≤ j → j < a + n → list_any (λ other. eqb other stamp) (map (λ body. body.stamp) (at j)) ≡ false)
+    → list_any (λ other. eqb other stamp) (map (λ body. body.stamp) (flat_map at (range_with_len a n))) ≡ false
 none_stamped stamp at a zero none = refl
 none_stamped stamp at a (suc n) none =
     ap (list_any (λ other. eqb other stamp)) (map-append (λ (body : Body). body.stamp) (at a) (flat_map at (range_with_len (a + 1) n)))
@@ -66,8 +66,8 @@ none_stamped stamp at a (suc n) none =
 
 -- a slot whose transaction has another commit stamp shows no body with this one
 other_stamp : (inodes stamp : ℕ) (one : Option Transaction) (slot : List ℕ) → IsSlotOf inodes one slot →
-    ((other : Transaction) → one ≡ Some other → other.stamp ≢ stamp) →
-    list_any (λ other. eqb other stamp) (map (λ body. body.stamp) (open_body inodes slot)) ≡ false
+    ((other : Transaction) → one ≡ Some other → other.stamp ≢ stamp)
+    → list_any (λ other. eqb other stamp) (map (λ body. body.stamp) (open_body inodes slot)) ≡ false
 other_stamp inodes stamp None slot shut differs =
     ap (λ (those : List Body). list_any (λ other. eqb other stamp) (map (λ body. body.stamp) those)) (cond-false (head_of (part 0 4096 slot)).gate _ _ shut)
 other_stamp inodes stamp (Some one) slot is differs =
@@ -116,8 +116,8 @@ module _ (layout : Layout) (opened : ℕ → Option Transaction) (parts : ℕ �
   journals_are_sound = first_of-from (slot_count layout) (slot_fault_of layout image) slot_is_sound
 
 -- An image that stands for parts is read as these.
-pub read_as : (layout : Layout) (opened : ℕ → Option Transaction) (parts : ℕ → Part) (image : List ℕ) → IsImageOf layout opened parts image →
-    IsReadAs layout opened parts image
+pub read_as : (layout : Layout) (opened : ℕ → Option Transaction) (parts : ℕ → Part) (image : List ℕ) → IsImageOf layout opened parts image
+    → IsReadAs layout opened parts image
 read_as layout opened parts image is = record {
   super = is.sound;
   journals = journals_are_sound layout opened parts image is;
@@ -125,9 +125,9 @@ read_as layout opened parts image is = record {
 }
 
 -- Where the entries of a transaction stand in a slot, under its commit stamp, its whole body is there.
-pub whole_body : (inodes : ℕ) (one : Transaction) (slot : List ℕ) → inodes ≤ 2 ^ 32 → (head_of (part 0 4096 slot)).stamp ≡ one.stamp →
-    AreEntries inodes (transaction_body one).entries → HasEntries inodes (transaction_body one).entries slot →
-    HasBody inodes one slot
+pub whole_body : (inodes : ℕ) (one : Transaction) (slot : List ℕ) → inodes ≤ 2 ^ 32 → (head_of (part 0 4096 slot)).stamp ≡ one.stamp
+    → AreEntries inodes (transaction_body one).entries → HasEntries inodes (transaction_body one).entries slot
+    → HasBody inodes one slot
 whole_body inodes one slot small stamp are has =
     let again = read_again inodes (transaction_body one).entries slot small are has in
     let entries = again.again in
@@ -135,8 +135,8 @@ whole_body inodes one slot small stamp are has =
 
 -- The parts of inodes that an open slot has may be any, where the slots are not looked at.
 pub parts_instead : (layout : Layout) (opened : ℕ → Option Transaction) (parts others : ℕ → Part) (image : List ℕ) →
-    ((i : ℕ) → i < layout.inodes → given layout opened i ≡ None → others i ≡ parts i) →
-    IsImageOf layout opened parts image → IsImageOf layout opened others image
+    ((i : ℕ) → i < layout.inodes → given layout opened i ≡ None → others i ≡ parts i)
+    → IsImageOf layout opened parts image → IsImageOf layout opened others image
 parts_instead layout opened parts others image same is = record {
   sound = is.sound;
   divided = is.divided;
@@ -155,14 +155,14 @@ parts_instead layout opened parts others image same is = record {
     with_same i h = unwrap_same (given layout opened i) (others i) (parts i) (same i h)
 
 -- Fresh blocks that turn a part of an image into a new one make the new one.
-pub fresh_make : (layout : Layout) (opened : ℕ → Option Transaction) (parts : ℕ → Part) (image : List ℕ) (i : ℕ) (fresh : List FreshBlock) (new : Part) →
-    IsImageOf layout opened parts image → i < layout.inodes → TurnsInto fresh (with_opened layout opened parts i) new → StandIn (image_block image) fresh →
-    IsGathered (image_block image) new
+pub fresh_make : (layout : Layout) (opened : ℕ → Option Transaction) (parts : ℕ → Part) (image : List ℕ) (i : ℕ) (fresh : List FreshBlock) (new : Part)
+    → IsImageOf layout opened parts image → i < layout.inodes → TurnsInto fresh (with_opened layout opened parts i) new → StandIn (image_block image) fresh
+    → IsGathered (image_block image) new
 fresh_make layout opened parts image i fresh new is below turns stand = turns (image_block image) stand (is.gathered i below)
 
 -- Where each slot may be that of a transaction, each is, of those whose gates are open.
-pub slots_by_gates : (layout : Layout) (may : ℕ → Option Transaction) (image : List ℕ) (k : ℕ) → MayBeSlotOf layout.inodes (may k) (journal_slot layout image k) →
-    IsSlotOf layout.inodes (opened_among layout may image k) (journal_slot layout image k)
+pub slots_by_gates : (layout : Layout) (may : ℕ → Option Transaction) (image : List ℕ) (k : ℕ) → MayBeSlotOf layout.inodes (may k) (journal_slot layout image k)
+    → IsSlotOf layout.inodes (opened_among layout may image k) (journal_slot layout image k)
 slots_by_gates layout may image k has = go (may k) has (head_of (part 0 4096 (journal_slot layout image k))).gate refl
   where
     go : (o : Option Transaction) → MayBeSlotOf layout.inodes o (journal_slot layout image k) → (gate : Bool) →

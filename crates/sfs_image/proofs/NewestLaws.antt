@@ -9,8 +9,8 @@ abbrev pub over : {A B : Type 0} → (A → B) → Stamped A → Stamped B
 over f one = record { stamp = one.stamp; value = f one.value }
 
 -- what is newer is so over other values
-newer_over : {A B : Type 0} (f : A → B) (one other : Option (Stamped A)) →
-    newer (option_map (over f) one) (option_map (over f) other) ≡ option_map (over f) (newer one other)
+newer_over : {A B : Type 0} (f : A → B) (one other : Option (Stamped A))
+    → newer (option_map (over f) one) (option_map (over f) other) ≡ option_map (over f) (newer one other)
 newer_over f None other = refl
 newer_over f (Some one) None = refl
 newer_over f (Some one) (Some other) =
@@ -22,8 +22,8 @@ newer_over f (Some one) (Some other) =
     ]
 
 -- the newest of values that a function makes is made of the newest
-pub newest_over : {A B X : Type 0} (f : A → B) (g : X → Option (Stamped A)) (xs : List X) →
-    newest (map (λ x. option_map (over f) (g x)) xs) ≡ option_map (over f) (newest (map g xs))
+pub newest_over : {A B X : Type 0} (f : A → B) (g : X → Option (Stamped A)) (xs : List X)
+    → newest (map (λ x. option_map (over f) (g x)) xs) ≡ option_map (over f) (newest (map g xs))
 newest_over f g [] = refl
 newest_over f g (x ∷ xs) = ap (newer (option_map (over f) (g x))) (newest_over f g xs) ∙ newer_over f (g x) (newest (map g xs))
 
@@ -34,8 +34,8 @@ pub data IsOnce {X A : Type 0} (shows : X → Option (Stamped A)) : List X → O
 
 -- the newest of what stands at numbers, some of which have nothing
 pub newest_of_pieces : {X A : Type 0} (shows : X → Option (Stamped A)) (at : ℕ → List X) (shown : ℕ → Option (Stamped A)) (a n : ℕ) →
-    ((k : ℕ) → a ≤ k → k < a + n → IsOnce shows (at k) (shown k)) →
-    newest (map shows (flat_map at (range_with_len a n))) ≡ newest (map shown (range_with_len a n))
+    ((k : ℕ) → a ≤ k → k < a + n → IsOnce shows (at k) (shown k))
+    → newest (map shows (flat_map at (range_with_len a n))) ≡ newest (map shown (range_with_len a n))
 newest_of_pieces {X = X} {A = A} shows at shown a zero are = refl
 newest_of_pieces {X = X} {A = A} shows at shown a (suc n) are =
     go (at a) (shown a) (are a (omega arith) (omega arith)) (newest_of_pieces shows at shown (a + 1) n (λ k low high. are k (omega arith) (omega arith)))
@@ -85,16 +85,16 @@ newest_none at a (suc n) is k low high =
     let both = newer_none (at a) (newest (map at (range_with_len (a + 1) n))) is in
     elim (cases_eq k a) [ inl here ↦ ap at here ∙ both.0 | inr other ↦ newest_none at (a + 1) n both.1 k (omega arith) (omega arith) ]
 
-pub none_newest : {A : Type 0} (at : ℕ → Option (Stamped A)) (a n : ℕ) → ((k : ℕ) → a ≤ k → k < a + n → at k ≡ None) →
-    newest (map at (range_with_len a n)) ≡ None
+pub none_newest : {A : Type 0} (at : ℕ → Option (Stamped A)) (a n : ℕ) → ((k : ℕ) → a ≤ k → k < a + n → at k ≡ None)
+    → newest (map at (range_with_len a n)) ≡ None
 none_newest {A = A} at a zero are = refl
 none_newest {A = A} at a (suc n) are =
     ap (λ (o : Option (Stamped A)). newer o (newest (map at (range_with_len (a + 1) n)))) (are a (omega arith) (omega arith))
     ∙ none_newest at (a + 1) n (λ k low high. are k (omega arith) (omega arith))
 
 -- where the same stands at each number the same is newest
-pub newest_same : {A : Type 0} (at other : ℕ → Option (Stamped A)) (a n : ℕ) → ((k : ℕ) → a ≤ k → k < a + n → at k ≡ other k) →
-    newest (map at (range_with_len a n)) ≡ newest (map other (range_with_len a n))
+pub newest_same : {A : Type 0} (at other : ℕ → Option (Stamped A)) (a n : ℕ) → ((k : ℕ) → a ≤ k → k < a + n → at k ≡ other k)
+    → newest (map at (range_with_len a n)) ≡ newest (map other (range_with_len a n))
 newest_same at other a zero same = refl
 newest_same at other a (suc n) same =
     let here = same a (omega arith) (omega arith) in
@@ -109,19 +109,19 @@ pub record IsGreatest {A : Type 0} (at : ℕ → Option (Stamped A)) (a n k : �
   pub others : (j : ℕ) (other : Stamped A) → a ≤ j → j < a + n → j ≢ k → at j ≡ Some other → other.stamp < s.stamp
 
 -- it is newer than anything that has a lesser stamp
-newer_first : {A : Type 0} (s : Stamped A) (rest : Option (Stamped A)) → ((other : Stamped A) → rest ≡ Some other → other.stamp < s.stamp) →
-    newer (Some s) rest ≡ Some s
+newer_first : {A : Type 0} (s : Stamped A) (rest : Option (Stamped A)) → ((other : Stamped A) → rest ≡ Some other → other.stamp < s.stamp)
+    → newer (Some s) rest ≡ Some s
 newer_first s None lesser = refl
 newer_first s (Some other) lesser = let h = lesser other refl in cond-false (ltb s.stamp other.stamp) _ _ (le-ltb s.stamp other.stamp (omega arith))
 
-newer_last : {A : Type 0} (s : Stamped A) (first : Option (Stamped A)) → ((other : Stamped A) → first ≡ Some other → other.stamp < s.stamp) →
-    newer first (Some s) ≡ Some s
+newer_last : {A : Type 0} (s : Stamped A) (first : Option (Stamped A)) → ((other : Stamped A) → first ≡ Some other → other.stamp < s.stamp)
+    → newer first (Some s) ≡ Some s
 newer_last s None lesser = refl
 newer_last s (Some other) lesser = let h = lesser other refl in cond-true (ltb other.stamp s.stamp) _ _ (lt-ltb other.stamp s.stamp h)
 
 -- what has the greatest stamp is newest
-pub newest_greatest : {A : Type 0} (at : ℕ → Option (Stamped A)) (a n k : ℕ) (s : Stamped A) → IsGreatest at a n k s →
-    newest (map at (range_with_len a n)) ≡ Some s
+pub newest_greatest : {A : Type 0} (at : ℕ → Option (Stamped A)) (a n k : ℕ) (s : Stamped A) → IsGreatest at a n k s
+    → newest (map at (range_with_len a n)) ≡ Some s
 newest_greatest {A = A} at a zero k s is = absurd (let l = is.low in let h = is.high in omega arith)
 newest_greatest {A = A} at a (suc n) k s is =
     elim (cases_eq k a) [

@@ -79,21 +79,21 @@ module _ (layout : Layout) (opened : ℕ → Option Transaction) (parts : ℕ �
           record { gate = to.gate ∙ was.gate; whole = whole_kept 1 layout.inodes (journal_slot layout old k) (journal_slot layout new k) slot (omega arith) one was.whole }
 
 -- A write to the data keeps what an image stands for.
-pub data_written : (layout : Layout) (opened : ℕ → Option Transaction) (parts : ℕ → Part) (old new : List ℕ) → IsImageOf layout opened parts old →
-    WritesData layout opened parts old new → IsImageOf layout opened parts new
+pub data_written : (layout : Layout) (opened : ℕ → Option Transaction) (parts : ℕ → Part) (old new : List ℕ) → IsImageOf layout opened parts old
+    → WritesData layout opened parts old new → IsImageOf layout opened parts new
 data_written layout opened parts old new is to = data_kept layout opened parts old new is to
 
 -- So does one to the record of an inode that an open slot has.
-pub table_written : (layout : Layout) (opened : ℕ → Option Transaction) (parts : ℕ → Part) (i : ℕ) (old new : List ℕ) → IsImageOf layout opened parts old →
-    WritesRecord layout opened i old new → IsImageOf layout opened parts new
+pub table_written : (layout : Layout) (opened : ℕ → Option Transaction) (parts : ℕ → Part) (i : ℕ) (old new : List ℕ) → IsImageOf layout opened parts old
+    → WritesRecord layout opened i old new → IsImageOf layout opened parts new
 table_written layout opened parts i old new is to = record_kept layout opened parts old new is i to
 
 -- So does one behind the gate of a closed slot.
-pub body_written : (layout : Layout) (opened : ℕ → Option Transaction) (parts : ℕ → Part) (k : ℕ) (old new : List ℕ) → IsImageOf layout opened parts old →
-    WritesBody layout opened k old new → IsImageOf layout opened parts new
+pub body_written : (layout : Layout) (opened : ℕ → Option Transaction) (parts : ℕ → Part) (k : ℕ) (old new : List ℕ) → IsImageOf layout opened parts old
+    → WritesBody layout opened k old new → IsImageOf layout opened parts new
 body_written layout opened parts k old new is to = behind_kept layout opened parts old new is k to
 
 -- So does one at a gate that leaves the gate what it was.
-pub gate_written : (layout : Layout) (opened : ℕ → Option Transaction) (parts : ℕ → Part) (k : ℕ) (old new : List ℕ) → IsImageOf layout opened parts old →
-    LeavesGate layout k old new → IsImageOf layout opened parts new
+pub gate_written : (layout : Layout) (opened : ℕ → Option Transaction) (parts : ℕ → Part) (k : ℕ) (old new : List ℕ) → IsImageOf layout opened parts old
+    → LeavesGate layout k old new → IsImageOf layout opened parts new
 gate_written layout opened parts k old new is to = gate_left layout opened parts old new is k to

@@ -10,7 +10,7 @@ use Rattle.sfs_tree.specs.declared.history.Entry.{Entry}
 use Rattle.sfs_tree.specs.Merged.{entries_in, has_stamp, entry_with, entries_from, by_stamps, EachOnce}
 use Rattle.sfs_tree.proofs.Joined.{count-cons}
 use Rattle.sfs_base.proofs.BasicOptions.{some_is}
-use Rattle.sfs_base.proofs.BasicNumbers.{one_is_more, none_left, one_left, suc_same, le_itself, less_plus, le_earlier, less_plus_suc, from_plus_zero, suc_plus, zero_plus, not_less}
+use Rattle.sfs_base.proofs.BasicNumbers.{one_is_more, none_left, one_left, suc_same, le_itself, less_plus, le_earlier, less_plus_suc, from_plus_zero, suc_plus, zero_plus, not_less, less_lower, suc_is_one_more}
 
 module _ (test : Entry → Bool) where
   -- what stands in a list and passes is counted
@@ -112,11 +112,8 @@ from_get es s (suc c) (suc i) there lt =
       | Some e ↦ λ some. refl
       | None ↦ λ some. cc
     ]) (there s (le_itself s) (less_plus s c))
-    ∙ from_get es (suc s) c i (λ k le less. there k (le_earlier le) (less_plus_suc k s c less)) (one_less lt)
+    ∙ from_get es (suc s) c i (λ k le less. there k (le_earlier le) (less_plus_suc k s c less)) (less_lower lt)
     ∙ ap (entry_with es) (suc_plus s i)
-  where
-    one_less : {a b : ℕ} → suc a < suc b → a < b
-    one_less lt = omega arith
 
 each_there : (es : List Entry) → EachOnce es → (k : ℕ) → 0 ≤ k → k < 0 + length es → IsSome (entry_with es k)
 each_there es each k le lt = one_found (has_stamp k) es (each.once k (no_more k (length es) lt))
@@ -155,10 +152,7 @@ find_here stamp part parts e found = find-append (has_stamp stamp) part.items (e
 
 module _ (stamp : ℕ) (parts : List (Vec Entry Global)) (i : ℕ) (part : Vec Entry Global) (lt : i < length parts) (is : part ≡ get_or parts i part) (before : entry_with (entries_in (drop i parts)) stamp ≡ entry_with (entries_in parts) stamp) where
   this_list : drop i parts ≡ part ∷ drop (i + 1) parts
-  this_list = drop-cons parts i part lt ∙ ap (λ x. x ∷ drop (suc i) parts) (sym is) ∙ ap (λ n. part ∷ drop n parts) (one_more i)
-    where
-      one_more : (n : ℕ) → suc n ≡ n + 1
-      one_more n = omega arith
+  this_list = drop-cons parts i part lt ∙ ap (λ x. x ∷ drop (suc i) parts) (sym is) ∙ ap (λ n. part ∷ drop n parts) (suc_is_one_more i)
 
   -- a list has the entry
   pub here_found : (e : Entry) → Some e ≡ find (has_stamp stamp) part.items → Some e ≡ entry_with (entries_in parts) stamp

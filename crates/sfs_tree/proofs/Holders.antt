@@ -23,7 +23,7 @@ use Rattle.sfs_tree.proofs.KeepsNodes.{directory_node, KeepKinds-new, KeepKinds-
 use Rattle.sfs_tree.proofs.Walks.{holder_is, walk_is}
 use Rattle.sfs_tree.proofs.OwnEffects.{of_one, of_child, of_what_it_does}
 use Rattle.sfs_tree.proofs.SoundTrees.{calls_keep_sound, calls_fit}
-use Rattle.sfs_base.proofs.BasicTruth.{not_both, and_false, or_true, or_false}
+use Rattle.sfs_base.proofs.BasicTruth.{not_both, and_false, or_true, or_false, and_true}
 
 -- a row of a directory that names a node
 abbrev Names : TreeState → ℕ → ℕ → Type 0
@@ -272,10 +272,6 @@ standing_is_alive tree node is =
       | false ↦ λ file. or_false (nat_eq node 0) ∙ not_root file ∙ sym (and_false (is_alive tree node))
     ] refl
   where
-    and_true : (b : Bool) → (b && true) ≡ b
-    and_true true = refl
-    and_true false = refl
-
     unnamed_alive : (IsNamed tree.rows node → ⊥) → (is_alive tree node && true) ≡ nat_eq node 0
     unnamed_alive none = elim (named_or_none tree.rows node) [
       | inl named ↦ absurd (none named)

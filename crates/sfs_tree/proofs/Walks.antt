@@ -10,8 +10,8 @@ use Rattle.sfs_tree.specs.Fits.{Lacks}
 use Rattle.sfs_tree.specs.Laws.{WalksMeetThoseAbove}
 use Rattle.sfs_tree.proofs.RowFacts.{holder_found}
 use Rattle.sfs_base.proofs.BasicOptions.{some_is}
-use Rattle.sfs_base.proofs.BasicNumbers.{suc_same, less_next, none_below}
-use Rattle.sfs_base.proofs.BasicTruth.{or_first, or_second}
+use Rattle.sfs_base.proofs.BasicNumbers.{suc_same, less_next, none_below, less_earlier}
+use Rattle.sfs_base.proofs.BasicTruth.{or_first, or_second, not_both}
 
 -- the steps of a function from a number on, up to where it has none
 abbrev pub Chain : (ℕ → Option ℕ) → ℕ → List ℕ → Type 0
@@ -42,13 +42,10 @@ no_loop f x n all y [] chain lt = (λ same. let e = all [] (subst (λ z. f z ≡
     not_less : {n : ℕ} → 0 ≡ n → 0 < n → ⊥
     not_less e lt = omega arith
 no_loop f x n all y (z ∷ l) chain lt =
-    (λ same. not_less (all (z ∷ l) (subst (λ w. Chain f w (z ∷ l)) same chain)) lt, no_loop f x n all z l chain.1 (less lt))
+    (λ same. not_less (all (z ∷ l) (subst (λ w. Chain f w (z ∷ l)) same chain)) lt, no_loop f x n all z l chain.1 (less_earlier lt))
   where
     not_less : {a n : ℕ} → suc a ≡ n → suc a < n → ⊥
     not_less e lt = omega arith
-
-    less : {a n : ℕ} → suc a < n → a < n
-    less lt = omega arith
 
 -- the directory of the first entry that names a node
 abbrev pub holder_in : List (Key × ℕ) → ℕ → Option ℕ
@@ -148,15 +145,9 @@ module _ (tree : TreeState) (s : IsSound tree) where
 
   -- those above are directories, so a node that is none is not among them
   lacks_other : {node : ℕ} {above : List ℕ} (other : ℕ) → Above tree node above → is_directory tree node ≡ true → is_directory tree other ≡ false → Lacks (node ∷ above) other
-  lacks_other other at_root kind none = (λ same. differ (subst (λ x. is_directory tree x ≡ true) same kind) none, tt)
-    where
-      differ : {b : Bool} → b ≡ true → b ≡ false → ⊥
-      differ is not_so = cc
+  lacks_other other at_root kind none = (λ same. not_both (subst (λ x. is_directory tree x ≡ true) same kind) none, tt)
   lacks_other other (below node holder name above row rest) kind none =
-      (λ same. differ (subst (λ x. is_directory tree x ≡ true) same kind) none, lacks_other other rest (s.holds holder name node row).0 none)
-    where
-      differ : {b : Bool} → b ≡ true → b ≡ false → ⊥
-      differ is not_so = cc
+      (λ same. not_both (subst (λ x. is_directory tree x ≡ true) same kind) none, lacks_other other rest (s.holds holder name node row).0 none)
 
   -- above a directory that has a row there are fewer than there are rows
   pub fewer_above : {node : ℕ} {above : List ℕ} (name : List ℕ) (child : ℕ) → Above tree node above → is_directory tree node ≡ true → row_of tree node name ≡ Some child

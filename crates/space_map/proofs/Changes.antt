@@ -11,7 +11,8 @@ use Rattle.space_map.specs.declared.status.Status.TheVariants.{Free, Taken, Gran
 use Rattle.space_map.specs.declared.status.Change.{Change}
 use Rattle.space_map.specs.declared.status.Change.TheVariants.{Become, Release}
 use Rattle.space_map.specs.Change.{changed}
-use Rattle.space_map.specs.Pool.{Pool, status_of, is_listed, Changes, BecomeAll, first_status}
+use Rattle.sfs_base.specs.Listed.{is_listed}
+use Rattle.space_map.specs.Pool.{Pool, status_of, Changes, BecomeAll, first_status}
 
 -- the element at another place than the one that is set
 pub slice_get-set_other : (statuses : List Status) (place other : ℕ) (status : Status) → other ≢ place → slice_get (set statuses place status) other ≡ slice_get statuses other

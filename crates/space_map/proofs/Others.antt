@@ -5,7 +5,8 @@ use Rattle.std.proofs.lemmas.List.Elements.{recursion_from_All}
 use Rattle.std.proofs.lemmas.Bool.{eqb-true}
 use Rattle.space_map.specs.declared.status.Status.{Status}
 use Rattle.space_map.specs.declared.status.Status.TheVariants.{Free, Taken, Granted}
-use Rattle.space_map.specs.Pool.{Pool, status_of, is_listed, released, BecomeAll, Grants}
+use Rattle.sfs_base.specs.Listed.{is_listed}
+use Rattle.space_map.specs.Pool.{Pool, status_of, released, BecomeAll, Grants}
 use Rattle.space_map.specs.Space.{AllGranted}
 use Rattle.space_map.specs.Laws.{EndsLeaveOthers, ReturnsLeaveOthers, GrantsAreApart}
 

@@ -1,7 +1,8 @@
 -- The laws of grants, each of which a function of the module laws proves.
 use Rattle.std.specs.Prelude.{◌≡◌, ℕ, true, false, List, Some}
 use Rattle.space_map.specs.declared.status.Status.TheVariants.{Free, Granted}
-use Rattle.space_map.specs.Pool.{Pool, status_of, is_listed, BecomeAll, Grants, Ends}
+use Rattle.sfs_base.specs.Listed.{is_listed}
+use Rattle.space_map.specs.Pool.{Pool, status_of, BecomeAll, Grants, Ends}
 
 -- The end of a grant leaves every other granted number granted, also one that is listed as freed.
 abbrev pub EndsLeaveOthers : Type 0

@@ -1,7 +1,7 @@
 -- A row of numbers, each free, taken or granted.
 use Rattle.std.specs.Prelude.{◌≡◌, ℕ, ◌+◌, ◌-◌, ◌==◌, nat_le, nat_lt, ◌&&◌, Bool, true, false, List, [], ◌∷◌, length, Option, Some, None, option_map, slice_get, count_by, All, if◌then◌else◌}
-use Rattle.std.specs.List.{list_any}
 use Rattle.std.specs.List.Sorted.{IsStrictlyIncreasing}
+use Rattle.sfs_base.specs.Listed.{is_listed}
 use Rattle.space_map.specs.declared.status.Status.{Status}
 use Rattle.space_map.specs.declared.status.Status.TheVariants.{Free, Taken, Granted}
 
@@ -32,10 +32,6 @@ free_from first (status ∷ statuses) = if is_free status then first ∷ free_fr
 -- the free numbers, ascending
 abbrev pub free_numbers : Pool → List ℕ
 free_numbers pool = free_from pool.first pool.statuses
-
--- the number is one of these
-abbrev pub is_listed : List ℕ → ℕ → Bool
-is_listed numbers number = list_any (λ listed. listed == number) numbers
 
 -- Each listed number of the row has its status changed so, and each other number keeps it.
 abbrev pub Changes : (Status → Status) → List ℕ → Pool → Pool → Type 0

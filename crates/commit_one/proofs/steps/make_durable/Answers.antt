@@ -2,6 +2,7 @@
 use Rattle.std.proofs.Common.{◌≡◌, Ok, Err, Result, arith, subst, sym, ◌∙◌}
 use Rattle.std.specs.Prelude.{OnOk}
 use Rattle.std.proofs.lemmas.Result.{err_from_is_err_and, on_ok_weaker}
+use Rattle.sfs_base.proofs.BasicOptions.{on_ok}
 use Rattle.sfs_dev.specs.Run.{Advances}
 use Rattle.sfs_dev.proofs.Runs.{GoesOn-trans}
 use Rattle.journal_one.specs.Calls.{IsWrite}
@@ -10,12 +11,8 @@ use Rattle.journal_one.specs.Known.{AreFilled, IsSealed, IsOpened, IsDurable}
 use Rattle.journal_one.proofs.Kept.{IsLawful}
 use Rattle.commit_one.specs.Carried.{Opens}
 use Rattle.commit_one.proofs.Gates.{seal_keeps, seal_later, gate_tells, gate_later, settle_tells, settle_later, settle_leaves, whole_from}
-use Rattle.commit_one.proofs.Moments.{call_advances}
+use Rattle.sfs_dev.proofs.Runs.{call_advances}
 use Rattle.commit_one.proofs.steps.make_durable.Goals as goal
-
-all_calls : {V E : Type 0} (result : Result V E) {P : Type 0} → P → OnOk result P
-all_calls (Ok value) holds = holds
-all_calls (Err fault) holds = tt
 
 pub returns-in_err-seal-clause-opens : goal.returns-in_err-seal-clause-opens
 returns-in_err-seal-clause-opens g c parts new is change knows leaves =
@@ -93,7 +90,7 @@ returns-clause-time g c =
     let lawful : IsLawful old = record { whole = laws.whole c.args.disk.now; read_is_left = laws.read_is_left c.args.disk.now } in
     record {
       most = λ counts. omega (arith, c.seal.ensures.sync.call.time.counted, c.open_gate.ensures.write.call.time.counted, c.settle.ensures.sync.call.time.counted, counts);
-      all = all_calls c.settle.result (λ counts. omega (arith, c.seal.ensures.sync.call.time.counted, c.open_gate.ensures.write.call.time.counted, c.settle.ensures.sync.call.time.counted, counts));
+      all = on_ok c.settle.result (λ counts. omega (arith, c.seal.ensures.sync.call.time.counted, c.open_gate.ensures.write.call.time.counted, c.settle.ensures.sync.call.time.counted, counts));
     }
 
 pub returns-clause-durable : goal.returns-clause-durable

@@ -2,20 +2,17 @@
 use Rattle.std.proofs.Common.{◌≡◌, Ok, Err, Result, arith, subst, sym, ◌∙◌}
 use Rattle.std.specs.Prelude.{OnOk}
 use Rattle.std.proofs.lemmas.Result.{err_from_is_err_and, on_ok_weaker}
+use Rattle.sfs_base.proofs.BasicOptions.{on_ok}
 use Rattle.sfs_dev.specs.Run.{Advances}
 use Rattle.sfs_dev.proofs.Runs.{GoesOn-trans}
 use Rattle.journal_one.specs.Calls.{IsWrite}
 use Rattle.journal_one.specs.Job.{Job, gate_piece}
-use Rattle.journal_one.specs.Known.{IsCopied, IsClosing, IsClosed}
+use Rattle.journal_one.specs.Known.{IsCopied, IsClosing, IsEnded}
 use Rattle.journal_one.proofs.Kept.{IsLawful}
 use Rattle.commit_one.specs.Carried.{Shuts}
 use Rattle.commit_one.proofs.Gates.{copy_keeps, copy_later, shut_tells, shut_later, finish_tells, finish_later, finish_leaves}
-use Rattle.commit_one.proofs.Moments.{call_advances}
+use Rattle.sfs_dev.proofs.Runs.{call_advances}
 use Rattle.commit_one.proofs.steps.shut.Goals as goal
-
-all_calls : {V E : Type 0} (result : Result V E) {P : Type 0} → P → OnOk result P
-all_calls (Ok value) holds = holds
-all_calls (Err fault) holds = tt
 
 pub returns-in_err-copy-clause-shuts : goal.returns-in_err-copy-clause-shuts
 returns-in_err-copy-clause-shuts g c parts new is change knows leaves =
@@ -92,7 +89,7 @@ returns-clause-time g c =
     let lawful : IsLawful old = record { whole = laws.whole c.args.disk.now; read_is_left = laws.read_is_left c.args.disk.now } in
     record {
       most = λ counts. omega (arith, c.copy.ensures.sync.call.time.counted, c.shut_gate.ensures.write.call.time.counted, c.finish.ensures.sync.call.time.counted, counts);
-      all = all_calls c.finish.result (λ counts. omega (arith, c.copy.ensures.sync.call.time.counted, c.shut_gate.ensures.write.call.time.counted, c.finish.ensures.sync.call.time.counted, counts));
+      all = on_ok c.finish.result (λ counts. omega (arith, c.copy.ensures.sync.call.time.counted, c.shut_gate.ensures.write.call.time.counted, c.finish.ensures.sync.call.time.counted, counts));
     }
 
 pub returns-clause-closed : goal.returns-clause-closed
@@ -110,7 +107,7 @@ returns-clause-closed g c =
     let same : c.in_ok-shut_gate.field-0 ≡ job = c.in_ok-shut_gate.ensures.ok ∙ c.in_ok-copy.ensures.ok in
     let closing : IsCopied job first → IsClosing job second =
     subst (λ (j : Job). IsCopied j first → IsClosing j second) c.in_ok-copy.ensures.ok c.in_ok-shut_gate.ensures.closing in
-    let closed : OnOk c.finish.result (IsClosing job second → IsClosed job now) = subst (λ (j : Job). OnOk c.finish.result (IsClosing j second → IsClosed j now)) same c.finish.ensures.closed in
+    let closed : OnOk c.finish.result (IsClosing job second → IsEnded job now) = subst (λ (j : Job). OnOk c.finish.result (IsClosing j second → IsEnded j now)) same c.finish.ensures.closed in
     on_ok_weaker c.finish.result (λ last knows. last (closing (c.in_ok-copy.ensures.copied knows))) closed
 
 pub returns-clause-shuts : goal.returns-clause-shuts
@@ -128,7 +125,7 @@ returns-clause-shuts g c parts new is change knows leaves =
     let same : c.in_ok-shut_gate.field-0 ≡ job = c.in_ok-shut_gate.ensures.ok ∙ c.in_ok-copy.ensures.ok in
     let closing : IsCopied job first → IsClosing job second =
     subst (λ (j : Job). IsCopied j first → IsClosing j second) c.in_ok-copy.ensures.ok c.in_ok-shut_gate.ensures.closing in
-    let closed : OnOk c.finish.result (IsClosing job second → IsClosed job now) = subst (λ (j : Job). OnOk c.finish.result (IsClosing j second → IsClosed j now)) same c.finish.ensures.closed in
+    let closed : OnOk c.finish.result (IsClosing job second → IsEnded job now) = subst (λ (j : Job). OnOk c.finish.result (IsClosing j second → IsEnded j now)) same c.finish.ensures.closed in
     let filled = c.in_ok-copy.ensures.copied knows in
     record {
       told = finish_tells job is parts new change old first c.copy.result c.copy.ensures.sync lawful leaves second c.shut_gate.result write (laws.now_fits c.copy.new.disk) filled now c.finish.result c.finish.ensures.sync (laws.now_fits c.shut_gate.new.disk) lawful_second;

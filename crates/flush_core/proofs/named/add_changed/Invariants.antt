@@ -1,7 +1,7 @@
 use Rattle.std.proofs.Common.{take}
 use Rattle.flush_core.specs.Engine.{OfSome, Joins}
-use Rattle.flush_core.specs.Named.{StandsIn}
+use Rattle.flush_core.specs.Named.{StandsInDirectory}
 use Rattle.flush_core.proofs.named.add_changed.Given as goal
 
 abbrev pub invariant-loop-change : goal.invariant-loop-change
-invariant-loop-change l = Joins (OfSome (take l.change-index l.changes) StandsIn) l.initial.directories l.directories
+invariant-loop-change l = Joins (OfSome (take l.change-index l.changes) StandsInDirectory) l.initial.directories l.directories

@@ -3,7 +3,7 @@ use Rattle.std.proofs.Common.{◌≡◌, ◌∙◌, ap}
 use Rattle.sfs_image.specs.Bytes.{part}
 use Rattle.recovery.proofs.OpenRead.{head_read, block_given}
 use Rattle.sfs_dev.proofs.Runs.{none_read}
-use Rattle.recovery.proofs.ReadRuns.{read_call, read_well}
+use Rattle.sfs_dev.proofs.ReadRuns.{read_call, read_well}
 use Rattle.recovery.proofs.journals.read_head.Goals as goal
 
 pub returns-clause-ok : goal.returns-clause-ok

@@ -1,9 +1,10 @@
 -- The superblock of a disk is judged by its bytes; a disk of no blocks has none.
-use Rattle.std.proofs.Common.{◌≡◌, ◌∙◌, ℕ, List, sym, ap}
+use Rattle.std.proofs.Common.{◌≡◌, ◌∙◌, ℕ, List, refl, sym, ap}
 use Rattle.sfs_image.specs.Super.{super_of, super_fault}
 use Rattle.recovery.proofs.OpenRead.{super_read, no_super, block_given}
 use Rattle.sfs_dev.proofs.Runs.{none_read}
-use Rattle.recovery.proofs.ReadRuns.{read_call, read_well, read_refused_super}
+use Rattle.sfs_dev.proofs.ReadRuns.{read_call, read_well, read_refused}
+use Rattle.recovery.specs.declared.fault.RecoverFault.TheVariants.{BadSuper}
 use Rattle.recovery.proofs.journals.read_layout.Goals as goal
 
 pub returns-then-len-eq0-clause-err : goal.returns-then-len-eq0-clause-err
@@ -39,4 +40,4 @@ returns-in-Err-clause-reads g c =
     let laws = g.met.D.Disk g.world.𝓛 g.world.𝓜 g.world.𝓡 ((λ s x. x), (λ x. x), (λ x. x), λ x. x) in
     let old = g.D.Disk.view c.args.disk.now in
     let new = g.D.Disk.view c.read_at.new.self in
-    read_refused_super old new c.in-Err.bad.at (read_call old old new _ (laws.now_fits c.args.disk.now) (none_read old) c.in_ok-read_at.ensures.content c.in_ok-read_at.ensures.images c.in_ok-read_at.ensures.call)
+    read_refused old new (BadSuper c.in-Err.bad.at) refl (read_call old old new _ (laws.now_fits c.args.disk.now) (none_read old) c.in_ok-read_at.ensures.content c.in_ok-read_at.ensures.images c.in_ok-read_at.ensures.call)

@@ -7,7 +7,8 @@ use Rattle.sfs_image.specs.Super.{IsLayout}
 use Rattle.recovery.specs.declared.journals.OpenSlot.{OpenSlot}
 use Rattle.recovery.specs.Open.{AreOpen, IsGoodSlot, IsJournalRefusal}
 use Rattle.recovery.proofs.OpenRead.{next_open, slots_refused, stamps_more, all_good}
-use Rattle.recovery.proofs.ReadRuns.{read_more, passed_on}
+use Rattle.sfs_dev.proofs.ReadRuns.{read_more}
+use Rattle.recovery.proofs.ReadRuns.{passed_on}
 use Rattle.recovery.proofs.journals.read_open.Goals as goal
 
 pub read_slot-requires-clause-layout : goal.read_slot-requires-clause-layout

@@ -1,9 +1,10 @@
 -- The slots are gone through from the last one on: what was put before comes behind.
 use Rattle.std.proofs.Common.{◌≡◌, ◌-◌, ◌<◌, ◌≤◌, ◌∙◌, ℕ, suc, length, refl, sym, arith}
+use Rattle.sfs_base.proofs.BasicNumbers.{suc_again}
 use Rattle.recovery.specs.Open.{IsOpenSlot, IsGoodSlot}
 use Rattle.recovery.specs.Settling.{best_of, bodies_read}
 use Rattle.sfs_dev.proofs.Runs.{none_read}
-use Rattle.recovery.proofs.ReadRuns.{read_more}
+use Rattle.sfs_dev.proofs.ReadRuns.{read_more}
 use Rattle.recovery.proofs.SettledRead.{slot_settled, none_settled, found_has}
 use Rattle.recovery.proofs.settled.settle.Goals as goal
 
@@ -18,7 +19,7 @@ loop-left-preserved g c =
       run = read_more old (g.D.Disk.view c.loop-left.disk) (g.D.Disk.view c.put_slot.new.disk) _ invariant.run c.in_ok-put_slot.ensures.reads;
       counts = c.in_ok-put_slot.ensures.counts;
       settled = λ image told slots begins.
-          slot_settled layout image c.args.found.now c.loop-left.left (c.loop-left.left - 1) c.index-found-left.result c.put_slot.new.newest (next c.loop-left.left c.loop-left-test.true) c.index-found-left.is less
+          slot_settled layout image c.args.found.now c.loop-left.left (c.loop-left.left - 1) c.index-found-left.result c.put_slot.new.newest (suc_again c.loop-left.left c.loop-left-test.true) c.index-found-left.is less
           (c.in_ok-put_slot.ensures.ok image (invariant.run.unwritten.content ∙ told) (found_has (IsOpenSlot layout image) c.args.found.now (c.loop-left.left - 1) c.index-found-left.result slots less c.index-found-left.is)
           _ _ (invariant.settled image told slots begins));
     }
@@ -28,6 +29,3 @@ loop-left-preserved g c =
 
     earlier : (n m : ℕ) → n ≤ m → n - 1 ≤ m
     earlier n m le = omega arith
-
-    next : (n : ℕ) → 0 < n → n ≡ suc (n - 1)
-    next n some = omega arith

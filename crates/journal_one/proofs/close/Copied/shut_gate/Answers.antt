@@ -5,7 +5,8 @@ use Rattle.journal_one.specs.declared.doubt.Doubt.{Doubt}
 use Rattle.journal_one.specs.Known.{IsBetween, IsClosing, IsCopied}
 use Rattle.journal_one.specs.Work.{job_of}
 use Rattle.journal_one.proofs.Kept.{IsLawful, written_touches, written_stands, write_ok}
-use Rattle.journal_one.proofs.Steps.{on_err, closing_then, shutting_doubted}
+use Rattle.sfs_base.proofs.BasicOptions.{on_err}
+use Rattle.journal_one.proofs.Steps.{closing_then, shutting_doubted}
 use Rattle.journal_one.proofs.close.Copied.shut_gate.Goals as goal
 
 pub returns-in_err-put_gate-clause-err : goal.returns-in_err-put_gate-clause-err
@@ -17,7 +18,7 @@ returns-in_err-put_gate-clause-err g c =
     let lawful : IsLawful old = record { whole = laws.whole c.args.disk.now; read_is_left = laws.read_is_left c.args.disk.now } in
     let large : job.place.layout.blocks ≤ old.size = subst (λ (j : Job). j.place.layout.blocks ≤ old.size) (sym c.self.view_is) c.requires.large in
     let touches = written_touches (gate_piece (job_of c.self.inside.work).place 0) old new (let w = c.put_gate.ensures.within in omega (arith, w, large)) lawful c.put_gate.result c.put_gate.ensures.write in
-    on_err c.from_residual.result _ (subst (λ (j : Job). IsCopied j old → IsBetween j new) c.self.view_is (shutting_doubted job c.self.inside.work.sound old new touches))
+    on_err c.from_residual.result (subst (λ (j : Job). IsCopied j old → IsBetween j new) c.self.view_is (shutting_doubted job c.self.inside.work.sound old new touches))
 
 pub returns-clause-write : goal.returns-clause-write
 returns-clause-write g c =

@@ -1,11 +1,12 @@
 -- What the three calls of a close do, at each exit.
 use Rattle.std.proofs.Common.{◌≡◌, refl, ap, subst}
 use Rattle.journal_one.specs.Job.{Job, gate_piece}
-use Rattle.journal_one.specs.Known.{IsPlaced, IsCopied, IsClosing, IsClosed, IsBetween}
+use Rattle.journal_one.specs.Known.{AreAllPlaced, IsCopied, IsClosing, IsEnded, IsBetween}
 use Rattle.journal_one.specs.Work.{job_of}
 use Rattle.journal_one.proofs.Kept.{IsLawful, synced_rests}
 use Rattle.journal_one.proofs.Spans.{Span, span_none, span_sync, span_write, span_tears}
-use Rattle.journal_one.proofs.Steps.{on_err, placed_between, closing_between, copied_then, closed_then}
+use Rattle.sfs_base.proofs.BasicOptions.{on_err}
+use Rattle.journal_one.proofs.Steps.{placed_between, closing_between, copied_then, closed_then}
 use Rattle.journal_one.proofs.close.Placed.close.Goals as goal
 
 pub returns-in_err-sync-clause-err : goal.returns-in_err-sync-clause-err
@@ -17,7 +18,7 @@ returns-in_err-sync-clause-err g c =
     let first = g.D.Disk.view c.sync.new.disk in
     let lawful : IsLawful old = record { whole = laws.whole c.args.disk.now; read_is_left = laws.read_is_left c.args.disk.now } in
     let placed = placed_between job c.self.inside.work.sound old first (synced_rests old first c.sync.result lawful c.sync.ensures.sync) in
-    on_err c.from_residual.result _ (subst (λ (j : Job). IsPlaced j old → IsBetween j first) c.self.view_is placed)
+    on_err c.from_residual.result (subst (λ (j : Job). AreAllPlaced j old → IsBetween j first) c.self.view_is placed)
 
 pub returns-in_err-work-clause-advances : goal.returns-in_err-work-clause-advances
 returns-in_err-work-clause-advances g c =
@@ -59,8 +60,8 @@ returns-in_err-work-clause-err g c =
     let rests = synced_rests old first c.sync.result lawful c.sync.ensures.sync in
     let second = g.D.Disk.view c.shut_gate.new.disk in
     let doubted : IsCopied job first → IsBetween job second = c.in_err-work.ensures.err in
-    let after : IsPlaced job old → IsBetween job second = λ knows. doubted (copied_then job c.self.inside.work.sound old first rests c.in_ok-sync.ensures.sync.ok knows) in
-    on_err c.from_residual-in_err-work.result _ (subst (λ (j : Job). IsPlaced j old → IsBetween j second) c.self.view_is after)
+    let after : AreAllPlaced job old → IsBetween job second = λ knows. doubted (copied_then job c.self.inside.work.sound old first rests c.in_ok-sync.ensures.sync.ok knows) in
+    on_err c.from_residual-in_err-work.result (subst (λ (j : Job). AreAllPlaced j old → IsBetween j second) c.self.view_is after)
 
 pub returns-in_err-sync-2-clause-advances : goal.returns-in_err-sync-2-clause-advances
 returns-in_err-sync-2-clause-advances g c =
@@ -111,8 +112,8 @@ returns-in_err-sync-2-clause-err g c =
     let new = g.D.Disk.view c.sync-2.new.disk in
     let last = synced_rests second new c.sync-2.result lawful_second c.sync-2.ensures.sync in
     let closing : IsCopied job first → IsClosing job second = c.in_ok-work.ensures.closing in
-    let shut : IsPlaced job old → IsClosing job second = λ knows. closing (copied_then job c.self.inside.work.sound old first rests c.in_ok-sync.ensures.sync.ok knows) in
-    on_err c.from_residual-in_err-sync-2.result _ (subst (λ (j : Job). IsPlaced j old → IsBetween j new) c.self.view_is (λ knows. closing_between job c.self.inside.work.sound second new last (shut knows)))
+    let shut : AreAllPlaced job old → IsClosing job second = λ knows. closing (copied_then job c.self.inside.work.sound old first rests c.in_ok-sync.ensures.sync.ok knows) in
+    on_err c.from_residual-in_err-sync-2.result (subst (λ (j : Job). AreAllPlaced j old → IsBetween j new) c.self.view_is (λ knows. closing_between job c.self.inside.work.sound second new last (shut knows)))
 
 pub returns-clause-advances : goal.returns-clause-advances
 returns-clause-advances g c =
@@ -163,5 +164,5 @@ returns-clause-closed g c =
     let new = g.D.Disk.view c.sync-2.new.disk in
     let last = synced_rests second new c.sync-2.result lawful_second c.sync-2.ensures.sync in
     let closing : IsCopied job first → IsClosing job second = c.in_ok-work.ensures.closing in
-    let shut : IsPlaced job old → IsClosing job second = λ knows. closing (copied_then job c.self.inside.work.sound old first rests c.in_ok-sync.ensures.sync.ok knows) in
-    subst (λ (j : Job). IsPlaced j old → IsClosed j new) c.self.view_is (λ knows. closed_then job c.self.inside.work.sound second new last c.in_ok-sync-2.ensures.sync.ok (shut knows))
+    let shut : AreAllPlaced job old → IsClosing job second = λ knows. closing (copied_then job c.self.inside.work.sound old first rests c.in_ok-sync.ensures.sync.ok knows) in
+    subst (λ (j : Job). AreAllPlaced j old → IsEnded j new) c.self.view_is (λ knows. closed_then job c.self.inside.work.sound second new last c.in_ok-sync-2.ensures.sync.ok (shut knows))

@@ -6,7 +6,8 @@ use Rattle.journal_one.specs.declared.doubt.Doubt.{Doubt}
 use Rattle.journal_one.specs.Known.{IsFilling}
 use Rattle.journal_one.specs.Work.{job_of}
 use Rattle.journal_one.proofs.Kept.{IsLawful, written_touches, written_stands, write_ok}
-use Rattle.journal_one.proofs.Steps.{on_err, filling_kept, filling_more}
+use Rattle.sfs_base.proofs.BasicOptions.{on_err}
+use Rattle.journal_one.proofs.Steps.{filling_kept, filling_more}
 use Rattle.journal_one.proofs.slot.Filling.put_next.Goals as goal
 
 pub returns-in_err-put_piece-clause-err : goal.returns-in_err-put_piece-clause-err
@@ -18,7 +19,7 @@ returns-in_err-put_piece-clause-err g c =
     let lawful : IsLawful old = record { whole = laws.whole c.args.disk.now; read_is_left = laws.read_is_left c.args.disk.now } in
     let large : job.place.layout.blocks ≤ old.size = subst (λ (s : Stage). s.job.place.layout.blocks ≤ old.size) (sym c.self.view_is) c.requires.large in
     let touches = written_touches (fill_piece (job_of c.self.inside.work) c.self.inside.done) old new (let w = c.put_piece.ensures.within in omega (arith, w, large)) lawful c.put_piece.result c.put_piece.ensures.write in
-    on_err c.from_residual.result _ (subst (λ (s : Stage). IsFilling s.job s.done old → IsFilling s.job s.done new) c.self.view_is (filling_kept job c.self.inside.work.sound c.self.inside.done old new touches c.self.invariant c.put_piece.ensures.whole))
+    on_err c.from_residual.result (subst (λ (s : Stage). IsFilling s.job s.done old → IsFilling s.job s.done new) c.self.view_is (filling_kept job c.self.inside.work.sound c.self.inside.done old new touches c.self.invariant c.put_piece.ensures.whole))
 
 pub returns-clause-write : goal.returns-clause-write
 returns-clause-write g c =

@@ -1,7 +1,8 @@
 use Rattle.std.proofs.Common.{subst}
 use Rattle.journal_one.specs.Job.{IsJob}
 use Rattle.journal_one.proofs.Kept.{IsLawful, synced_rests}
-use Rattle.journal_one.proofs.Steps.{on_err, durable_then, opened_rests}
+use Rattle.sfs_base.proofs.BasicOptions.{on_err}
+use Rattle.journal_one.proofs.Steps.{durable_then, opened_rests}
 use Rattle.journal_one.proofs.slot.Opened.settle.Goals as goal
 
 pub returns-in_err-sync-clause-err : goal.returns-in_err-sync-clause-err
@@ -11,7 +12,7 @@ returns-in_err-sync-clause-err g c =
     let old = g.D.Disk.view c.args.disk.now in
     let new = g.D.Disk.view c.sync.new.disk in
     let lawful : IsLawful old = record { whole = laws.whole c.args.disk.now; read_is_left = laws.read_is_left c.args.disk.now } in
-    on_err c.from_residual.result _ (opened_rests c.args.self sound old new (synced_rests old new c.sync.result lawful c.sync.ensures.sync))
+    on_err c.from_residual.result (opened_rests c.args.self sound old new (synced_rests old new c.sync.result lawful c.sync.ensures.sync))
 
 pub returns-clause-durable : goal.returns-clause-durable
 returns-clause-durable g c =

@@ -4,6 +4,7 @@ use Rattle.std.proofs.lemmas.Option.{slice_get_cases}
 use Rattle.std.proofs.Common.{slice_get, inl, inr}
 use Rattle.sfs_base.proofs.BasicOptions.{some_not_none}
 use Rattle.std.specs.FinMap.{entries, len-entries, len}
+use Rattle.sfs_base.proofs.BasicNumbers.{suc_again}
 use Rattle.sfs_tree.specs.Tree.{names_of}
 use Rattle.script.specs.Texts.{name_text}
 use Rattle.script.specs.TreeWalk.{item_of, items_of}
@@ -35,8 +36,5 @@ loop-left-preserved c =
       omega arith,
       child_put (entries rows) (item_of c.args.met.now) c.loop-left.left (c.loop-left.left - 1) (c.in-Some.row.now.name, c.in-Some.row.now.child.0) c.push.new.self.items c.loop-left.unmet.items
           (record { path = c.in_ok-child_path.field-0; node = c.in-Some.row.now.child })
-          (items_of c.args.unmet.now.items) at (next c.loop-left.left c.loop-left-test.true) c.in_ok-push.ensures.items (c.in_ok-child_path.ensures ∙ ap (λ (path : List ℕ). path ++ (codes "/" ++ name_text c.in-Some.row.now.name)) c.as_str.ensures.value) refl c.loop-left.invariant.1,
+          (items_of c.args.unmet.now.items) at (suc_again c.loop-left.left c.loop-left-test.true) c.in_ok-push.ensures.items (c.in_ok-child_path.ensures ∙ ap (λ (path : List ℕ). path ++ (codes "/" ++ name_text c.in-Some.row.now.name)) c.as_str.ensures.value) refl c.loop-left.invariant.1,
     )
-  where
-    next : (n : ℕ) → 0 < n → n ≡ suc (n - 1)
-    next n lt = omega arith
