@@ -8,7 +8,7 @@ use Rattle.std.proofs.lemmas.Bool.{cond-true, cond-false, cases_lt, cases_Bool, 
 use Rattle.std.proofs.lemmas.List.{append-nil, append_assoc, take_more}
 use Rattle.std.proofs.lemmas.Grind.{flat_map-append}
 use Rattle.std.proofs.lemmas.List.FromFn.{length-range_with_len, get_or-range_with_len}
-use Rattle.sfs_base.proofs.BasicTruth.{and_first, and_second, false_not_true}
+use Rattle.sfs_base.proofs.BasicTruth.{and_first, and_second, false_not_true, not_true}
 use Rattle.sfs_base.proofs.BasicNumbers.{zero_plus}
 use Rattle.std.proofs.lemmas.List.Elements.{Contains-append_left, Contains-append_right, Contains-append_cases}
 use Rattle.std.proofs.lemmas.List.Kept.{Contains-dedup_nat, Contains-from_dedup}
@@ -58,10 +58,6 @@ in_one f (x ∷ xs) block has = elim (Contains-append_cases (f x) (flat_map f xs
 
 abbrev pub ONE : ChangedBlock
 ONE = record { block = 0; is_zero = false }
-
-pub not_true : (b : Bool) → not b ≡ true → b ≡ false
-not_true true e = sym e
-not_true false e = refl
 
 module _ (inode : Inode) (tables : List Table) (changed : List ChangedBlock) (up : AscendByBlock changed) where
   abbrev pub rewrite : Rewrite

@@ -3,7 +3,7 @@ use Rattle.std.specs.Prelude.{ℕ, ◌==◌, ◌&&◌, Bool, List, ◌++◌, fil
 use Rattle.sfs_image.specs.Inode.{Inode, inode_bytes}
 use Rattle.fmt_journal.specs.declared.tx.TxRecord.{TxRecord}
 use Rattle.space_map.specs.Space.{GrantedNumbers}
-use Rattle.disk_change.specs.AllBuilt.{nodes_after}
+use Rattle.disk_change.specs.AllBuilt.{nodes_with_grant}
 use Rattle.disk_change.specs.Built.{Built}
 use Rattle.disk_change.specs.Lists.{ascending_by}
 use Rattle.disk_change.specs.Planned.{Planned}
@@ -44,10 +44,10 @@ abbrev pub written_of_gone : OldEntry → Option TxRecord
 written_of_gone entry = record_written (record_of_gone entry)
 
 -- a record of an inode and its bytes
-abbrev pub record_entry : ℕ × List ℕ → TxRecord
-record_entry entry = record { inode = entry.0; bytes = entry.1 }
+abbrev pub record_keyed : ℕ × List ℕ → TxRecord
+record_keyed entry = record { inode = entry.0; bytes = entry.1 }
 
 -- the records that a commit writes, ascending by inode
 abbrev pub records_written : Planned → GrantedNumbers → List TxRecord
 records_written change grant =
-    ascending_by record_inode (filter_map written_of_built (nodes_after change grant) ++ filter_map written_of_gone change.gone)
+    ascending_by record_inode (filter_map written_of_built (nodes_with_grant change grant) ++ filter_map written_of_gone change.gone)

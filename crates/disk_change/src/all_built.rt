@@ -7,7 +7,7 @@ ghost use Rattle.std.specs.List.{flat_map};
 ghost use Rattle.disk_change.specs.AllBuilt.{nodes_built as built_of_seats, built_by, fresh_of_node};
 ghost use Rattle.disk_change.specs.Built.{rewrite_in};
 ghost use Rattle.disk_change.specs.GivenUp.{IsLeftBySeat};
-ghost use Rattle.disk_change.specs.Planned.{blocks_of};
+ghost use Rattle.disk_change.specs.Planned.{blocks_taken};
 ghost use Rattle.disk_change.specs.Seated.{changes_in};
 ghost use Rattle.block_map.specs.Remap.{AreFreed};
 

@@ -3,7 +3,7 @@ ghost use Rattle.std.specs.Prelude.{◌≡◌, ◌≤◌, ◌++◌, IfOk, OnOk, 
 ghost use Rattle.sfs_image.specs.Inode.{IsFree};
 ghost use Rattle.fmt_journal.specs.Ascending.{AscendByInode};
 ghost use Rattle.disk_change.specs.Lists.{put_if, ascending_by};
-ghost use Rattle.disk_change.specs.Records.{same_inode as inodes_equal, written_of_built, written_of_gone, record_written, record_inode, record_entry};
+ghost use Rattle.disk_change.specs.Records.{same_inode as inodes_equal, written_of_built, written_of_gone, record_written, record_inode, record_keyed};
 ghost use Rattle.disk_change.specs.Seated.{free_inode};
 
 use crate::begun::free;
@@ -41,14 +41,14 @@ pub(crate) fn records(
 
 // Puts the record of a node that is built, where it differs.
 fn put_built(records: &mut Records, node: &NodeBuilt) -> Result<(), NoMemory>
-    ensures { OnOk result (map record_entry records.new.entries ≡ put_if record_inode (written_of_built node.now) (map record_entry records.old.entries)) }
+    ensures { OnOk result (map record_keyed records.new.entries ≡ put_if record_inode (written_of_built node.now) (map record_keyed records.old.entries)) }
 {
     put_record(records, node.number, &node.before, &node.meta)
 }
 
 // Puts a free record for a node that loses its inode, where that differs.
 fn put_gone(records: &mut Records, entry: &OldEntry) -> Result<(), NoMemory>
-    ensures { OnOk result (map record_entry records.new.entries ≡ put_if record_inode (written_of_gone entry.now) (map record_entry records.old.entries)) }
+    ensures { OnOk result (map record_keyed records.new.entries ≡ put_if record_inode (written_of_gone entry.now) (map record_keyed records.old.entries)) }
 {
     put_record(records, entry.old.inode, &entry.old.meta, &free())
 }
@@ -62,8 +62,8 @@ fn put_record(
 ) -> Result<(), NoMemory>
     requires kind { after.now.kind ≤ 2 }
     requires free { after.now.kind ≡ 0 → IsFree after.now }
-    ensures { OnOk result (map record_entry records.new.entries
-        ≡ put_if record_inode (record_written (record { number = number; before = before.now; after = after.now })) (map record_entry records.old.entries)) }
+    ensures { OnOk result (map record_keyed records.new.entries
+        ≡ put_if record_inode (record_written (record { number = number; before = before.now; after = after.now })) (map record_keyed records.old.entries)) }
 {
     if same_inode(before, after) {
         return Ok(());
@@ -87,7 +87,7 @@ fn same_inode(inode: &Inode, other: &Inode) -> bool
 
 // Records as a list.
 fn listed(alloc: Global, records: Records) -> Result<RoomyList<TxRecord>, NoMemory>
-    ensures items { IfOk result (λ list. list.items ≡ map record_entry records.entries) }
+    ensures items { IfOk result (λ list. list.items ≡ map record_keyed records.entries) }
     ensures ascending { IfOk result (λ list. AscendByInode list.items) }
 {
     let mut list = Vec::new(alloc);

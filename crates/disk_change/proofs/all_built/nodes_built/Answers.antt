@@ -7,8 +7,8 @@ use Rattle.std.proofs.lemmas.Iterator.Consumers.{YieldsList-end}
 use Rattle.std.proofs.lemmas.Iterator.Adapters.{YieldsList-from_vec}
 use Rattle.disk_change.specs.AllBuilt.{built_by}
 use Rattle.disk_change.specs.GivenUp.{IsLeftBySeat}
-use Rattle.disk_change.specs.Planned.{blocks_of}
-use Rattle.disk_change.specs.Seated.{Seated, Changes, changes_in}
+use Rattle.disk_change.specs.Planned.{blocks_taken}
+use Rattle.disk_change.specs.Seated.{Seated, CommitChanges, changes_in}
 use Rattle.disk_change.proofs.BuiltNodes.{fresh_behind, built_last, behind_last}
 use Rattle.disk_change.proofs.Directories.{map_itself}
 use Rattle.disk_change.proofs.Left.{seats_more}
@@ -17,11 +17,11 @@ use Rattle.disk_change.proofs.all_built.nodes_built.Goals as goal
 pub loop-seat-preserved : goal.loop-seat-preserved
 loop-seat-preserved c =
     let numbers : ℕ → _ = λ node. unwrap_or (get nat_cmp c.args.numbers.now node) None in
-    let changes : Changes = changes_in c.args.plans.now.directories c.args.plans.now.nets.items c.args.plans.now.files.items in
+    let changes : CommitChanges = changes_in c.args.plans.now.directories c.args.plans.now.nets.items c.args.plans.now.files.items in
     let before = c.loop-seat.yielded in
     let seat : Seated = c.in-Some.seat in
     let left = c.loop-seat.invariant.left in
-    let count : c.blocks_needed-count.result ≡ blocks_of seat = c.blocks_needed-count.ensures ∙ ap blocks_of c.seat.view_is in
+    let count : c.blocks_needed-count.result ≡ blocks_taken seat = c.blocks_needed-count.ensures ∙ ap blocks_taken c.seat.view_is in
     let first = c.first_of.ensures ∙ (λ i. take (count i) (left i)) in
     record {
       nodes = c.in_ok-push.ensures.items ∙ (λ i. c.loop-seat.invariant.nodes i ++ (c.in_ok-one.ensures.built ∙ ap (λ fresh. built_by changes numbers fresh seat) first) i ∷ []) ∙ sym (built_last changes numbers before seat c.args.fresh.now);

@@ -4,7 +4,7 @@ use Rattle.std.specs.Ordering.{nat_cmp}
 use Rattle.std.specs.BTreeMap.{get}
 use Rattle.std.specs.List.{flat_map}
 use Rattle.std.specs.Option.{unwrap_or}
-use Rattle.disk_change.specs.AllBuilt.{nodes_built, nodes_after, numbers_with, fresh_of_node, entry_after}
+use Rattle.disk_change.specs.AllBuilt.{nodes_built, nodes_with_grant, numbers_with, fresh_of_node, entry_after}
 use Rattle.disk_change.specs.GivenUp.{entry_number}
 use Rattle.disk_change.specs.Lists.{ascending_by}
 use Rattle.disk_change.specs.Nodes.{entry_node}
@@ -18,7 +18,7 @@ use Rattle.disk_change.proofs.transaction.build.Goals as goal
 numbers_are : (c : goal.After-drop-gone-2) → (λ (node : ℕ). unwrap_or (get nat_cmp c.in_ok-numbers.numbers node) None) ≡ number_in (numbers_given c.deref.result.now c.args.grant.now.inodes)
 numbers_are c = λ i node. (c.in_ok-numbers.ensures node ∙ ap (λ numbers. number_in numbers node) (c.deref-2.ensures.value ∙ c.in_ok-numbers_of_seats.ensures ∙ ap (numbers_given c.deref.result.now) c.inodes.ensures)) i
 
-nodes_are : (c : goal.After-drop-gone-2) → c.in_ok-made.made.nodes.items ≡ nodes_after c.args.change c.args.grant.now
+nodes_are : (c : goal.After-drop-gone-2) → c.in_ok-made.made.nodes.items ≡ nodes_with_grant c.args.change c.args.grant.now
 nodes_are c =
     let view = c.change.view_is in
     let seats = c.deref.ensures.value ∙ ap (λ (change : Planned). change.seats) view in
