@@ -35,15 +35,16 @@ no_change [] n none = refl
 no_change (one ∷ rest) n none =
     cond-false (nat_eq one.block n) _ _ (not_same one.block n (none 0 one (omega arith))) ∙ no_change rest n (λ k d within. none (suc k) d (omega arith))
 
+-- a search compares greater numbers no lower
+pub higher : (n a b : ℕ) → a ≤ b → ordering_index (nat_cmp a n) ≤ ordering_index (nat_cmp b n)
+higher n a b le = grind (arith, tests)
+
 module _ (changed : List ChangedBlock) (up : AscendByBlock changed) (n : ℕ) where
   blocks_rise : (i j : ℕ) (d : ChangedBlock) → i ≤ j → j < length changed → (get_or changed i d).block ≤ (get_or changed j d).block
   blocks_rise i j d le within = grind (arith, up i j d, λ (same : i ≡ j). ap (λ k. (get_or changed k d).block) same)
 
   answers_rise : IsNonDecreasingBy (λ one. ordering_index (nat_cmp one.block n)) changed
-  answers_rise i j d le within = let rise = blocks_rise i j d le within in higher _ _ rise
-    where
-      higher : (a b : ℕ) → a ≤ b → ordering_index (nat_cmp a n) ≤ ordering_index (nat_cmp b n)
-      higher a b le = grind (arith, tests)
+  answers_rise i j d le within = let rise = blocks_rise i j d le within in higher n _ _ rise
 
   -- a search that ends at a place has found the block
   pub search_finds : (i : ℕ) → i < length changed → HoldsAt (λ one. nat_cmp one.block n ≡ Equal) changed i → IsChangeAt changed n i

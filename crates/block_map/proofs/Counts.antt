@@ -14,28 +14,10 @@ use Rattle.block_map.specs.Changed.{change_of, AscendByBlock}
 use Rattle.block_map.specs.Remap.{rewrite_of, takes_fresh, fresh_by_fate, table_fate}
 use Rattle.block_map.specs.declared.rewrite.TableFate.TheVariants.{Stays, Goes, IsWritten}
 use Rattle.block_map.proofs.Changes.{ascends_behind, first_is_least}
+use Rattle.image_tree.proofs.Ranks.{rank_more, rank_up}
+use Rattle.sfs_base.proofs.BasicTruth.{and_false, and_true}
 
 module _ (takes : ℕ → Bool) where
-  count_more : (a n : ℕ) → count_by takes (range_with_len a (suc n)) ≡ count_by takes (range_with_len a n) + cond (takes (a + n)) 1 0
-  count_more a zero = count-cons takes a (range_with_len (a + 1) 0) ∙ ap (λ m. cond (takes m) 1 0 + 0) (from_plus_zero a) ∙ swap _
-    where
-      swap : (x : ℕ) → x + 0 ≡ 0 + x
-      swap x = omega arith
-  count_more a (suc n) =
-      let first = count-cons takes a (range_with_len (a + 1) (suc n)) in
-      let rest = count_more (a + 1) n in
-      let again = count-cons takes a (range_with_len (a + 1) n) in
-      let last : cond {A = ℕ} (takes (a + 1 + n)) 1 0 ≡ cond (takes (a + suc n)) 1 0 = ap (λ m. cond {A = ℕ} (takes m) 1 0) (moved a n) in
-      omega arith
-    where
-      moved : (a n : ℕ) → a + 1 + n ≡ a + suc n
-      moved a n = omega arith
-
-  -- the rank of the next place
-  pub rank_next : (p : ℕ) → rank takes (suc p) ≡ rank takes p + cond (takes p) 1 0
-  unfolding rank
-  rank_next p = count_more 0 p ∙ ap (λ m. count_by takes (range_with_len 0 p) + cond (takes m) 1 0) (zero_plus p)
-
   pub rank_first : rank takes 0 ≡ 0
   unfolding rank
   rank_first = refl
@@ -43,17 +25,7 @@ module _ (takes : ℕ → Bool) where
   -- a rank is at most as large as its place
   pub rank_within : (p : ℕ) → rank takes p ≤ p
   rank_within zero = omega (arith, rank_first)
-  rank_within (suc p) = grind (arith, nat_tests, rank_next p, rank_within p)
-
-  -- ranks rise
-  pub rank_rises : (p more : ℕ) → rank takes p ≤ rank takes (p + more)
-  rank_rises p zero = let e = ap (rank takes) (plus_zero p) in omega arith
-  rank_rises p (suc more) =
-      let rest = rank_rises p more in
-      let step = rank_next (p + more) in
-      let next : p + suc more ≡ suc (p + more) = omega arith in
-      let e = ap (rank takes) next in
-      omega arith
+  rank_within (suc p) = grind (arith, nat_tests, rank_more takes p, rank_within p)
 
 -- a rewritten block that takes a fresh one, below a place
 abbrev takes_below : ℕ → ChangedBlock → Bool
@@ -71,14 +43,6 @@ count_none : (p : ChangedBlock → Bool) (changed : List ChangedBlock) → ((k :
 count_none p [] none = refl
 count_none p (one ∷ rest) none =
     count-cons p one rest ∙ ap (λ b. cond b 1 0 + count_by p rest) (none 0 one (omega arith)) ∙ zero_plus _ ∙ count_none p rest (λ k d within. none (suc k) d (omega arith))
-
-and_false : (b : Bool) → (b && false) ≡ false
-and_false true = refl
-and_false false = refl
-
-and_true : (b : Bool) → (b && true) ≡ b
-and_true true = refl
-and_true false = refl
 
 -- at a place stands one rewritten block at most
 count_at : (changed : List ChangedBlock) → AscendByBlock changed → (p : ℕ) → count_by (takes_at p) changed ≡ cond (taken_by (change_of changed p)) 1 0
@@ -119,7 +83,7 @@ module _ (inode : Inode) (tables : List Table) (changed : List ChangedBlock) (up
   rank_counts zero le = rank_first takes ∙ sym (none_below_zero changed)
   rank_counts (suc p) le =
       let own : cond {A = ℕ} (takes p) 1 0 ≡ cond {A = ℕ} (taken_by (change_of changed p)) 1 0 = ap (λ b. cond {A = ℕ} b 1 0) (takes_block p (omega arith)) in
-      omega (arith, rank_next takes p, rank_counts p (omega arith), count_below_more changed p, count_at changed up p)
+      omega (arith, rank_more takes p, rank_counts p (omega arith), count_below_more changed p, count_at changed up p)
 
   -- all of them take as many as the ranks of the indirect blocks begin with
   pub rank_of_tables : rank takes FILE_BLOCKS ≡ count_by takes_fresh changed
@@ -172,7 +136,7 @@ rank_next_table rewrite k =
     let back : FILE_BLOCKS + k - FILE_BLOCKS ≡ k = omega arith in
     let place : takes_place rewrite (FILE_BLOCKS + k) ≡ takes_table rewrite k =
     cond-false (nat_lt (FILE_BLOCKS + k) FILE_BLOCKS) _ _ (le-ltb (FILE_BLOCKS + k) FILE_BLOCKS (omega arith)) ∙ ap (takes_table rewrite) back in
-    ap (rank (takes_place rewrite)) next ∙ rank_next (takes_place rewrite) (FILE_BLOCKS + k)
+    ap (rank (takes_place rewrite)) next ∙ rank_more (takes_place rewrite) (FILE_BLOCKS + k)
     ∙ ap (λ b. rank (takes_place rewrite) (FILE_BLOCKS + k) + cond b 1 0) place ∙ ap (λ n. rank (takes_place rewrite) (FILE_BLOCKS + k) + n) (by_tests (rewrites_table rewrite k) (table_has_pointer rewrite k))
   where
     by_tests : (rewritten some : Bool) → cond {A = ℕ} (rewritten && some) 1 0 ≡ fresh_by_fate (cond rewritten (cond some IsWritten Goes) Stays)

@@ -8,7 +8,7 @@ use Rattle.std.proofs.lemmas.Bool.{cond-true, cond-false, cases_lt, cases_Bool, 
 use Rattle.std.proofs.lemmas.List.{append-nil, append_assoc, take_more}
 use Rattle.std.proofs.lemmas.Grind.{flat_map-append}
 use Rattle.std.proofs.lemmas.List.FromFn.{length-range_with_len, get_or-range_with_len}
-use Rattle.sfs_base.proofs.BasicTruth.{and_first, and_second, false_not_true}
+use Rattle.sfs_base.proofs.BasicTruth.{and_first, and_second, false_not_true, not_true}
 use Rattle.sfs_base.proofs.BasicNumbers.{zero_plus}
 use Rattle.std.proofs.lemmas.List.Elements.{Contains-append_left, Contains-append_right, Contains-append_cases}
 use Rattle.std.proofs.lemmas.List.Kept.{Contains-dedup_nat, Contains-from_dedup}
@@ -26,7 +26,7 @@ use Rattle.block_map.proofs.Changes.{change_at, change_stands}
 use Rattle.block_map.proofs.Places.{own_place, range_more}
 
 -- a block in a list of its own is that block, and none
-in_there : (x block : ℕ) → Contains (there x) block → (x ≢ 0) × (x ≡ block)
+pub in_there : (x block : ℕ) → Contains (there x) block → (x ≢ 0) × (x ≡ block)
 in_there x block has = elim (cases_Bool (nat_eq x 0)) [
   | inl hole ↦ absurd (no_item block (subst (λ xs. Contains xs block) (cond-true (nat_eq x 0) [] (x ∷ []) hole) has))
   | inr some ↦ (eqb-false x 0 some, only x block (subst (λ xs. Contains xs block) (cond-false (nat_eq x 0) [] (x ∷ []) some) has))
@@ -39,17 +39,17 @@ in_there x block has = elim (cases_Bool (nat_eq x 0)) [
     only x b (zero, lt, e) = e
     only x b (suc k, lt, e) = absurd (omega arith)
 
-is_there : (x : ℕ) → x ≢ 0 → Contains (there x) x
+pub is_there : (x : ℕ) → x ≢ 0 → Contains (there x) x
 is_there x some = subst (λ xs. Contains xs x) (sym (cond-false (nat_eq x 0) [] (x ∷ []) (ne_eqb x 0 some))) (0, omega arith, refl)
 
 -- what is in one of several lists is in them all together
-in_all : {X : Type 0} (f : X → List ℕ) (xs : List X) (i : ℕ) (d : X) (block : ℕ) → i < length xs → Contains (f (get_or xs i d)) block → Contains (flat_map f xs) block
+pub in_all : {X : Type 0} (f : X → List ℕ) (xs : List X) (i : ℕ) (d : X) (block : ℕ) → i < length xs → Contains (f (get_or xs i d)) block → Contains (flat_map f xs) block
 in_all f [] i d block within has = absurd (omega arith)
 in_all f (x ∷ xs) zero d block within has = Contains-append_left (f x) (flat_map f xs) block has
 in_all f (x ∷ xs) (suc i) d block within has = Contains-append_right (f x) (flat_map f xs) block (in_all f xs i d block (omega arith) has)
 
 -- and the other way round
-in_one : {X : Type 0} (f : X → List ℕ) (xs : List X) (block : ℕ) → Contains (flat_map f xs) block → (i : ℕ) × (i < length xs) × ((d : X) → Contains (f (get_or xs i d)) block)
+pub in_one : {X : Type 0} (f : X → List ℕ) (xs : List X) (block : ℕ) → Contains (flat_map f xs) block → (i : ℕ) × (i < length xs) × ((d : X) → Contains (f (get_or xs i d)) block)
 in_one f [] block (k, lt, e) = absurd (omega arith)
 in_one f (x ∷ xs) block has = elim (Contains-append_cases (f x) (flat_map f xs) block has) [
   | inl here ↦ (0, omega arith, λ d. here)
@@ -58,10 +58,6 @@ in_one f (x ∷ xs) block has = elim (Contains-append_cases (f x) (flat_map f xs
 
 abbrev pub ONE : ChangedBlock
 ONE = record { block = 0; is_zero = false }
-
-pub not_true : (b : Bool) → not b ≡ true → b ≡ false
-not_true true e = sym e
-not_true false e = refl
 
 module _ (inode : Inode) (tables : List Table) (changed : List ChangedBlock) (up : AscendByBlock changed) where
   abbrev pub rewrite : Rewrite

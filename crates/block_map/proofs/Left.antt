@@ -4,7 +4,7 @@ use Rattle.std.specs.Prelude.{slice_index}
 use Rattle.std.specs.List.{range_with_len, list_any}
 use Rattle.std.specs.Option.{option_map_or}
 use Rattle.std.proofs.lemmas.Bool.{cond-true, cond-false, cases_lt, lt-ltb, le-ltb, eqb-true, eqb-false, ne_eqb}
-use Rattle.sfs_base.proofs.BasicTruth.{or_first, or_second, and_first, and_second, not_both_of}
+use Rattle.sfs_base.proofs.BasicTruth.{or_first, or_second, and_first, and_second, not_both_of, not_false, not_true}
 use Rattle.sfs_image.specs.Inode.{Table, table_of, entry_of}
 use Rattle.sfs_image.specs.Seen.{FILE_BLOCKS, PLACES}
 use Rattle.sfs_image.proofs.Basics.{get_or-tabulate}
@@ -15,7 +15,6 @@ use Rattle.block_map.specs.Remap.{rewrite_of, fresh_for, pointer_remapped, table
 use Rattle.block_map.specs.RemapLaws.{RemappedPointersStand, IsHeld, FreshServe, FreedBlocksAreLeft}
 use Rattle.block_map.proofs.KeptPointers.{found_at}
 use Rattle.block_map.proofs.Places.{remapped_at_place}
-use Rattle.block_map.proofs.GivenUp.{not_true}
 
 -- a test that no number of a range passes is failed by each
 all_fail : (p : ℕ → Bool) (a n m : ℕ) → list_any p (range_with_len a n) ≡ false → a ≤ m → m < a + n → p m ≡ false
@@ -39,11 +38,7 @@ module _ (rewrite : Rewrite) (fresh : List ℕ) where
   unchanged n below stays = at_block n below ∙ by_tests (rewrite.is_rewritten n) (rewrite.is_zero n) (rewrite.pointers n) (fresh_for rewrite fresh n) stays
     where
       by_tests : (rewritten empty : Bool) (block free : ℕ) → (rewritten && (not empty || not (nat_eq block 0))) ≡ false → cond rewritten (cond empty 0 free) block ≡ block
-      by_tests true true block free e = sym (eqb-true block 0 (not_false_true (nat_eq block 0) e))
-        where
-          not_false_true : (b : Bool) → not b ≡ false → b ≡ true
-          not_false_true true e = refl
-          not_false_true false e = sym e
+      by_tests true true block free e = sym (eqb-true block 0 (not_false (nat_eq block 0) e))
       by_tests true false block free e = absurd (not_both_of true refl e)
       by_tests false empty block free e = refl
 
@@ -51,13 +46,9 @@ module _ (rewrite : Rewrite) (fresh : List ℕ) where
   empty : (n : ℕ) → n < FILE_BLOCKS → has_pointer rewrite n ≡ false → pointer_remapped rewrite fresh n ≡ 0
   empty n below none = at_block n below ∙ by_tests (rewrite.is_rewritten n) (rewrite.is_zero n) (rewrite.pointers n) (fresh_for rewrite fresh n) none
     where
-      not_false_true : (b : Bool) → not b ≡ false → b ≡ true
-      not_false_true true e = refl
-      not_false_true false e = sym e
-
       by_tests : (rewritten empty : Bool) (block free : ℕ) → cond rewritten (not empty) (not (nat_eq block 0)) ≡ false → cond rewritten (cond empty 0 free) block ≡ 0
-      by_tests true empty block free e = cond-true empty 0 free (not_false_true empty e)
-      by_tests false empty block free e = eqb-true block 0 (not_false_true (nat_eq block 0) e)
+      by_tests true empty block free e = cond-true empty 0 free (not_false empty e)
+      by_tests false empty block free e = eqb-true block 0 (not_false (nat_eq block 0) e)
 
 pub remapped_pointers_stand : RemappedPointersStand
 remapped_pointers_stand inode tables changed fresh place within = elim (cases_lt place FILE_BLOCKS) [

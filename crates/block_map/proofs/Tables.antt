@@ -6,7 +6,7 @@ use Rattle.std.specs.Option.{option_map_or}
 use Rattle.std.proofs.lemmas.Bool.{cases_lt}
 use Rattle.std.proofs.lemmas.Bool.Decides.{nat_tests}
 use borrow.Author.Tests.{ltb-true, leb-true}
-use Rattle.sfs_base.proofs.BasicTruth.{and_first as first, and_second as second}
+use Rattle.sfs_base.proofs.BasicTruth.{and_first as first, and_second as second, or_true}
 use Rattle.std.proofs.lemmas.List.{same_lists, get_or-set_same, get_or-set_other}
 use Rattle.std.proofs.Math.ListN.{set}
 use Rattle.sfs_image.specs.Inode.{Inode, Table}
@@ -32,10 +32,6 @@ some_in_range p a (suc n) m ge lt t = elim (cases_lt a m) [
   | inl less ↦ ap (λ b. p a || b) (some_in_range p (a + 1) n m (omega arith) (omega arith) t) ∙ or_true (p a)
   | inr le ↦ let same : m ≡ a = omega arith in (λ i. (sym (ap p same) ∙ t) i || list_any p (range_with_len (a + 1) n))
 ]
-  where
-    or_true : (b : Bool) → (b || true) ≡ true
-    or_true true = refl
-    or_true false = refl
 
 module _ (inode : Inode) (tables : List Table) (changed : List ChangedBlock) (up : AscendByBlock changed) (k : ℕ) where
   abbrev rewrite : Rewrite

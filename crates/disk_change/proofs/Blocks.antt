@@ -11,7 +11,7 @@ use Rattle.std.proofs.Math.Seq.{drop-cons}
 use Rattle.std.proofs.lemmas.List.Kept.{AllPairs-from_increasing}
 use Rattle.std.proofs.lemmas.List.Folds.{list_any_at}
 use Rattle.std.proofs.Math.ListN.{set}
-use Rattle.sfs_base.proofs.BasicNumbers.{same_number}
+use Rattle.sfs_base.proofs.BasicNumbers.{same_number, from_zero_plus, zero_plus, suc_is_one_more}
 use Rattle.sfs_base.proofs.BasicOptions.{some_not_none, none_some}
 use Rattle.sfs_base.proofs.BasicTruth.{true_not_false, false_not_true}
 use Rattle.std.specs.Option.{MatchOption, option_copied, option_and_then, option_map_or}
@@ -63,7 +63,7 @@ get_next (f ∷ front) old zero d e within = absurd (omega arith)
 get_next (f ∷ front) [] (suc i) d e within = absurd (omega arith)
 get_next (f ∷ front) (x ∷ old) (suc i) d e within = get_next front old i d (omega arith) (omega arith)
 
-drop_none : {X : Type 0} (n : ℕ) → drop {A = X} n [] ≡ []
+pub drop_none : {X : Type 0} (n : ℕ) → drop {A = X} n [] ≡ []
 drop_none zero = refl
 drop_none (suc n) = refl
 
@@ -84,10 +84,7 @@ fill-append [] b rows = refl
 fill-append (None ∷ a) b rows =
     ap (λ rest. slice_get rows 0 ∷ rest) (fill-append a b (drop 1 rows) ∙ ap (λ more. fill_front a (drop 1 rows) ++ fill_front b more) (sym (left_next rows (count_by is_none a)) ∙ ap (λ n. drop n rows) (sym (count-cons is_none None a))))
 fill-append (Some row ∷ a) b rows =
-    ap (λ rest. Some row ∷ rest) (fill-append a b rows ∙ ap (λ n. fill_front a rows ++ fill_front b (drop n rows)) (zero_more (count_by is_none a) ∙ sym (count-cons is_none (Some row) a)))
-  where
-    zero_more : (n : ℕ) → n ≡ 0 + n
-    zero_more n = omega arith
+    ap (λ rest. Some row ∷ rest) (fill-append a b rows ∙ ap (λ n. fill_front a rows ++ fill_front b (drop n rows)) (from_zero_plus (count_by is_none a) ∙ sym (count-cons is_none (Some row) a)))
 
 pub length-fill : (slots : List (Option Row)) (rows : List Row) → length (fill_front slots rows) ≡ length slots
 length-fill [] rows = refl
@@ -100,11 +97,8 @@ left-append (None ∷ a) b rows =
     ap (λ n. drop n rows) (count-cons is_none None (a ++ b)) ∙ left_next rows (count_by is_none (a ++ b)) ∙ left-append a b (drop 1 rows)
     ∙ ap (rows_left b) (sym (left_next rows (count_by is_none a)) ∙ ap (λ n. drop n rows) (sym (count-cons is_none None a)))
 left-append (Some row ∷ a) b rows =
-    ap (λ n. drop n rows) (count-cons is_none (Some row) (a ++ b) ∙ no_more (count_by is_none (a ++ b))) ∙ left-append a b rows
-    ∙ ap (λ n. rows_left b (drop n rows)) (sym (count-cons is_none (Some row) a ∙ no_more (count_by is_none a)))
-  where
-    no_more : (n : ℕ) → 0 + n ≡ n
-    no_more n = omega arith
+    ap (λ n. drop n rows) (count-cons is_none (Some row) (a ++ b) ∙ zero_plus (count_by is_none (a ++ b))) ∙ left-append a b rows
+    ∙ ap (λ n. rows_left b (drop n rows)) (sym (count-cons is_none (Some row) a ∙ zero_plus (count_by is_none a)))
 
 -- one more slot is filled, or stays
 pub fill_more : (old : List (Option Row)) (rows : List Row) (i : ℕ) → i < length old
@@ -117,16 +111,13 @@ left_more old rows i within = ap (λ front. rows_left front rows) (take_more old
 
 -- what stands behind a place begins with what stands there
 behind_place : {X : Type 0} (old : List X) (i : ℕ) (d : X) → i < length old → drop i old ≡ get_or old i d ∷ drop (i + 1) old
-behind_place old i d within = drop-cons old i d within ∙ ap (λ n. get_or old i d ∷ drop n old) (one_suc i)
-  where
-    one_suc : (i : ℕ) → suc i ≡ i + 1
-    one_suc i = omega arith
+behind_place old i d within = drop-cons old i d within ∙ ap (λ n. get_or old i d ∷ drop n old) (suc_is_one_more i)
+
+first_ones : {X : Type 0} (old : List X) (i : ℕ) → i < length old → length (take i old) ≡ i
+first_ones old i within = omega (arith, length-take i old)
 
 front_filled : (old : List (Option Row)) (rows : List Row) (i : ℕ) → i < length old → length (fill_front (take i old) rows) ≡ i
 front_filled old rows i within = length-fill (take i old) rows ∙ first_ones old i within
-  where
-    first_ones : {X : Type 0} (old : List X) (i : ℕ) → i < length old → length (take i old) ≡ i
-    first_ones old i within = omega (arith, length-take i old)
 
 -- a taken slot stays as it is
 pub step_taken : (old block : List (Option Row)) (rows : List Row) (i : ℕ) → i < length old → is_none (get_or old i None) ≡ false
@@ -145,11 +136,8 @@ pub step_empty : (old block : List (Option Row)) (rows : List Row) (i : ℕ) (sl
     → block ≡ fill_front (take i old) rows ++ drop i old → slot ≡ slice_get (rows_left (take i old) rows) 0 → set block i slot ≡ fill_front (take (i + 1) old) rows ++ drop (i + 1) old
 step_empty old block rows i slot within empty before is =
     ap (λ b. set b i slot) before ∙ set_next (fill_front (take i old) rows) old i slot (front_filled old rows i within) within
-    ∙ ap (λ n. (fill_front (take i old) rows ++ slot ∷ []) ++ drop n old) (one_suc i)
+    ∙ ap (λ n. (fill_front (take i old) rows ++ slot ∷ []) ++ drop n old) (suc_is_one_more i)
     ∙ ap (λ front. front ++ drop (i + 1) old) (ap (λ s. fill_front (take i old) rows ++ s ∷ []) is ∙ ap (λ b. fill_front (take i old) rows ++ cond b (slice_get (rows_left (take i old) rows) 0) (get_or old i None) ∷ []) (sym empty) ∙ sym (fill_more old rows i within))
-  where
-    one_suc : (i : ℕ) → suc i ≡ i + 1
-    one_suc i = omega arith
 
 pub left_empty : (old : List (Option Row)) (rows : List Row) (i : ℕ) → i < length old → is_none (get_or old i None) ≡ true → rows_left (take (i + 1) old) rows ≡ drop 1 (rows_left (take i old) rows)
 left_empty old rows i within empty =
@@ -191,9 +179,6 @@ moved_more f old i d within = ap (map f) (take_more old i d within) ∙ map-appe
 
 front_moved : {X Y : Type 0} (f : X → Y) (old : List X) (i : ℕ) → i < length old → length (map f (take i old)) ≡ i
 front_moved f old i within = length-map (take i old) f ∙ first_ones old i within
-  where
-    first_ones : {X : Type 0} (old : List X) (i : ℕ) → i < length old → length (take i old) ≡ i
-    first_ones old i within = omega (arith, length-take i old)
 
 module _ {X : Type 0} (f : X → X) (old block : List X) (i : ℕ) (d : X) (within : i < length old) (before : block ≡ map f (take i old) ++ drop i old) where
   pub moved_there : get_or block i d ≡ get_or old i d
@@ -203,11 +188,8 @@ module _ {X : Type 0} (f : X → X) (old block : List X) (i : ℕ) (d : X) (with
   pub step_moved : (slot : X) → slot ≡ f (get_or old i d) → set block i slot ≡ map f (take (i + 1) old) ++ drop (i + 1) old
   step_moved slot is =
       ap (λ b. set b i slot) before ∙ set_next (map f (take i old)) old i slot (front_moved f old i within) within
-      ∙ ap (λ n. (map f (take i old) ++ slot ∷ []) ++ drop n old) (one_suc i)
+      ∙ ap (λ n. (map f (take i old) ++ slot ∷ []) ++ drop n old) (suc_is_one_more i)
       ∙ ap (λ front. front ++ drop (i + 1) old) (ap (λ s. map f (take i old) ++ s ∷ []) is ∙ sym (moved_more f old i d within))
-    where
-      one_suc : (i : ℕ) → suc i ≡ i + 1
-      one_suc i = omega arith
 
   -- and one that stays
   pub step_stays : get_or old i d ≡ f (get_or old i d) → block ≡ map f (take (i + 1) old) ++ drop (i + 1) old

@@ -7,7 +7,7 @@ use Rattle.std.proofs.lemmas.Bool.{lt-ltb}
 use Rattle.std.proofs.lemmas.List.{take_more, append-nil, append_assoc}
 use Rattle.std.proofs.lemmas.Grind.{flat_map-append}
 use borrow.Author.Tests.{ltb-true, ltb-false, leb-true, leb-false, le-leb}
-use Rattle.sfs_base.proofs.BasicNumbers.{not_same, same_number}
+use Rattle.sfs_base.proofs.BasicNumbers.{not_same, same_number, zero_plus}
 use Rattle.sfs_tree.proofs.Joined.{count-cons}
 use Rattle.disk_change.specs.Lists.{AscendBy}
 use Rattle.disk_change.specs.Links.{times_in}
@@ -32,10 +32,7 @@ times_cons : (x n : ℕ) (xs : List ℕ) → times_in (x ∷ xs) n ≡ cond (nat
 times_cons x n xs = count-cons (λ other. nat_eq other n) x xs
 
 times_other : (x n : ℕ) (xs : List ℕ) → x ≢ n → times_in (x ∷ xs) n ≡ times_in xs n
-times_other x n xs apart = times_cons x n xs ∙ ap (λ b. cond b 1 0 + times_in xs n) (not_same x n apart) ∙ none_more (times_in xs n)
-  where
-    none_more : (m : ℕ) → 0 + m ≡ m
-    none_more m = omega arith
+times_other x n xs apart = times_cons x n xs ∙ ap (λ b. cond b 1 0 + times_in xs n) (not_same x n apart) ∙ zero_plus (times_in xs n)
 
 times_same : (x n : ℕ) (xs : List ℕ) → x ≡ n → times_in (x ∷ xs) n ≡ 1 + times_in xs n
 times_same x n xs same = times_cons x n xs ∙ ap (λ b. cond b 1 0 + times_in xs n) (ap (λ m. nat_eq m n) same ∙ same_number n)

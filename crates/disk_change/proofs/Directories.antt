@@ -7,20 +7,23 @@ use Rattle.std.proofs.lemmas.List.FromFn.{length-map-range_with_len}
 use Rattle.std.proofs.lemmas.List.Elements.{filter_map-append}
 use Rattle.sfs_image.specs.Slot.{Row}
 use Rattle.absorb.specs.declared.nets.NetRow.{NetRow}
-use Rattle.disk_change.specs.Directory.{block_moved, fill_front, rows_left, is_touched, blocks_filled, rows_behind, blocks_touched, block_added, empty_block, blocks_for, rows_new, directory_blocks, directory_touched}
+use Rattle.disk_change.specs.Directory.{block_moved, fill_front, rows_left, block_is_touched, old_blocks_after, rows_behind, blocks_touched, block_added, empty_block, blocks_for, rows_new, slot_blocks_after, directory_touched}
+use Rattle.sfs_base.proofs.BasicNumbers.{from_zero_plus, suc_joins}
+use Rattle.disk_change.proofs.Blocks.{drop_none}
+
+-- an item that may be there, alone
+pub alone : {Y : Type 0} (o : Option Y) → cons_option o [] ≡ option_to_list o
+alone None = refl
+alone (Some y) = refl
 
 -- what a function gives of one item more comes last
 pub filter_map_more : {X Y : Type 0} (f : X → Option Y) (xs : List X) (i : ℕ) (d : X) → i < length xs → filter_map f (take (i + 1) xs) ≡ filter_map f (take i xs) ++ option_to_list (f (get_or xs i d))
 filter_map_more f xs i d within = ap (filter_map f) (take_more xs i d within) ∙ filter_map-append f (take i xs) (get_or xs i d ∷ []) ∙ ap (λ rest. filter_map f (take i xs) ++ rest) (alone (f (get_or xs i d)))
-  where
-    alone : {Y : Type 0} (o : Option Y) → cons_option o [] ≡ option_to_list o
-    alone None = refl
-    alone (Some y) = refl
 
 module _ (directories : List ℕ) (net : List NetRow) where
   -- one block more takes what the others leave
   pub filled_more : (blocks : List (List (Option Row))) (block : List (Option Row)) (rows : List Row)
-      → blocks_filled directories net (blocks ++ block ∷ []) rows ≡ blocks_filled directories net blocks rows ++ fill_front (block_moved directories net block) (rows_behind directories net blocks rows) ∷ []
+      → old_blocks_after directories net (blocks ++ block ∷ []) rows ≡ old_blocks_after directories net blocks rows ++ fill_front (block_moved directories net block) (rows_behind directories net blocks rows) ∷ []
   filled_more [] block rows = refl
   filled_more (first ∷ blocks) block rows = ap (λ rest. fill_front (block_moved directories net first) rows ∷ rest) (filled_more blocks block _)
 
@@ -30,9 +33,9 @@ module _ (directories : List ℕ) (net : List NetRow) where
   behind_more (first ∷ blocks) block rows = behind_more blocks block _
 
   pub touched_more : (blocks : List (List (Option Row))) (block : List (Option Row)) (rows : List Row)
-      → blocks_touched directories net (blocks ++ block ∷ []) rows ≡ blocks_touched directories net blocks rows ++ is_touched directories net block (rows_behind directories net blocks rows) ∷ []
+      → blocks_touched directories net (blocks ++ block ∷ []) rows ≡ blocks_touched directories net blocks rows ++ block_is_touched directories net block (rows_behind directories net blocks rows) ∷ []
   touched_more [] block rows = refl
-  touched_more (first ∷ blocks) block rows = ap (λ rest. is_touched directories net first rows ∷ rest) (touched_more blocks block _)
+  touched_more (first ∷ blocks) block rows = ap (λ rest. block_is_touched directories net first rows ∷ rest) (touched_more blocks block _)
 
 -- one more of the same
 pub replicate_more : {X : Type 0} (n : ℕ) (x : X) → replicate (n + 1) x ≡ replicate n x ++ x ∷ []
@@ -45,20 +48,10 @@ replicate_more n x = ap (λ m. replicate m x) (one_suc n) ∙ by_count n
     by_count zero = refl
     by_count (suc n) = ap (λ rest. x ∷ rest) (by_count n)
 
-drop_none : {X : Type 0} (n : ℕ) → drop {A = X} n [] ≡ []
-drop_none zero = refl
-drop_none (suc n) = refl
-
 pub drop_twice : {X : Type 0} (a b : ℕ) (xs : List X) → drop a (drop b xs) ≡ drop (b + a) xs
-drop_twice a zero xs = ap (λ n. drop n xs) (zero_more a)
-  where
-    zero_more : (a : ℕ) → a ≡ 0 + a
-    zero_more a = omega arith
+drop_twice a zero xs = ap (λ n. drop n xs) (from_zero_plus a)
 drop_twice a (suc b) [] = drop_none a ∙ sym (drop_none (suc b + a))
-drop_twice a (suc b) (x ∷ xs) = drop_twice a b xs ∙ ap (λ n. drop n (x ∷ xs)) (more b a)
-  where
-    more : (b a : ℕ) → suc (b + a) ≡ suc b + a
-    more b a = omega arith
+drop_twice a (suc b) (x ∷ xs) = drop_twice a b xs ∙ ap (λ n. drop n (x ∷ xs)) (suc_joins b a)
 
 -- a block of empty slots takes 15 rows
 pub left_of_empty : (rows : List Row) → rows_left empty_block rows ≡ drop 15 rows
@@ -73,13 +66,13 @@ map_itself [] = refl
 map_itself (x ∷ xs) = ap (λ rest. x ∷ rest) (map_itself xs)
 
 -- each block is said to change or not
-pub length-directory : (directories : List ℕ) (net : List NetRow) (blocks : List (List (Option Row))) → length (directory_touched directories net blocks) ≡ length (directory_blocks directories net blocks)
+pub length-directory : (directories : List ℕ) (net : List NetRow) (blocks : List (List (Option Row))) → length (directory_touched directories net blocks) ≡ length (slot_blocks_after directories net blocks)
 length-directory directories net blocks =
     let rest = rows_behind directories net blocks (rows_new directories net) in
     length-append (blocks_touched directories net blocks (rows_new directories net)) (replicate (blocks_for rest) true)
     ∙ (λ i. one_each blocks (rows_new directories net) i + (length-replicate (blocks_for rest) true ∙ sym (length-map-range_with_len (block_added rest) 0 (blocks_for rest))) i)
-    ∙ sym (length-append (blocks_filled directories net blocks (rows_new directories net)) (map (block_added rest) (range_with_len 0 (blocks_for rest))))
+    ∙ sym (length-append (old_blocks_after directories net blocks (rows_new directories net)) (map (block_added rest) (range_with_len 0 (blocks_for rest))))
   where
-    one_each : (blocks : List (List (Option Row))) (rows : List Row) → length (blocks_touched directories net blocks rows) ≡ length (blocks_filled directories net blocks rows)
+    one_each : (blocks : List (List (Option Row))) (rows : List Row) → length (blocks_touched directories net blocks rows) ≡ length (old_blocks_after directories net blocks rows)
     one_each [] rows = refl
     one_each (block ∷ blocks) rows = ap suc (one_each blocks _)

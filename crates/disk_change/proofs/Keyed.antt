@@ -9,6 +9,7 @@ use Rattle.std.proofs.lemmas.Cmp.{ranked}
 use Rattle.sfs_base.proofs.BasicNumbers.{same_number, not_same}
 use Rattle.disk_change.specs.Lists.{AscendBy, item_with}
 use borrow.Author.Tests.{tests}
+use Rattle.block_map.proofs.Changes.{higher}
 
 module _ {X : Type 0} (key : X → ℕ) where
   -- what ascends goes on ascending behind its first
@@ -38,10 +39,7 @@ module _ {X : Type 0} (key : X → ℕ) where
     numbers_rise i j d le within = grind (arith, up i j d, λ (same : i ≡ j). ap (λ k. key (get_or items k d)) same)
 
     answers_rise : IsNonDecreasingBy (λ one. ordering_index (nat_cmp (key one) n)) items
-    answers_rise i j d le within = let rise = numbers_rise i j d le within in higher _ _ rise
-      where
-        higher : (a b : ℕ) → a ≤ b → ordering_index (nat_cmp a n) ≤ ordering_index (nat_cmp b n)
-        higher a b le = grind (arith, tests)
+    answers_rise i j d le within = let rise = numbers_rise i j d le within in higher n _ _ rise
 
     -- a search that ends at a place has found the item
     pub search_finds : (i : ℕ) (d : X) → i < length items → HoldsAt (λ one. nat_cmp (key one) n ≡ Equal) items i → Some (get_or items i d) ≡ item_with key n items

@@ -1,7 +1,11 @@
+pub mod Ascending
 pub mod Blocks
+pub mod BuiltNodes
 pub mod Counted
 pub mod Directories
+pub mod Held
 pub mod Keyed
+pub mod Left
 pub mod Names
 pub mod Numbering
 pub mod Places

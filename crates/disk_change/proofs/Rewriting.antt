@@ -11,8 +11,9 @@ use Rattle.disk_change.specs.declared.pages.Page.{Page}
 use Rattle.disk_change.specs.Lists.{AscendBy}
 use Rattle.disk_change.specs.Pages.{page_block}
 use Rattle.disk_change.proofs.Keyed.{ascends_behind}
-use Rattle.disk_change.specs.Seat.{has_no_row, end_of, block_said, page_said}
+use Rattle.disk_change.specs.Seat.{has_no_row, blocks_to_last_row, block_said, page_said}
 use Rattle.block_map.specs.declared.changed.ChangedBlock.{ChangedBlock}
+use Rattle.sfs_base.proofs.BasicTruth.{and_false}
 
 -- all slots are empty where each is
 pub all_empty : (block : List (Option Row)) → ((k : ℕ) → k < length block → is_none (get_or block k None) ≡ true) → true ≡ has_no_row block
@@ -24,18 +25,14 @@ pub one_taken : (block : List (Option Row)) (k : ℕ) → k < length block → i
 one_taken [] k within taken = absurd (omega arith)
 one_taken (slot ∷ block) zero within taken = λ i. sym taken i && has_no_row block
 one_taken (slot ∷ block) (suc k) within taken = sym (and_false (is_none slot)) ∙ ap (λ b. is_none slot && b) (one_taken block k (omega arith) taken)
-  where
-    and_false : (b : Bool) → (b && false) ≡ false
-    and_false true = refl
-    and_false false = refl
 
 -- a block without rows moves no end
-end_empty : (blocks : List (List (Option Row))) (block : List (Option Row)) → has_no_row block ≡ true → end_of (blocks ++ block ∷ []) ≡ end_of blocks
+end_empty : (blocks : List (List (Option Row))) (block : List (Option Row)) → has_no_row block ≡ true → blocks_to_last_row (blocks ++ block ∷ []) ≡ blocks_to_last_row blocks
 end_empty [] block none = ap (λ b. cond (b && true) 0 1) none
 end_empty (first ∷ blocks) block none = ap (λ n. cond (has_no_row first && nat_eq n 0) 0 (suc n)) (end_empty blocks block none)
 
 -- and one with a row is the last
-end_row : (blocks : List (List (Option Row))) (block : List (Option Row)) → has_no_row block ≡ false → end_of (blocks ++ block ∷ []) ≡ suc (length blocks)
+end_row : (blocks : List (List (Option Row))) (block : List (Option Row)) → has_no_row block ≡ false → blocks_to_last_row (blocks ++ block ∷ []) ≡ suc (length blocks)
 end_row [] block some = ap (λ b. cond (b && true) 0 1) some
 end_row (first ∷ blocks) block some = ap (λ n. cond (has_no_row first && nat_eq n 0) 0 (suc n)) (end_row blocks block some) ∙ by_test (has_no_row first) (length blocks)
   where
@@ -44,18 +41,18 @@ end_row (first ∷ blocks) block some = ap (λ n. cond (has_no_row first && nat_
     by_test false n = refl
 
 module _ (blocks : List (List (Option Row))) (n : ℕ) (within : n < length blocks) where
-  pub end_stays : has_no_row (get_or blocks n []) ≡ true → end_of (take (n + 1) blocks) ≡ end_of (take n blocks)
-  end_stays none = ap end_of (take_more blocks n [] within) ∙ end_empty (take n blocks) (get_or blocks n []) none
+  pub end_stays : has_no_row (get_or blocks n []) ≡ true → blocks_to_last_row (take (n + 1) blocks) ≡ blocks_to_last_row (take n blocks)
+  end_stays none = ap blocks_to_last_row (take_more blocks n [] within) ∙ end_empty (take n blocks) (get_or blocks n []) none
 
-  pub end_moves : has_no_row (get_or blocks n []) ≡ false → end_of (take (n + 1) blocks) ≡ n + 1
-  end_moves some = ap end_of (take_more blocks n [] within) ∙ end_row (take n blocks) (get_or blocks n []) some ∙ last
+  pub end_moves : has_no_row (get_or blocks n []) ≡ false → blocks_to_last_row (take (n + 1) blocks) ≡ n + 1
+  end_moves some = ap blocks_to_last_row (take_more blocks n [] within) ∙ end_row (take n blocks) (get_or blocks n []) some ∙ last
     where
       last : suc (length (take n blocks)) ≡ n + 1
       last = omega (arith, length-take n blocks)
 
 -- what is said of a block is of that block
 pub said_at : (pointers : ℕ → ℕ) (blocks : List (List (Option Row))) (touched : List Bool) (n : ℕ) (one : ChangedBlock) → block_said pointers blocks touched n ≡ Some one → one.block ≡ n
-said_at pointers blocks touched n one e = by_test (get_or touched n false || (nat_le (end_of blocks) n && not (nat_eq (pointers n) 0))) e
+said_at pointers blocks touched n one e = by_test (get_or touched n false || (nat_le (blocks_to_last_row blocks) n && not (nat_eq (pointers n) 0))) e
   where
     by_test : (b : Bool) → cond b (Some (record { block = n; is_zero = has_no_row (get_or blocks n []) })) None ≡ Some one → one.block ≡ n
     by_test true e = sym (ap (λ o. o.block) (some_same e))

@@ -51,10 +51,10 @@ abbrev pub rows_left : List (Option Row) → List Row → List Row
 rows_left slots rows = drop (count_by is_none slots) rows
 
 -- the blocks of a directory after a net, as many as there were, where these rows are new
-abbrev pub blocks_filled : List ℕ → List NetRow → List (List (Option Row)) → List Row → List (List (Option Row))
-blocks_filled directories net [] rows = []
-blocks_filled directories net (block ∷ blocks) rows =
-    fill_front (block_moved directories net block) rows ∷ blocks_filled directories net blocks (rows_left (block_moved directories net block) rows)
+abbrev pub old_blocks_after : List ℕ → List NetRow → List (List (Option Row)) → List Row → List (List (Option Row))
+old_blocks_after directories net [] rows = []
+old_blocks_after directories net (block ∷ blocks) rows =
+    fill_front (block_moved directories net block) rows ∷ old_blocks_after directories net blocks (rows_left (block_moved directories net block) rows)
 
 -- the rows that they leave
 abbrev pub rows_behind : List ℕ → List NetRow → List (List (Option Row)) → List Row → List Row
@@ -62,15 +62,15 @@ rows_behind directories net [] rows = rows
 rows_behind directories net (block ∷ blocks) rows = rows_behind directories net blocks (rows_left (block_moved directories net block) rows)
 
 -- whether a block of a directory changes: its slots have a name of the net, or it takes new rows
-abbrev pub is_touched : List ℕ → List NetRow → List (Option Row) → List Row → Bool
-is_touched directories net block rows =
+abbrev pub block_is_touched : List ℕ → List NetRow → List (Option Row) → List Row → Bool
+block_is_touched directories net block rows =
     list_any (is_in_net net) block || not (length (rows_left (block_moved directories net block) rows) == length rows)
 
 -- which blocks change
 abbrev pub blocks_touched : List ℕ → List NetRow → List (List (Option Row)) → List Row → List Bool
 blocks_touched directories net [] rows = []
 blocks_touched directories net (block ∷ blocks) rows =
-    is_touched directories net block rows ∷ blocks_touched directories net blocks (rows_left (block_moved directories net block) rows)
+    block_is_touched directories net block rows ∷ blocks_touched directories net blocks (rows_left (block_moved directories net block) rows)
 
 -- a block of empty slots
 abbrev pub empty_block : List (Option Row)
@@ -85,10 +85,10 @@ abbrev pub blocks_for : List Row → ℕ
 blocks_for rows = div_ceil (length rows) BLOCK_SLOTS
 
 -- the blocks of a directory after a net
-abbrev pub directory_blocks : List ℕ → List NetRow → List (List (Option Row)) → List (List (Option Row))
-directory_blocks directories net blocks =
+abbrev pub slot_blocks_after : List ℕ → List NetRow → List (List (Option Row)) → List (List (Option Row))
+slot_blocks_after directories net blocks =
     let rest = rows_behind directories net blocks (rows_new directories net) in
-    blocks_filled directories net blocks (rows_new directories net) ++ map (block_added rest) (range_with_len 0 (blocks_for rest))
+    old_blocks_after directories net blocks (rows_new directories net) ++ map (block_added rest) (range_with_len 0 (blocks_for rest))
 
 -- which of them change: all further ones do
 abbrev pub directory_touched : List ℕ → List NetRow → List (List (Option Row)) → List Bool

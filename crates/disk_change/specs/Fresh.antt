@@ -38,14 +38,14 @@ abbrev pub table_at : ℕ → Option Table → Option TxBlock
 table_at block table = if block == 0 then None else Some (record { block = block; bytes = option_map_or (λ t. pointers_bytes t.pointers) table zero_bytes })
 
 -- an indirect block, by its fate
-abbrev pub table_written : TableFate → ℕ → Option Table → Option TxBlock
-table_written Stays block table = None
-table_written Goes block table = None
-table_written IsWritten block table = table_at block table
+abbrev pub indirect_block_written : TableFate → ℕ → Option Table → Option TxBlock
+indirect_block_written Stays block table = None
+indirect_block_written Goes block table = None
+indirect_block_written IsWritten block table = table_at block table
 
 -- the indirect block of a place, as it is written
 abbrev pub table_of_place : Built → ℕ → Option TxBlock
-table_of_place built k = table_written (slice_index_or built.fates k Stays) (slice_index built.meta.indirect k) (find (λ t. t.place == k) built.tables)
+table_of_place built k = indirect_block_written (slice_index_or built.fates k Stays) (slice_index built.meta.indirect k) (find (λ t. t.place == k) built.tables)
 
 -- the fresh blocks that are written of a node
 abbrev pub fresh_written : Built → List Page → List TxBlock

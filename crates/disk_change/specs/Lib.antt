@@ -1,8 +1,10 @@
+pub mod AllBuilt
 pub mod Built
 pub mod Coming
 pub mod CountNets
 pub mod Directory
 pub mod Fresh
+pub mod GivenUp
 pub mod Links
 pub mod Lists
 pub mod Nodes
@@ -10,5 +12,7 @@ pub mod Numbered
 pub mod OldKept
 pub mod Pages
 pub mod Planned
+pub mod Records
 pub mod Seat
 pub mod Seated
+pub mod Written

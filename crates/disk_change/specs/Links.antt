@@ -17,8 +17,8 @@ abbrev pub directory_entering : Enter → Option ℕ
 directory_entering one = if is_directory_kind one.kind then Some one.node.0 else None
 
 -- the directories among the nodes that a commit concerns
-abbrev pub directories_in : List OldEntry → List Enter → List ℕ
-directories_in old enter = filter_map directory_old old ++ filter_map directory_entering enter
+abbrev pub directories_concerned : List OldEntry → List Enter → List ℕ
+directories_concerned old enter = filter_map directory_old old ++ filter_map directory_entering enter
 
 -- the node for whose link count a row of a directory counts: a row that names a directory counts for the one that it is in, and one that
 -- names a file for the file
@@ -44,5 +44,5 @@ abbrev pub links_with : ℕ → ℕ → ℕ → ℕ
 links_with links coming going = min (links + coming - going) (2 ^ 32 - 1)
 
 -- a node's link count after nets
-abbrev pub links_after : List ℕ → List DirectoryNet → ℕ → ℕ → ℕ
-links_after directories nets node links = links_with links (times_in (rows_coming directories nets) node) (times_in (rows_going directories nets) node)
+abbrev pub links_by_nets : List ℕ → List DirectoryNet → ℕ → ℕ → ℕ
+links_by_nets directories nets node links = links_with links (times_in (rows_coming directories nets) node) (times_in (rows_going directories nets) node)

@@ -31,12 +31,12 @@ abbrev pub number_in : List NodeNumber → ℕ → Option ℕ
 number_in numbers node = fold (λ found one. if is_eq (nat_cmp one.node node) then one.number else found) None numbers
 
 -- a row that names another inode
-abbrev pub with_inode : ℕ → Row → Row
-with_inode inode row = record row { inode = inode }
+abbrev pub row_with_inode : ℕ → Row → Row
+row_with_inode inode row = record row { inode = inode }
 
 -- a row with its child's number, where a net has its name: it has named its child by its node so far
 abbrev pub row_numbered : (ℕ → Option ℕ) → List NetRow → Row → Row
-row_numbered number net row = if is_some (row_in_net row.name net) then with_inode (unwrap_or (number row.inode) 0) row else row
+row_numbered number net row = if is_some (row_in_net row.name net) then row_with_inode (unwrap_or (number row.inode) 0) row else row
 
 -- a slot and a block of slots with numbers
 abbrev pub slot_numbered : (ℕ → Option ℕ) → List NetRow → Option Row → Option Row

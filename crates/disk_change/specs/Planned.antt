@@ -9,22 +9,22 @@ use Rattle.disk_change.specs.declared.directory_net.DirectoryNet.{DirectoryNet}
 use Rattle.disk_change.specs.declared.enter.Enter.{Enter}
 use Rattle.disk_change.specs.declared.files.FileChange.{FileChange}
 use Rattle.disk_change.specs.declared.old.OldEntry.{OldEntry}
-use Rattle.disk_change.specs.Links.{directories_in, times_in}
-use Rattle.disk_change.specs.Seated.{Changes, Seated, begun_old, begun_entering, changes_in, seated}
+use Rattle.disk_change.specs.Links.{directories_concerned, times_in}
+use Rattle.disk_change.specs.Seated.{CommitChanges, Seated, begun_old, begun_entering, changes_in, seated}
 
 -- What becomes of the nodes that have an inode afterwards, those that lose theirs, and the changes that make it so.
 pub record Planned : Type 0 where
   pub seats : List Seated
   pub gone : List OldEntry
-  pub changes : Changes
+  pub changes : CommitChanges
 
 -- whether a node's number is listed
-abbrev pub is_listed : List ℕ → OldEntry → Bool
-is_listed numbers entry = not (times_in numbers entry.node.0 == 0)
+abbrev pub has_listed_node : List ℕ → OldEntry → Bool
+has_listed_node numbers entry = not (times_in numbers entry.node.0 == 0)
 
 -- whether a node leaves
 abbrev pub leaves : List NodeId → OldEntry → Bool
-leaves leave entry = is_listed (map node_number leave) entry
+leaves leave entry = has_listed_node (map node_number leave) entry
 
 -- the nodes that keep their inodes, and those that lose them
 abbrev pub staying : List OldEntry → List NodeId → List OldEntry
@@ -34,21 +34,21 @@ abbrev pub leaving : List OldEntry → List NodeId → List OldEntry
 leaving old leave = filter (leaves leave) old
 
 -- what becomes of a node that keeps its inode, and of one that enters
-abbrev pub seated_old : Changes → OldEntry → Seated
+abbrev pub seated_old : CommitChanges → OldEntry → Seated
 seated_old changes entry = seated changes (begun_old entry)
 
-abbrev pub seated_entering : Changes → Enter → Seated
+abbrev pub seated_entering : CommitChanges → Enter → Seated
 seated_entering changes one = seated changes (begun_entering one)
 
 -- what a commit changes, where these nodes have an inode, and these enter and leave
 abbrev pub planned : List OldEntry → List DirectoryNet → List FileChange → List Enter → List NodeId → Planned
 planned old nets files enter leave =
-    let changes = changes_in (directories_in old enter) nets files in
+    let changes = changes_in (directories_concerned old enter) nets files in
     record { seats = map (seated_old changes) (staying old leave) ++ map (seated_entering changes) enter; gone = leaving old leave; changes = changes }
 
 -- how many fresh blocks a node takes
-abbrev pub blocks_of : Seated → ℕ
-blocks_of seat = rank (takes_place (rewrite_of seat.meta seat.tables seat.changed)) PLACES
+abbrev pub blocks_taken : Seated → ℕ
+blocks_taken seat = rank (takes_place (rewrite_of seat.meta seat.tables seat.changed)) PLACES
 
 -- whether a node gets an inode
 abbrev pub enters : Seated → Bool

@@ -13,14 +13,14 @@ abbrev pub has_no_row : List (Option Row) → Bool
 has_no_row block = list_all is_none block
 
 -- how many blocks there are up to the last one that has a row
-abbrev pub end_of : List (List (Option Row)) → ℕ
-end_of [] = 0
-end_of (block ∷ blocks) = if has_no_row block && end_of blocks == 0 then 0 else suc (end_of blocks)
+abbrev pub blocks_to_last_row : List (List (Option Row)) → ℕ
+blocks_to_last_row [] = 0
+blocks_to_last_row (block ∷ blocks) = if has_no_row block && blocks_to_last_row blocks == 0 then 0 else suc (blocks_to_last_row blocks)
 
 -- what is said of block n of a directory: it is rewritten where it changes, or where it is there behind the last one with a row
 abbrev pub block_said : (ℕ → ℕ) → List (List (Option Row)) → List Bool → ℕ → Option ChangedBlock
 block_said pointers blocks touched n =
-    if slice_index_or touched n false || (nat_le (end_of blocks) n && not (pointers n == 0))
+    if slice_index_or touched n false || (nat_le (blocks_to_last_row blocks) n && not (pointers n == 0))
     then Some (record { block = n; is_zero = has_no_row (slice_index_or blocks n []) }) else None
 
 -- the blocks of a directory that are rewritten

@@ -1,5 +1,5 @@
 -- What a commit makes of each node that has an inode afterwards, before it has numbers and fresh blocks.
-use Rattle.std.specs.Prelude.{ℕ, ◌*◌, ◌-◌, ◌^◌, min, List, [], take, replicate, Option, Some, None}
+use Rattle.std.specs.Prelude.{ℕ, ◌*◌, ◌-◌, ◌^◌, ◌≤◌, min, List, [], take, replicate, Option, Some, None}
 use Rattle.std.specs.Option.{option_map_or}
 use Rattle.sfs_base.specs.declared.numbers.Kind.{Kind}
 use Rattle.sfs_base.specs.declared.numbers.Kind.TheVariants.{File, Directory}
@@ -13,20 +13,20 @@ use Rattle.disk_change.specs.declared.directory_net.DirectoryNet.{DirectoryNet}
 use Rattle.disk_change.specs.declared.enter.Enter.{Enter}
 use Rattle.disk_change.specs.declared.files.FileChange.{FileChange}
 use Rattle.disk_change.specs.declared.old.OldEntry.{OldEntry}
-use Rattle.disk_change.specs.Directory.{directory_blocks, directory_touched}
-use Rattle.disk_change.specs.Links.{links_after}
+use Rattle.disk_change.specs.Directory.{slot_blocks_after, directory_touched}
+use Rattle.disk_change.specs.Links.{links_by_nets}
 use Rattle.disk_change.specs.Lists.{item_with}
 use Rattle.disk_change.specs.Nodes.{net_node, file_node}
-use Rattle.disk_change.specs.Seat.{end_of, directory_changed, file_changed}
+use Rattle.disk_change.specs.Seat.{blocks_to_last_row, directory_changed, file_changed}
 
 -- What a commit changes: which of its nodes are directories, the nets of directories, and the changes of files.
-pub record Changes : Type 0 where
+pub record CommitChanges : Type 0 where
   pub directories : List ℕ
   pub nets : List DirectoryNet
   pub files : List FileChange
 
 -- these changes
-abbrev pub changes_in : List ℕ → List DirectoryNet → List FileChange → Changes
+abbrev pub changes_in : List ℕ → List DirectoryNet → List FileChange → CommitChanges
 changes_in directories nets files = record { directories = directories; nets = nets; files = files }
 
 -- A node that has an inode afterwards, with what it begins with: its number, where it has one, its kind, the inode in its record on the
@@ -49,6 +49,11 @@ pub record Seated : Type 0 where
   pub tables : List Table
   pub slots : List (List (Option Row))
   pub changed : List ChangedBlock
+
+-- an inode in use is a file's or a directory's
+pub record IsInUse (inode : Inode) : Type 0 where
+  pub some : 1 ≤ inode.kind
+  pub known : inode.kind ≤ 2
 
 -- the inode of a free record
 abbrev pub free_inode : Inode
@@ -92,26 +97,26 @@ abbrev pub size_of_blocks : ℕ → ℕ
 size_of_blocks count = min (BLOCK_BYTES * count) (2 ^ 64 - 1)
 
 -- what becomes of a directory
-abbrev pub directory_seated : Changes → Begun → Seated
+abbrev pub directory_seated : CommitChanges → Begun → Seated
 directory_seated changes begun =
     let net = net_of_node changes.nets begun.node in
-    let blocks = directory_blocks changes.directories net begun.slots in
+    let blocks = slot_blocks_after changes.directories net begun.slots in
     record {
       node = begun.node;
       number = begun.number;
       before = begun.before;
       meta = record begun.base {
         kind = kind_byte Directory;
-        links = links_after changes.directories changes.nets begun.node begun.base.links;
-        size = size_of_blocks (end_of blocks);
+        links = links_by_nets changes.directories changes.nets begun.node begun.base.links;
+        size = size_of_blocks (blocks_to_last_row blocks);
       };
       tables = begun.tables;
-      slots = take (end_of blocks) blocks;
+      slots = take (blocks_to_last_row blocks) blocks;
       changed = directory_changed (pointer_kept begun.base begun.tables) blocks (directory_touched changes.directories net begun.slots);
     }
 
 -- what becomes of a file
-abbrev pub file_seated : Changes → Begun → Seated
+abbrev pub file_seated : CommitChanges → Begun → Seated
 file_seated changes begun =
     let change = item_with file_node begun.node changes.files in
     record {
@@ -120,7 +125,7 @@ file_seated changes begun =
       before = begun.before;
       meta = record begun.base {
         kind = kind_byte File;
-        links = links_after changes.directories changes.nets begun.node begun.base.links;
+        links = links_by_nets changes.directories changes.nets begun.node begun.base.links;
         size = option_map_or (λ one. one.size) change begun.base.size;
       };
       tables = begun.tables;
@@ -129,9 +134,9 @@ file_seated changes begun =
     }
 
 -- what becomes of a node, by its kind
-abbrev pub seated_as : Kind → Changes → Begun → Seated
+abbrev pub seated_as : Kind → CommitChanges → Begun → Seated
 seated_as File changes begun = file_seated changes begun
 seated_as Directory changes begun = directory_seated changes begun
 
-abbrev pub seated : Changes → Begun → Seated
+abbrev pub seated : CommitChanges → Begun → Seated
 seated changes begun = seated_as begun.kind changes begun

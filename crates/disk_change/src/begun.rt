@@ -1,7 +1,7 @@
 // What a node begins with in a commit.
 ghost use Rattle.std.specs.Prelude.{◌≡◌};
 ghost use Rattle.sfs_image.specs.Slot.{kind_of as kind_of_byte};
-ghost use Rattle.disk_change.specs.Seated.{begun_old, begun_entering, first_links as links_of_kind};
+ghost use Rattle.disk_change.specs.Seated.{begun_old, begun_entering, free_inode, first_links as links_of_kind};
 
 use crate::enter::Enter;
 use crate::kinds::DIRECTORY;
@@ -61,13 +61,7 @@ pub(crate) fn old_node(entry: OldEntry) -> BegunNode
 pub(crate) fn entering_node(alloc: Global, one: Enter) -> BegunNode
     ensures { result ≡ begun_entering one }
 {
-    let free = Inode {
-        kind: 0,
-        links: 0,
-        size: 0,
-        direct: [0; 108],
-        indirect: [0; 16],
-    };
+    let free = free();
     BegunNode {
         node: one.node,
         number: None,
@@ -79,6 +73,19 @@ pub(crate) fn entering_node(alloc: Global, one: Enter) -> BegunNode
         },
         tables: Tables::new(alloc),
         slots: SlotList::new(alloc),
+    }
+}
+
+// The inode of a free record.
+pub(crate) fn free() -> Inode
+    ensures { result ≡ free_inode }
+{
+    Inode {
+        kind: 0,
+        links: 0,
+        size: 0,
+        direct: [0; 108],
+        indirect: [0; 16],
     }
 }
 

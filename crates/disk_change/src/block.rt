@@ -7,7 +7,7 @@ ghost use Rattle.std.specs.List.{list_any};
 ghost use Rattle.std.specs.Option.{option_copied, option_and_then};
 ghost use Rattle.image_tree.specs.Commit.{row_in_net};
 ghost use Rattle.disk_change.specs.Lists.{NamesAscend};
-ghost use Rattle.disk_change.specs.Directory.{row_brought, block_moved, is_in_net, fill_front, rows_left, is_touched};
+ghost use Rattle.disk_change.specs.Directory.{row_brought, block_moved, is_in_net, fill_front, rows_left, block_is_touched};
 
 use crate::kinds::Directories;
 use absorb::NetRow;

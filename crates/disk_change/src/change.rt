@@ -20,9 +20,9 @@ use std::marker::Model;
 /// becomes of each node that has an inode afterwards, and the nodes that lose theirs.
 #[derive(Drop)]
 pub struct DiskChange {
-    seats: Vec<Seat>,
-    gone: Vec<OldEntry>,
-    plans: Plans,
+    pub(crate) seats: Vec<Seat>,
+    pub(crate) gone: Vec<OldEntry>,
+    pub(crate) plans: Plans,
 }
 
 impl Model for DiskChange {
@@ -41,7 +41,7 @@ impl Model for DiskChange {
 ghost use Rattle.std.specs.List.Sorted.{IsSorted};
 ghost use Rattle.std.specs.Ordering.{nat_cmp};
 ghost use Rattle.sfs_tree.specs.NameRow.{node_number};
-ghost use Rattle.disk_change.specs.Planned.{planned, seated_old, is_listed, enters, blocks_of, as_u32};
+ghost use Rattle.disk_change.specs.Planned.{planned, seated_old, has_listed_node, enters, blocks_taken, as_u32};
 ghost use Rattle.disk_change.specs.Links.{times_in};
 ghost use Rattle.disk_change.specs.Seated.{changes_in};
 
@@ -92,8 +92,8 @@ struct Parted {
 fn part_old(alloc: Global, old: OldDisk, leaving: &[u32], plans: &Plans) -> Result<Parted, NoMemory>
     requires { IsSorted nat_cmp leaving.now }
     ensures seats { IfOk result (λ split. split.seats.items
-        ≡ map (seated_old (changes_in plans.now.directories plans.now.nets.items plans.now.files.items)) (filter (λ entry. not (is_listed leaving.now entry)) old.items)) }
-    ensures gone { IfOk result (λ split. split.gone.items ≡ filter (is_listed leaving.now) old.items) }
+        ≡ map (seated_old (changes_in plans.now.directories plans.now.nets.items plans.now.files.items)) (filter (λ entry. not (has_listed_node leaving.now entry)) old.items)) }
+    ensures gone { IfOk result (λ split. split.gone.items ≡ filter (has_listed_node leaving.now) old.items) }
 {
     let mut seats = Vec::new(alloc);
     let mut gone = Vec::new(alloc);
@@ -112,7 +112,7 @@ fn part_old(alloc: Global, old: OldDisk, leaving: &[u32], plans: &Plans) -> Resu
 /// no memory.
 pub fn need(change: &DiskChange) -> Need
     ensures inodes { result.inodes ≡ as_u32 (count_by enters change.now.seats) }
-    ensures blocks { result.blocks ≡ as_u32 (sum_by blocks_of change.now.seats) }
+    ensures blocks { result.blocks ≡ as_u32 (sum_by blocks_taken change.now.seats) }
 {
     let mut inodes: u32 = 0;
     let mut blocks: u32 = 0;

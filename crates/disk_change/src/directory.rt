@@ -1,7 +1,7 @@
 // The blocks of a directory after a net.
 ghost use Rattle.std.specs.Prelude.{◌≡◌, reverse, IfOk, OnOk};
 ghost use Rattle.disk_change.specs.Lists.{NamesAscend};
-ghost use Rattle.disk_change.specs.Directory.{rows_new, row_new, block_moved, fill_front, rows_left, is_touched, directory_blocks, directory_touched};
+ghost use Rattle.disk_change.specs.Directory.{rows_new, row_new, block_moved, fill_front, rows_left, block_is_touched, slot_blocks_after, directory_touched};
 
 use crate::block::{brought, fill, move_rows};
 use crate::kinds::Directories;
@@ -26,7 +26,7 @@ pub(crate) fn directory_after(
     directories: &Directories,
 ) -> Result<DirectoryAfter, NoMemory>
     requires { NamesAscend net.now }
-    ensures blocks { IfOk result (λ after. after.blocks.items ≡ directory_blocks directories.now net.now slots.items) }
+    ensures blocks { IfOk result (λ after. after.blocks.items ≡ slot_blocks_after directories.now net.now slots.items) }
     ensures touched { IfOk result (λ after. after.touched.items ≡ directory_touched directories.now net.now slots.items) }
 {
     let mut waiting = new_rows(alloc, net, directories)?;
@@ -91,7 +91,7 @@ fn block_after(
     requires { NamesAscend net.now }
     ensures block { IfOk result (λ after. after.block ≡ fill_front (block_moved directories.now net.now block) (reverse waiting.old.items)) }
     ensures left { OnOk result (reverse waiting.new.items ≡ rows_left (block_moved directories.now net.now block) (reverse waiting.old.items)) }
-    ensures touched { IfOk result (λ after. after.is_touched ≡ is_touched directories.now net.now block (reverse waiting.old.items)) }
+    ensures touched { IfOk result (λ after. after.is_touched ≡ block_is_touched directories.now net.now block (reverse waiting.old.items)) }
 {
     let moved = move_rows(&mut block, net, directories)?;
     let before = waiting.len();

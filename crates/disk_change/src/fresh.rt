@@ -7,7 +7,7 @@ ghost use Rattle.sfs_image.specs.Inode.{pointers_bytes};
 ghost use Rattle.sfs_image.specs.SlotBlock.{slots_bytes};
 ghost use Rattle.disk_change.specs.Lists.{item_with};
 ghost use Rattle.disk_change.specs.Pages.{page_block};
-ghost use Rattle.disk_change.specs.Fresh.{zero_bytes, content_of, data_written, table_written as written_by_fate, table_at, table_of_place, fresh_written};
+ghost use Rattle.disk_change.specs.Fresh.{zero_bytes, content_of, data_written, indirect_block_written as written_by_fate, table_at, table_of_place, fresh_written};
 
 use crate::kinds::DIRECTORY;
 use crate::node_built::NodeBuilt;

@@ -3,7 +3,7 @@ ghost use Rattle.std.specs.Prelude.{◌≡◌, ◌++◌, IfOk, OnOk, option_to_l
 ghost use Rattle.std.specs.List.Sorted.{IsStrictlyIncreasing};
 ghost use Rattle.sfs_tree.specs.Tree.{kind_if};
 ghost use Rattle.disk_change.specs.Directory.{is_among};
-ghost use Rattle.disk_change.specs.Links.{directories_in, directory_old, directory_entering};
+ghost use Rattle.disk_change.specs.Links.{directories_concerned, directory_old, directory_entering};
 
 use crate::enter::{Enter, EnterList};
 use crate::old::{OldDisk, OldEntry};
@@ -42,7 +42,7 @@ impl Directories {
         old: &OldDisk,
         enter: &EnterList,
     ) -> Result<Directories, NoMemory>
-        ensures { IfOk result (λ directories. directories ≡ directories_in old.now.items enter.now.items) }
+        ensures { IfOk result (λ directories. directories ≡ directories_concerned old.now.items enter.now.items) }
     {
         let mut directories = Vec::new(alloc);
         for entry in old.as_slice() {

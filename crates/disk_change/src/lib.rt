@@ -1,6 +1,8 @@
 //! What a commit writes: from net changes to the records and blocks of a transaction.
 #![tactic(auto)]
 
+mod after;
+mod all_built;
 mod begun;
 mod block;
 mod change;
@@ -9,6 +11,7 @@ mod directory_net;
 mod enter;
 mod files;
 mod fresh;
+mod given_up;
 mod kinds;
 mod links;
 mod net_list;
@@ -17,8 +20,10 @@ mod numbers;
 mod old;
 mod pages;
 mod plans;
+mod records;
 mod rewritten;
 mod seat;
+mod transaction;
 
 pub use change::{DiskChange, need};
 pub use directory_net::DirectoryNet;
@@ -27,3 +32,4 @@ pub use files::{FileChange, FileChangeList};
 pub use net_list::NetList;
 pub use old::{OldDisk, OldEntry, OldNode};
 pub use pages::{Page, PageList};
+pub use transaction::{Built, build};

@@ -34,6 +34,7 @@ pub(crate) struct NodeBuilt {
 
 impl Model for NodeBuilt {
     ghost use Rattle.disk_change.specs.Built.{Built};
+    ghost use Rattle.disk_change.specs.Seated.{IsInUse};
 
     ghost Value = { Built };
 
@@ -47,6 +48,8 @@ impl Model for NodeBuilt {
       changed = b.changed.items;
       fates = b.fates;
     } };
+
+    ghost invariant = { λ b. IsInUse b.meta };
 }
 
 // A node that is built, and the blocks that it gives up.

@@ -78,7 +78,7 @@ pub(crate) fn by_node(
 }
 
 // The number of a node, and 0 for one that the commit does not have.
-fn number_of(numbers: &BTreeMap<u32, Option<u32>>, node: u32) -> u32
+pub(crate) fn number_of(numbers: &BTreeMap<u32, Option<u32>>, node: u32) -> u32
     ensures { result ≡ unwrap_or (unwrap_or (get nat_cmp numbers.now node) None) 0 }
 {
     match numbers.get(&node) {

@@ -145,6 +145,14 @@ impl OldDisk {
         }
     }
 
+    // The list of entries that ascend by node.
+    pub(crate) fn from_vec(items: Vec<OldEntry>) -> OldDisk
+        requires { AscendBy entry_node items.items }
+        ensures { result.items ≡ items.items }
+    {
+        OldDisk { items }
+    }
+
     // The entries, ascending by node.
     pub(crate) fn into_vec(self) -> Vec<OldEntry>
         ensures { result.items ≡ self.items }

@@ -2,7 +2,7 @@
 ghost use Rattle.std.specs.Prelude.{◌≡◌, ◌≤◌, ◌<◌, length, IfOk};
 ghost use Rattle.sfs_image.specs.Seen.{FILE_BLOCKS};
 ghost use Rattle.block_map.specs.Kept.{pointer_kept};
-ghost use Rattle.disk_change.specs.Seat.{has_no_row, end_of as rows_end, directory_changed as blocks_changed, file_changed as pages_changed, block_said, page_said as said_of_page};
+ghost use Rattle.disk_change.specs.Seat.{has_no_row, blocks_to_last_row as rows_end, directory_changed as blocks_changed, file_changed as pages_changed, block_said, page_said as said_of_page};
 
 use crate::pages::{Page, PageList};
 use block_map::{Changed, ChangedBlock, block_at};

@@ -34,7 +34,7 @@ pub(crate) struct Seat {
 }
 
 impl Model for Seat {
-    ghost use Rattle.disk_change.specs.Seated.{Seated};
+    ghost use Rattle.disk_change.specs.Seated.{Seated, IsInUse};
 
     ghost Value = { Seated };
 
@@ -47,6 +47,8 @@ impl Model for Seat {
       slots = s.slots.items;
       changed = s.changed.items;
     } };
+
+    ghost invariant = { λ s. IsInUse s.meta };
 }
 
 // What becomes of a node.
@@ -110,7 +112,7 @@ fn size_of(count: usize) -> u64
 }
 
 // The rows of a directory's net, none where it has none.
-fn net_of(nets: &NetList, node: NodeId) -> &[NetRow]
+pub(crate) fn net_of(nets: &NetList, node: NodeId) -> &[NetRow]
     ensures rows { result.now ≡ net_of_node nets.now.items node.0 }
     ensures ascending { NamesAscend result.now }
 {

@@ -14,7 +14,7 @@ use borrow.Author.Tests.{eq-eqb}
 use Rattle.sfs_image.specs.SlotBlock.{slots_of, slot_in}
 use Rattle.sfs_image.specs.Part.{Part, seen_of, inode_in, directory_blocks}
 use Rattle.sfs_base.proofs.BasicLists.{take_none}
-use Rattle.sfs_base.proofs.BasicNumbers.{from_zero_plus, le_itself}
+use Rattle.sfs_base.proofs.BasicNumbers.{from_zero_plus, le_itself, suc_joins}
 use Rattle.image_tree.specs.Slots.{BLOCK_SLOTS, at_length, blocks_up_to_last}
 use Rattle.image_tree.specs.Stands.{BLOCK_BYTES}
 use Rattle.image_tree.specs.Need.{slots_in_block}
@@ -50,17 +50,14 @@ drop_from_none : (n : ℕ) → ◌≡◌ {A = List (Option Row)} (drop n []) []
 drop_from_none zero = refl
 drop_from_none (suc n) = refl
 
-moved : (a b : ℕ) → suc (a + b) ≡ suc a + b
-moved a b = omega arith
-
 padded_further : (a b : ℕ) (slots : List (Option Row)) → padded a slots ++ padded b (drop a slots) ≡ padded (a + b) slots
 unfolding padded
 padded_further zero b slots = ap (padded b) (drop_nothing slots) ∙ ap (λ n. padded n slots) (from_zero_plus b)
 padded_further (suc a) b [] =
     ap (λ l. None ∷ padded a [] ++ padded b l) (drop_from_none (suc a) ∙ sym (drop_from_none a))
     ∙ ap (λ l. None ∷ l) (padded_further a b [])
-    ∙ ap (λ n. padded n []) (moved a b)
-padded_further (suc a) b (slot ∷ slots) = ap (λ l. slot ∷ l) (padded_further a b slots) ∙ ap (λ n. padded n (slot ∷ slots)) (moved a b)
+    ∙ ap (λ n. padded n []) (suc_joins a b)
+padded_further (suc a) b (slot ∷ slots) = ap (λ l. slot ∷ l) (padded_further a b slots) ∙ ap (λ n. padded n (slot ∷ slots)) (suc_joins a b)
 
 -- the slots of the first blocks
 first_blocks : (part : Part) (slots : List (Option Row)) → HasSlotBlocks part slots → (k : ℕ) → k ≤ blocks_up_to_last slots → flat_map slots_of (take k part.blocks) ≡ padded (BLOCK_SLOTS * k) slots

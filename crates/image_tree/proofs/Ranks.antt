@@ -10,7 +10,7 @@ use Rattle.image_tree.specs.Commit.{Commit, seen_before, HasBlock, hole, kept, f
 use Rattle.image_tree.specs.Need.{Rewrite, rewrites_table, table_has_pointer, takes_place, pointer_after, place_in_row, takes_in_row, rank, RanksServe, GrantServes, IsListed, TakesByRank}
 use Rattle.image_tree.specs.Laws.{RanksServeGrants, RanksTakeFreeBlocks, RanksGoOn}
 use Rattle.sfs_base.proofs.BasicOptions.{none_some, some_same}
-use Rattle.sfs_base.proofs.BasicNumbers.{from_plus_zero, zero_plus, plus_zero}
+use Rattle.sfs_base.proofs.BasicNumbers.{from_plus_zero, zero_plus, plus_zero, suc_moves}
 
 module _ (takes : ℕ → Bool) where
   count_more : (a n : ℕ) → count_by takes (range_with_len a (suc n)) ≡ count_by takes (range_with_len a n) + cond (takes (a + n)) 1 0
@@ -22,17 +22,14 @@ module _ (takes : ℕ → Bool) where
       let first = count-cons takes a (range_with_len (a + 1) (suc n)) in
       let rest = count_more (a + 1) n in
       let again = count-cons takes a (range_with_len (a + 1) n) in
-      let last : cond {A = ℕ} (takes (a + 1 + n)) 1 0 ≡ cond (takes (a + suc n)) 1 0 = ap (λ m. cond {A = ℕ} (takes m) 1 0) (moved a n) in
+      let last : cond {A = ℕ} (takes (a + 1 + n)) 1 0 ≡ cond (takes (a + suc n)) 1 0 = ap (λ m. cond {A = ℕ} (takes m) 1 0) (suc_moves a n) in
       omega arith
-    where
-      moved : (a n : ℕ) → a + 1 + n ≡ a + suc n
-      moved a n = omega arith
 
-  rank_more : (p : ℕ) → rank takes (suc p) ≡ rank takes p + cond (takes p) 1 0
+  pub rank_more : (p : ℕ) → rank takes (suc p) ≡ rank takes p + cond (takes p) 1 0
   unfolding rank
   rank_more p = count_more 0 p ∙ ap (λ m. count_by takes (range_with_len 0 p) + cond (takes m) 1 0) (zero_plus p)
 
-  rank_up : (p more : ℕ) → rank takes p ≤ rank takes (p + more)
+  pub rank_up : (p more : ℕ) → rank takes p ≤ rank takes (p + more)
   rank_up p zero = let e = ap (rank takes) (plus_zero p) in omega arith
   rank_up p (suc more) =
       let rest = rank_up p more in

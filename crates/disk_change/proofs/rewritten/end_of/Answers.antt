@@ -1,6 +1,6 @@
 use Rattle.std.proofs.Common.{◌<◌, length, sym, ap, ◌∙◌, arith, []}
 use Rattle.std.proofs.lemmas.List.{get_or_default, take_all}
-use Rattle.disk_change.specs.Seat.{has_no_row, end_of}
+use Rattle.disk_change.specs.Seat.{has_no_row, blocks_to_last_row}
 use Rattle.disk_change.proofs.Rewriting.{end_stays, end_moves}
 use Rattle.disk_change.proofs.rewritten.end_of.Goals as goal
 use Rattle.disk_change.proofs.rewritten.end_of.Goals.{then-not-is_empty, else-not-is_empty}
@@ -15,4 +15,4 @@ loop-n-preserved c =
     ]
 
 pub returns : goal.returns
-returns c = c.loop-n.invariant ∙ ap end_of (take_all c.loop-n.n c.args.blocks.now (omega arith))
+returns c = c.loop-n.invariant ∙ ap blocks_to_last_row (take_all c.loop-n.n c.args.blocks.now (omega arith))

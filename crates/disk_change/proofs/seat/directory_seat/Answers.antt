@@ -1,9 +1,9 @@
 use Rattle.std.proofs.Common.{sym, ap, ◌∙◌, length, take}
 use Rattle.block_map.specs.Kept.{pointer_kept}
 use Rattle.sfs_image.specs.Inode.{Inode}
-use Rattle.disk_change.specs.Directory.{directory_blocks, directory_touched}
+use Rattle.disk_change.specs.Directory.{slot_blocks_after, directory_touched}
 use Rattle.disk_change.specs.Links.{links_with}
-use Rattle.disk_change.specs.Seat.{end_of, directory_changed}
+use Rattle.disk_change.specs.Seat.{blocks_to_last_row, directory_changed}
 use Rattle.disk_change.specs.Seated.{size_of_blocks}
 use Rattle.disk_change.proofs.Directories.{length-directory}
 use Rattle.disk_change.proofs.seat.directory_seat.Goals as goal
@@ -19,9 +19,9 @@ returns c =
     let slots = c.begun.inside.slots.items in
     let base : Inode = c.begun.inside.base in
     let node = c.begun.inside.node.0 in
-    let blocks = c.in_ok-after.ensures.blocks ∙ ap (λ net. directory_blocks dirs net slots) c.net_of-net.ensures.rows in
+    let blocks = c.in_ok-after.ensures.blocks ∙ ap (λ net. slot_blocks_after dirs net slots) c.net_of-net.ensures.rows in
     let touched = c.in_ok-after.ensures.touched ∙ ap (λ net. directory_touched dirs net slots) c.net_of-net.ensures.rows in
-    let end = c.end_of-end.ensures ∙ ap end_of (c.deref-3.ensures.value ∙ blocks) in
+    let end = c.end_of-end.ensures ∙ ap blocks_to_last_row (c.deref-3.ensures.value ∙ blocks) in
     let base_is = c.base.view_is in
     let counted = c.args.plans.now.counted in
     let links = c.links_after-links.ensures ∙ (λ i. links_with (base_is i).links (counted.coming node i) (counted.going node i)) in
