@@ -18,7 +18,6 @@ pub mod PartsSound
 pub mod PointersJudged
 pub mod Putting
 pub mod ReachedShown
-pub mod ReadRuns
 pub mod Refusals
 pub mod RowsCounted
 pub mod RowsGathered

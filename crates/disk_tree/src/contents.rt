@@ -2,7 +2,8 @@
 ghost use Rattle.std.specs.Prelude.{◌≡◌, ℕ, ◌*◌, ◌<◌, ◌≤◌, length, IfOk, IfErr};
 ghost use Rattle.sfs_image.specs.Seen.{FILE_BLOCKS};
 ghost use Rattle.block_map.specs.Kept.{block_kept};
-ghost use Rattle.disk_tree.specs.Cause.{OnlyReads};
+ghost use Rattle.sfs_dev.specs.Run.{OnlyReads};
+ghost use Rattle.disk_tree.specs.Cause.{is_tree_disk_fault};
 ghost use Rattle.disk_tree.specs.Contents.{AreReadContents, blocks_of_size};
 ghost use Rattle.disk_tree.specs.Gathered.{tables_at};
 ghost use Rattle.disk_tree.specs.Inodes.{inode_at};
@@ -34,7 +35,7 @@ pub fn gather_contents<D: Disk>(
     requires within { (i n : ℕ) → i < length inodes.now → n < FILE_BLOCKS
         → block_kept (inode_at inodes.now i) (tables_at tables.now i) n < (D.view disk.old).size }
     ensures ok { IfOk result (λ contents. AreReadContents (D.view disk.old).content inodes.now tables.now (length inodes.now) contents.items) }
-    ensures reads { OnlyReads (D.view disk.old) (D.view disk.new) result }
+    ensures reads { OnlyReads is_tree_disk_fault (D.view disk.old) (D.view disk.new) result }
     ensures plain { IfErr result IsPlain }
 {
     let mut list = Vec::new(alloc);
@@ -55,7 +56,7 @@ fn content_of<D: Disk>(
     requires size { inode.now.size ≤ 4096 * FILE_BLOCKS }
     requires within { (n : ℕ) → n < FILE_BLOCKS → block_kept inode.now tables.now.items n < (D.view disk.old).size }
     ensures ok { IfOk result (λ bytes. HasContent (D.view disk.old).content inode.now tables.now.items (blocks_of_size inode.now.size) bytes.items) }
-    ensures reads { OnlyReads (D.view disk.old) (D.view disk.new) result }
+    ensures reads { OnlyReads is_tree_disk_fault (D.view disk.old) (D.view disk.new) result }
     ensures plain { IfErr result IsPlain }
 {
     let count = inode.size.div_ceil(BLOCK_BYTES) as u32;

@@ -2,7 +2,8 @@
 ghost use Rattle.std.specs.Prelude.{◌≡◌, ℕ, ◌+◌, ◌<◌, ◌≤◌, All, slice_index, IfOk, IfErr, OnOk};
 ghost use Rattle.sfs_image.specs.Seen.{FILE_BLOCKS};
 ghost use Rattle.block_map.specs.Kept.{block_kept};
-ghost use Rattle.disk_tree.specs.Cause.{OnlyReads};
+ghost use Rattle.sfs_dev.specs.Run.{OnlyReads};
+ghost use Rattle.disk_tree.specs.Cause.{is_tree_disk_fault};
 ghost use Rattle.disk_tree.specs.Judged.{IsPlain};
 ghost use Rattle.disk_tree.specs.Reading.{IsReadBlock, IsNextTable, HasTables, HasContent};
 
@@ -27,7 +28,7 @@ fn read_block<D: Disk>(
 ) -> Result<(), TreeFault>
     requires { pointer < (D.view disk.old).size }
     ensures ok { OnOk result (IsReadBlock (D.view disk.old).content pointer block.new) }
-    ensures reads { OnlyReads (D.view disk.old) (D.view disk.new) result }
+    ensures reads { OnlyReads is_tree_disk_fault (D.view disk.old) (D.view disk.new) result }
     ensures plain { IfErr result IsPlain }
 {
     if pointer == 0 {
@@ -42,7 +43,7 @@ fn read_block<D: Disk>(
 pub fn read_tables<D: Disk>(alloc: Global, disk: &mut D, inode: &Inode) -> Result<Tables, TreeFault>
     requires { (k : ℕ) → slice_index inode.now.indirect k < (D.view disk.old).size }
     ensures ok { IfOk result (λ tables. HasTables (D.view disk.old).content inode.now tables.items) }
-    ensures reads { OnlyReads (D.view disk.old) (D.view disk.new) result }
+    ensures reads { OnlyReads is_tree_disk_fault (D.view disk.old) (D.view disk.new) result }
     ensures plain { IfErr result IsPlain }
 {
     let mut tables = Tables::new(alloc);
@@ -64,7 +65,7 @@ fn read_table<D: Disk>(
     requires place { place < 16 }
     requires above { All (λ t. t.place < place) tables.old.items }
     ensures ok { OnOk result (IsNextTable (D.view disk.old).content inode.now place tables.old.items tables.new.items) }
-    ensures reads { OnlyReads (D.view disk.old) (D.view disk.new) result }
+    ensures reads { OnlyReads is_tree_disk_fault (D.view disk.old) (D.view disk.new) result }
     ensures plain { IfErr result IsPlain }
 {
     let pointer = inode.indirect[place as usize];
@@ -90,7 +91,7 @@ pub fn read_content<D: Disk>(
     requires count { count ≤ FILE_BLOCKS }
     requires within { (n : ℕ) → n < count → block_kept inode.now tables.now.items n < (D.view disk.old).size }
     ensures ok { IfOk result (λ bytes. HasContent (D.view disk.old).content inode.now tables.now.items count bytes.items) }
-    ensures reads { OnlyReads (D.view disk.old) (D.view disk.new) result }
+    ensures reads { OnlyReads is_tree_disk_fault (D.view disk.old) (D.view disk.new) result }
     ensures plain { IfErr result IsPlain }
 {
     let mut bytes = Vec::new(alloc);

@@ -3,7 +3,8 @@ ghost use Rattle.std.specs.Prelude.{◌≡◌, ℕ, ◌+◌, ◌*◌, ◌^◌, �
 ghost use Rattle.std.specs.Option.{option_copied};
 ghost use Rattle.sfs_image.specs.Inode.{IsInode};
 ghost use Rattle.sfs_image.specs.Super.{InRange, IsLayout, data_start};
-ghost use Rattle.disk_tree.specs.Cause.{OnlyReads};
+ghost use Rattle.sfs_dev.specs.Run.{OnlyReads};
+ghost use Rattle.disk_tree.specs.Cause.{is_tree_disk_fault};
 ghost use Rattle.disk_tree.specs.Judged.{IsPlain, IsReadRefusal};
 ghost use Rattle.disk_tree.specs.Gathered.{AreTables, BreaksFourth};
 ghost use Rattle.disk_tree.specs.Pointers.{points_well as are_well, some_points_badly, record_points_badly, table_points_badly, tables_point_badly, FindsTables};
@@ -36,7 +37,7 @@ pub fn gather_tables<D: Disk>(
     requires few { length inodes.now ≤ 16384 }
     ensures ok { IfOk result (λ tables. AreTables (D.view disk.old).content layout.now inodes.now (length inodes.now) tables.items) }
     ensures bad { IfErr result (IsReadRefusal (BreaksFourth (D.view disk.old).content layout.now inodes.now)) }
-    ensures reads { OnlyReads (D.view disk.old) (D.view disk.new) result }
+    ensures reads { OnlyReads is_tree_disk_fault (D.view disk.old) (D.view disk.new) result }
 {
     let mut list = Vec::new(alloc);
     for (place, inode) in inodes.iter().enumerate() {
@@ -63,7 +64,7 @@ fn judged_tables<D: Disk>(
     requires layout { IsLayout (D.view disk.old).size layout.now }
     requires inode { IsInode inode.now }
     ensures ok { IfOk result (λ found. FindsTables (D.view disk.old).content layout.now inode.now found) }
-    ensures reads { OnlyReads (D.view disk.old) (D.view disk.new) result }
+    ensures reads { OnlyReads is_tree_disk_fault (D.view disk.old) (D.view disk.new) result }
     ensures plain { IfErr result IsPlain }
 {
     if inode.kind == 0 {

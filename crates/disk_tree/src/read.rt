@@ -1,7 +1,8 @@
 // Reading a tree: first what the disk has of the inodes, then the rules in their order, then the tree.
 ghost use Rattle.std.specs.Prelude.{◌≡◌, length, IfOk, IfErr};
 ghost use Rattle.sfs_image.specs.Super.{IsLayout};
-ghost use Rattle.disk_tree.specs.Cause.{OnlyReads};
+ghost use Rattle.sfs_dev.specs.Run.{OnlyReads};
+ghost use Rattle.disk_tree.specs.Cause.{is_tree_disk_fault};
 ghost use Rattle.disk_tree.specs.Found.{WereReadWell, IsFoundIn};
 ghost use Rattle.disk_tree.specs.Judged.{IsReadRefusal, Refused};
 
@@ -41,7 +42,7 @@ pub fn read_tree<D: Disk>(
     requires count { length records.now.items ≡ layout.now.inodes }
     ensures ok { IfOk result (IsFoundIn (D.view disk.old).content layout.now records.now.items) }
     ensures bad { IfErr result (IsReadRefusal (Refused (D.view disk.old).content layout.now records.now.items)) }
-    ensures reads { OnlyReads (D.view disk.old) (D.view disk.new) result }
+    ensures reads { OnlyReads is_tree_disk_fault (D.view disk.old) (D.view disk.new) result }
 {
     let read = read_all(alloc, disk, layout, records)?;
     let rows = gather_rows(alloc, &read.slots)?;
@@ -62,7 +63,7 @@ fn read_all<D: Disk>(
     requires count { length records.now.items ≡ layout.now.inodes }
     ensures ok { IfOk result (WereReadWell (D.view disk.old).content layout.now records.now.items) }
     ensures bad { IfErr result (IsReadRefusal (Refused (D.view disk.old).content layout.now records.now.items)) }
-    ensures reads { OnlyReads (D.view disk.old) (D.view disk.new) result }
+    ensures reads { OnlyReads is_tree_disk_fault (D.view disk.old) (D.view disk.new) result }
 {
     let inodes = read_inodes(alloc, layout, records)?;
     let tables = tables_of(alloc, disk, layout, records, &inodes)?;

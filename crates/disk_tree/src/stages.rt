@@ -3,7 +3,8 @@ ghost use Rattle.std.specs.Prelude.{◌≡◌, length, map, All, IfOk, IfErr};
 ghost use Rattle.sfs_image.specs.Inode.{IsInode, inode_of};
 ghost use Rattle.sfs_image.specs.Super.{IsLayout};
 ghost use Rattle.disk_tree.specs.Blocks.{ReadWell};
-ghost use Rattle.disk_tree.specs.Cause.{OnlyReads};
+ghost use Rattle.sfs_dev.specs.Run.{OnlyReads};
+ghost use Rattle.disk_tree.specs.Cause.{is_tree_disk_fault};
 ghost use Rattle.disk_tree.specs.Gathered.{KeepPointerRules};
 ghost use Rattle.disk_tree.specs.Inodes.{KeepRecordRules};
 ghost use Rattle.disk_tree.specs.Judged.{IsReadRefusal, Refused};
@@ -35,7 +36,7 @@ pub fn tables_of<D: Disk>(
     ensures count { IfOk result (λ tables. length tables.items ≡ layout.now.inodes) }
     ensures keep { IfOk result (λ tables. KeepPointerRules (D.view disk.old).content layout.now records.now.items tables.items) }
     ensures bad { IfErr result (IsReadRefusal (Refused (D.view disk.old).content layout.now records.now.items)) }
-    ensures reads { OnlyReads (D.view disk.old) (D.view disk.new) result }
+    ensures reads { OnlyReads is_tree_disk_fault (D.view disk.old) (D.view disk.new) result }
 {
     let _ = records.len();
     let tables = match gather_tables(alloc, disk, layout, inodes) {
@@ -66,7 +67,7 @@ pub fn bytes_of<D: Disk>(
     requires keep { KeepPointerRules (D.view disk.old).content layout.now records.now.items tables.now }
     ensures ok { IfOk result (λ read. ReadWell (D.view disk.old).content layout.now records.now.items inodes.now tables.now read.0.items read.1.items) }
     ensures bad { IfErr result (IsReadRefusal (Refused (D.view disk.old).content layout.now records.now.items)) }
-    ensures reads { OnlyReads (D.view disk.old) (D.view disk.new) result }
+    ensures reads { OnlyReads is_tree_disk_fault (D.view disk.old) (D.view disk.new) result }
 {
     let _ = (records.len(), layout.inodes);
     let contents = gather_contents(alloc, disk, inodes, tables)?;

@@ -1,5 +1,5 @@
 use Rattle.std.proofs.Common.{ℕ, subst, arith, ◌≡◌}
-use Rattle.disk_tree.proofs.ReadRuns.{read_more}
+use Rattle.sfs_dev.proofs.ReadRuns.{read_more_by}
 use Rattle.disk_tree.proofs.TablesRead.{TablesSoFar, all_below, next_table, told_same, all_tables}
 use Rattle.disk_tree.proofs.gather.read_tables.Goals as goal
 
@@ -8,7 +8,7 @@ read_table-requires-clause-above g c κs within = all_below _ c.args.inode.now c
 
 pub loop-place-preserved : goal.loop-place-preserved
 loop-place-preserved g c = record {
-  run = read_more _ _ _ c.loop-place.invariant.run c.read_table.result _ c.in_ok-read_table.was c.read_table.ensures.reads;
+  run = read_more_by _ _ _ c.read_table.result _ c.loop-place.invariant.run c.in_ok-read_table.was c.read_table.ensures.reads;
   tables = next_table _ c.args.inode.now c.loop-place.place _ _ c.loop-place.invariant.tables (told_same _ _ c.args.inode.now c.loop-place.place _ _ c.loop-place.invariant.run.unwritten.content c.in_ok-read_table.ensures.ok);
 }
 
