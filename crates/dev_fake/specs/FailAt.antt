@@ -15,11 +15,11 @@ abbrev pub listed_of : FailAt → List ℕ
 listed_of fake = fake.calls.items
 
 -- the number of the next device call: how many were made, up to the last value of a `u64`
-abbrev pub next_number : FailAt → ℕ
-next_number fake = fake.next
+abbrev pub next_call_number : FailAt → ℕ
+next_call_number fake = fake.next
 
 -- A device call: it fails where its number is listed, and is passed on otherwise; it is counted.
 pub record IsFailAtCall {V E : Type 0} (act : Act) (bytes : List ℕ) (old new : FailAt) (result : Result V E) : Type 0 where
-  pub call : IsCallUnder (is_listed (listed_of old) (next_number old)) act bytes (disk_of old) (disk_of new) result
-  pub next : next_number new ≡ min (next_number old + 1) (2 ^ 64 - 1)
+  pub call : IsCallUnder (is_listed (listed_of old) (next_call_number old)) act bytes (disk_of old) (disk_of new) result
+  pub next : next_call_number new ≡ min (next_call_number old + 1) (2 ^ 64 - 1)
   pub listed : listed_of new ≡ listed_of old

@@ -1,6 +1,6 @@
 ghost use Rattle.std.specs.Prelude.{◌≡◌, ◌+◌, ◌-◌, ◌^◌, min};
 ghost use Rattle.sfs_base.specs.Listed.{is_listed};
-ghost use Rattle.dev_fake.specs.FailAt.{disk_of, listed_of, next_number};
+ghost use Rattle.dev_fake.specs.FailAt.{disk_of, listed_of, next_call_number};
 
 use sfs_base::Failed;
 use sfs_dev::{Disk, Memory};
@@ -22,7 +22,7 @@ impl FailAt {
     pub fn new(disk: Memory, calls: Vec<u64>) -> FailAt
         ensures disk { disk_of result ≡ disk }
         ensures listed { listed_of result ≡ calls.items }
-        ensures next { next_number result ≡ 0 }
+        ensures next { next_call_number result ≡ 0 }
     {
         FailAt {
             disk,
@@ -40,8 +40,8 @@ impl FailAt {
 
     // Whether the next device call is listed; it is counted.
     fn is_next_listed(&mut self) -> bool
-        ensures listed { result ≡ is_listed (listed_of self.old) (next_number self.old) }
-        ensures next { next_number self.new ≡ min (next_number self.old + 1) (2 ^ 64 - 1) }
+        ensures listed { result ≡ is_listed (listed_of self.old) (next_call_number self.old) }
+        ensures next { next_call_number self.new ≡ min (next_call_number self.old + 1) (2 ^ 64 - 1) }
         ensures same { listed_of self.new ≡ listed_of self.old }
         ensures disk { disk_of self.new ≡ disk_of self.old }
     {

@@ -11,7 +11,7 @@ use Rattle.flush_core.specs.declared.event.Event.TheVariants as event
 use Rattle.flush_core.specs.Cut.{Cut, cut_of}
 use Rattle.flush_core.specs.Rules.{IsOneOf}
 use Rattle.flush_core.specs.Closure.{every_entry, Flush, HasLiveNode, AreRaised, none, one_more}
-use Rattle.flush_core.specs.Machine.{Flight, MachineState, opened_for, kept_flushes, IsRaisedBy, Accepts}
+use Rattle.flush_core.specs.Machine.{Flight, MachineState, opened_for, flushes_kept_by, IsRaisedBy, Accepts}
 use Rattle.flush_core.specs.Runs.{IsRun, AreAlive}
 use Rattle.flush_core.proofs.Basics.{in_either, in_left, in_right}
 use Rattle.flush_core.proofs.Lists.{first_kept_well}
@@ -123,7 +123,7 @@ module _ (first : TreeState) (events : List Event) (states : ℕ → MachineStat
         | inr nothing ↦ absurd nothing
       ]) held)
   held_step place (event.Fail commit) le takes held = rw takes.moves held
-  held_step place (event.Crash kept) le takes held = rw takes.moves.2 (raised_held place le (kept_flushes (states place) kept.items) takes.moves.0 takes.moves.1 (λ flush one. kept_flush (states place) kept.items flush one) held)
+  held_step place (event.Crash kept) le takes held = rw takes.moves.2 (raised_held place le (flushes_kept_by (states place) kept.items) takes.moves.0 takes.moves.1 (λ flush one. kept_flush (states place) kept.items flush one) held)
 
   -- in each state it is held over the whole history
   pub held_at : (place : ℕ) → place ≤ last → IsHeldIn (states place)

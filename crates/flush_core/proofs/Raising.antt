@@ -11,7 +11,7 @@ use Rattle.sfs_tree.specs.Laws.{IsSoundTree}
 use Rattle.flush_core.specs.Cut.{Cut, cut_of}
 use Rattle.flush_core.specs.Rules.{IsChange}
 use Rattle.flush_core.specs.Closure.{Flush, Closure, IsConcerned, member, named, IsRaised, AreInodesAfter}
-use Rattle.flush_core.specs.Runs.{CommitView, IsOneCommit, Enters, LosesInode, view_by}
+use Rattle.flush_core.specs.Runs.{CommitView, IsOneCommit, Enters, LosesInodeInView, view_by}
 use Rattle.flush_core.proofs.Basics.{below_or}
 use Rattle.flush_core.proofs.Views.{below, Agree}
 use Rattle.flush_core.proofs.Agree.{stamp_same, leave_same, agrees}
@@ -72,7 +72,7 @@ module _ (first : TreeState) (history : List Entry) (n : ℕ) (is : IsSoundTree 
   enter_both : Enters first flush view raised node ↔ Enters first flush other_view other_raised node
   enter_both = one_commit.enters raised other_raised raise other_raise node
 
-  leave_both : LosesInode first flush view raised node ↔ LosesInode first flush other_view other_raised node
+  leave_both : LosesInodeInView first flush view raised node ↔ LosesInodeInView first flush other_view other_raised node
   leave_both = one_commit.leaves raised other_raised raise other_raise node
 
   both_lack : inodes node ≡ false → after node ≡ other_after node

@@ -18,7 +18,7 @@ use Rattle.flush_core.specs.declared.event.Refused.TheVariants as refused
 use Rattle.flush_core.specs.Cut.{Cut, cut_of}
 use Rattle.flush_core.specs.Rules.{IsOneOf}
 use Rattle.flush_core.specs.Closure.{Counts, Flush, IsRaised, AreRaised, none, one_more}
-use Rattle.flush_core.specs.Machine.{Flight, MachineState, start_of, tree_now, flight_of, opened_for, kept_flushes, IsRaisedBy, BeginsFlight, Accepts}
+use Rattle.flush_core.specs.Machine.{Flight, MachineState, start_of, tree_now, flight_of, opened_for, flushes_kept_by, IsRaisedBy, BeginsFlight, Accepts}
 use Rattle.flush_core.specs.Runs.{IsRun, AreApart}
 use Rattle.flush_core.proofs.Basics.{below_or, in_either, in_left, in_right, is_next, none_below, none_some}
 use Rattle.flush_core.proofs.Listed.{from_map}
@@ -67,7 +67,7 @@ pub flight_found : (state : MachineState) (commit : ℕ) (flight : Flight) → f
 flight_found state commit flight found = let there = found_in (λ (other : Flight). nat_eq other.commit commit) state.flights flight found in (there.0, eqb-true _ _ there.1)
 
 -- the fsyncs that a crash keeps are those of flights
-pub kept_flush : (state : MachineState) (kept : List ℕ) (flush : Flush) → IsOneOf (kept_flushes state kept) flush → (flight : Flight) × IsOneOf state.flights flight × (flight.flush ≡ flush)
+pub kept_flush : (state : MachineState) (kept : List ℕ) (flush : Flush) → IsOneOf (flushes_kept_by state kept) flush → (flight : Flight) × IsOneOf state.flights flight × (flight.flush ≡ flush)
 kept_flush state kept flush one =
     let from = from_map (λ (flight : Flight). flight.flush) _ flush one in
     (from.0, (in_filter _ state.flights from.0 from.1).0, from.2)
@@ -202,7 +202,7 @@ module _ (first : TreeState) where
   steady_step old (event.Fail commit) new takes is =
       rw takes.moves (record { start = is.start; legal = is.legal; cuts = is.cuts; stamps = is.stamps; used = is.used; apart = is.apart })
   steady_step old (event.Crash kept) new takes is =
-      rw takes.moves.2 (raised_steady old takes.moves.0 (kept_flushes old kept.items) [] true takes.moves.1 is (λ flush one. let from = kept_flush old kept.items flush one in rw from.2 at (is.stamps from.0 from.1)) (λ flight one. absurd one) tt)
+      rw takes.moves.2 (raised_steady old takes.moves.0 (flushes_kept_by old kept.items) [] true takes.moves.1 is (λ flush one. let from = kept_flush old kept.items flush one in rw from.2 at (is.stamps from.0 from.1)) (λ flight one. absurd one) tt)
 
   start_steady : IsSteady first (start_of first)
   start_steady = record {

@@ -9,7 +9,7 @@ use Rattle.flush_core.specs.declared.event.Event.{Event}
 use Rattle.flush_core.specs.declared.event.Event.TheVariants as event
 use Rattle.flush_core.specs.Cut.{cut_of}
 use Rattle.flush_core.specs.Closure.{Flush}
-use Rattle.flush_core.specs.Machine.{MachineState, start_of, kept_flushes, IsRaisedBy, Accepts}
+use Rattle.flush_core.specs.Machine.{MachineState, start_of, flushes_kept_by, IsRaisedBy, Accepts}
 use Rattle.flush_core.specs.Runs.{IsRun}
 use Rattle.flush_core.specs.Laws.{RunsKeep}
 use Rattle.flush_core.proofs.Closed.{closed_cuts_are_sound}
@@ -51,7 +51,7 @@ module _ (first : TreeState) (is : IsSoundTree first) where
   kept_step old (event.Opened commit) new takes steady after was = rw takes.moves was
   kept_step old (event.Durable commit) new takes steady after was = rw takes.moves.4 (raise_keeps old takes.moves.1 (takes.moves.0.flush ∷ []) steady takes.moves.3 was)
   kept_step old (event.Fail commit) new takes steady after was = rw takes.moves was
-  kept_step old (event.Crash kept) new takes steady after was = rw takes.moves.2 (raise_keeps old takes.moves.0 (kept_flushes old kept.items) steady takes.moves.1 was)
+  kept_step old (event.Crash kept) new takes steady after was = rw takes.moves.2 (raise_keeps old takes.moves.0 (flushes_kept_by old kept.items) steady takes.moves.1 was)
 
   -- each state of a run is kept
   pub kept_at : (events : List Event) (states : ℕ → MachineState) → IsRun first events states → (place : ℕ) → place ≤ length events → IsKeptIn first (states place)

@@ -143,8 +143,8 @@ pub record BeginsFlight (state : MachineState) (commit : ℕ) (flush : Flush) (f
   pub closed : flight.opened ≡ false
 
 -- the fsyncs of the flights that a crash keeps, in the order in which they began
-abbrev pub kept_flushes : MachineState → List ℕ → List Flush
-kept_flushes state kept = map (λ flight. flight.flush) (filter (λ flight. list_any (λ commit. commit == flight.commit) kept) state.flights)
+abbrev pub flushes_kept_by : MachineState → List ℕ → List Flush
+flushes_kept_by state kept = map (λ flight. flight.flush) (filter (λ flight. list_any (λ commit. commit == flight.commit) kept) state.flights)
 
 -- a flight, opened where it is this commit's
 abbrev pub opened_for : ℕ → Flight → Flight
@@ -173,7 +173,7 @@ Moves old (event.Durable commit) new =
 Moves old (event.Fail commit) new = new ≡ record old { failed = option_or old.failed (Some commit) }
 -- the fsyncs of the flights that are kept raise the cut, no flight is left, and the run ends
 Moves old (event.Crash kept) new =
-    (raised : MachineState) × IsRaisedBy old (kept_flushes old kept.items) raised × (new ≡ record raised { flights = []; crashed = true })
+    (raised : MachineState) × IsRaisedBy old (flushes_kept_by old kept.items) raised × (new ≡ record raised { flights = []; crashed = true })
 
 -- A state takes an event: no reason to refuse it holds, and it does what it does.
 pub record Accepts (old : MachineState) (e : Event) (new : MachineState) : Type 0 where

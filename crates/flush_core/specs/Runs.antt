@@ -71,8 +71,8 @@ abbrev pub Enters : TreeState → Flush → CommitView → Cut → ℕ → Type 
 Enters first flush view raised node = (view.inodes node ≡ false) × Concerns first flush view node × IsReached first view.history view.counts flush raised node
 
 -- a node loses its inode
-abbrev pub LosesInode : TreeState → Flush → CommitView → Cut → ℕ → Type 0
-LosesInode first flush view raised node = (view.inodes node ≡ true) × Concerns first flush view node × IsDead first view.history view.counts raised node
+abbrev pub LosesInodeInView : TreeState → Flush → CommitView → Cut → ℕ → Type 0
+LosesInodeInView first flush view raised node = (view.inodes node ≡ true) × Concerns first flush view node × IsDead first view.history view.counts raised node
 
 -- An fsync makes the same commit by two views: it has the same members and concerns the same nodes; at the cuts that it leaves these
 -- have the same stamps, the same rows name them, and the same of them get an inode and lose it.
@@ -83,7 +83,7 @@ pub record IsOneCommit (first : TreeState) (flush : Flush) (view other : CommitV
   pub rows : (raised other_raised : Cut) → Raises first flush view raised → Raises first flush other other_raised → (node directory : ℕ) (name : List ℕ) → Concerns first flush view node
       → (get (counted_rows_at_cut first view.history view.counts raised) (directory, name) ≡ Some node) ↔ (get (counted_rows_at_cut first other.history other.counts other_raised) (directory, name) ≡ Some node)
   pub enters : (raised other_raised : Cut) → Raises first flush view raised → Raises first flush other other_raised → (node : ℕ) → Enters first flush view raised node ↔ Enters first flush other other_raised node
-  pub leaves : (raised other_raised : Cut) → Raises first flush view raised → Raises first flush other other_raised → (node : ℕ) → LosesInode first flush view raised node ↔ LosesInode first flush other other_raised node
+  pub leaves : (raised other_raised : Cut) → Raises first flush view raised → Raises first flush other other_raised → (node : ℕ) → LosesInodeInView first flush view raised node ↔ LosesInodeInView first flush other other_raised node
 
 -- A commit comes before another: its fsync has raised the cut before the other begins.
 pub record ComesBefore (events : List Event) (commit other : ℕ) : Type 0 where

@@ -132,7 +132,7 @@ impl State {
         Ok(raise)
     }
 
-    // LosesInode a commit in doubt.
+    // LosesInodeInView a commit in doubt.
     pub(super) fn fail(&mut self, commit: u64) -> Result<(), Refused>
         requires { self.old.crashed ≡ false }
         ensures { Answers self.old (event.Fail commit) result self.new }
