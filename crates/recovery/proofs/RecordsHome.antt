@@ -1,10 +1,8 @@
 -- How the newest records come into the table, one after another.
 use Rattle.std.proofs.Common.{◌≡◌, ◌≢◌, ◌⊎◌, ℕ, ◌+◌, ◌*◌, ◌<◌, ◌≤◌, List, length, slice_index_or, [], Option, None, Some, is_some, true, false, Result, Ok, Err, OnOk, refl, sym, ◌∙◌, ap, subst, arith, inl, inr}
 use Rattle.std.specs.Prelude.{unwrap_or}
-use Rattle.std.proofs.lemmas.List.{get_or_default}
 use Rattle.std.proofs.lemmas.Bool.{cases_eq, cases_lt}
 use Rattle.sfs_base.proofs.BasicTruth.{not_both}
-use Rattle.sfs_base.proofs.BasicOptions.{none_of}
 use Rattle.sfs_image.specs.Bytes.{part}
 use Rattle.sfs_image.specs.ImageOf.{Transaction, given, with_opened, IsImageOf}
 use Rattle.sfs_image.specs.ImageWrites.{IsFullTable}
@@ -25,7 +23,6 @@ use Rattle.journal_one.proofs.Kept.{IsLawful, written_touches, written_stands, l
 use Rattle.commit_one.specs.Carried.{Keeps}
 use Rattle.commit_one.proofs.Moments.{keeps_none, keeps_trans, write_keeps, writes_told, sync_keeps}
 use Rattle.recovery.specs.Recovering.{AreHome, AreNewestOf, BringsHome, record_piece}
-use Rattle.recovery.specs.declared.newest.Newest.{Newest}
 
 -- a record of the table lies on the disk
 pub table_within : (layout : Layout) (size i : ℕ) → IsLayout size layout → i < layout.inodes → table_byte layout i + 512 ≤ 4096 * size
@@ -34,14 +31,9 @@ table_within layout size i fits low = ends (table_byte layout i) (data_start lay
     ends : (a d b z : ℕ) → a + 512 ≤ 4096 * d → d + 1 ≤ b → b ≤ z → a + 512 ≤ 4096 * z
     ends a d b z le room within = omega arith
 
--- a stamp that is there is there whatever stands for none
-pub some_stamp : (stamps : List (Option ℕ)) (i : ℕ) (stamp : Option ℕ) → stamp ≡ slice_index_or stamps i stamp → i < length stamps → is_some stamp ≡ true → slice_index_or stamps i None ≢ None
-some_stamp stamps i stamp is low some none =
-    let same : stamp ≡ None = is ∙ get_or_default stamps i stamp None low ∙ none in
-    not_both some (ap is_some same)
-
-pub no_stamp : (stamps : List (Option ℕ)) (i : ℕ) (stamp : Option ℕ) → stamp ≡ slice_index_or stamps i stamp → i < length stamps → is_some stamp ≡ false → slice_index_or stamps i None ≡ None
-no_stamp stamps i stamp is low none = get_or_default stamps i None stamp low ∙ sym is ∙ none_of stamp none
+-- a stamp that is there is not none
+pub some_stamp : (stamps : List (Option ℕ)) (i : ℕ) → is_some (slice_index_or stamps i None) ≡ true → slice_index_or stamps i None ≢ None
+some_stamp stamps i some none = not_both some (ap is_some none)
 
 -- a record that is written, whole or torn, keeps what an image stands for
 record_keeps : (layout : Layout) (opened : ℕ → Option Transaction) (parts : ℕ → Part) (i : ℕ) (bytes was image : List ℕ) → i < layout.inodes → length bytes ≡ 512
@@ -57,21 +49,21 @@ record_keeps layout opened parts i bytes was image low long taken same stands = 
 })
 
 -- an inode that no open slot has is passed over
-pub passed_home : (layout : Layout) (newest : Newest) (n : ℕ) (disk : View) → slice_index_or newest.stamps.items n None ≡ None → AreHome layout newest n disk → AreHome layout newest (n + 1) disk
-passed_home layout newest n disk none home i low some = elim (cases_eq i n) [
-  | inl same ↦ absurd (some (ap (λ (k : ℕ). slice_index_or newest.stamps.items k None) same ∙ none))
+pub passed_home : (layout : Layout) (stamps : List (Option ℕ)) (records : List (List ℕ)) (n : ℕ) (disk : View) → slice_index_or stamps n None ≡ None → AreHome layout stamps records n disk → AreHome layout stamps records (n + 1) disk
+passed_home layout stamps records n disk none home i low some = elim (cases_eq i n) [
+  | inl same ↦ absurd (some (ap (λ (k : ℕ). slice_index_or stamps k None) same ∙ none))
   | inr apart ↦ home i (omega arith) some
 ]
 
 -- a record is written home
-module _ (layout : Layout) (newest : Newest) (n : ℕ) (bytes : List ℕ) (old new : View) (low : n < layout.inodes) (is : bytes ≡ slice_index_or newest.records.items n [])
+module _ (layout : Layout) (stamps : List (Option ℕ)) (records : List (List ℕ)) (n : ℕ) (bytes : List ℕ) (old new : View) (low : n < layout.inodes) (is : bytes ≡ slice_index_or records n [])
     (long : length bytes ≡ 512) (large : table_byte layout n + 512 ≤ 4096 * old.size) (lawful : IsLawful old) where
-  written_home : {V E : Type 0} (value : V) → IsWrite {V = V} {E = E} (record_piece layout n bytes) old new (Ok value) → AreHome layout newest n old → AreHome layout newest (n + 1) new
+  written_home : {V E : Type 0} (value : V) → IsWrite {V = V} {E = E} (record_piece layout n bytes) old new (Ok value) → AreHome layout stamps records n old → AreHome layout stamps records (n + 1) new
   written_home value write home i less some content told = elim (cases_eq i n) [
     | inl same ↦
         let stands = written_stands (record_piece layout n bytes) old new (omega (arith, long)) lawful write.ok content told in
-        subst (λ (k : ℕ). table_record layout content k ≡ slice_index_or newest.records.items k []) (sym same)
-        (subst (λ (m : ℕ). part (table_byte layout n) m content ≡ slice_index_or newest.records.items n []) long (stands ∙ is))
+        subst (λ (k : ℕ). table_record layout content k ≡ slice_index_or records k []) (sym same)
+        (subst (λ (m : ℕ). part (table_byte layout n) m content ≡ slice_index_or records n []) long (stands ∙ is))
     | inr apart ↦
         let touches = (written_touches (record_piece layout n bytes) old new (omega (arith, long)) lawful (ok_write value) write).read content told in
         let elsewhere : table_record layout content i ≡ table_record layout touches.0 i =
@@ -88,7 +80,7 @@ module _ (layout : Layout) (newest : Newest) (n : ℕ) (bytes : List ℕ) (old n
         | inr le ↦ inl (omega (arith, long))
       ]
 
-  pub home_where_written : {V E : Type 0} (result : Result V E) → IsWrite (record_piece layout n bytes) old new result → OnOk result (AreHome layout newest n old → AreHome layout newest (n + 1) new)
+  pub home_where_written : {V E : Type 0} (result : Result V E) → IsWrite (record_piece layout n bytes) old new result → OnOk result (AreHome layout stamps records n old → AreHome layout stamps records (n + 1) new)
   home_where_written (Ok value) write = written_home value write
   home_where_written (Err fault) write = tt
 
@@ -100,23 +92,23 @@ module _ (layout : Layout) (newest : Newest) (n : ℕ) (bytes : List ℕ) (old n
       (writes_told (record_piece layout n bytes) old new result write) write before
 
 -- once all are home and on the disk, the table has the records of all parts
-pub full_at_last : (layout : Layout) (opened : ℕ → Option Transaction) (parts : ℕ → Part) (newest : Newest) (disk : View) → AreNewestOf layout opened parts newest → IsCalm disk
-    → AreHome layout newest layout.inodes disk → EachLeft disk (IsImageOf layout opened parts) → EachLeft disk (IsFullTable layout opened parts)
-full_at_last layout opened parts newest disk are calm home stands content told image left i low =
-    by (slice_index_or newest.stamps.items i None) refl
+pub full_at_last : (layout : Layout) (opened : ℕ → Option Transaction) (parts : ℕ → Part) (stamps : List (Option ℕ)) (records : List (List ℕ)) (disk : View) → AreNewestOf layout opened parts stamps records → IsCalm disk
+    → AreHome layout stamps records layout.inodes disk → EachLeft disk (IsImageOf layout opened parts) → EachLeft disk (IsFullTable layout opened parts)
+full_at_last layout opened parts stamps records disk are calm home stands content told image left i low =
+    by (slice_index_or stamps i None) refl
   where
-    by : (o : Option ℕ) → slice_index_or newest.stamps.items i None ≡ o → table_record layout image i ≡ (with_opened layout opened parts i).raw
+    by : (o : Option ℕ) → slice_index_or stamps i None ≡ o → table_record layout image i ≡ (with_opened layout opened parts i).raw
     by None none =
         let not_given = are.given_none i low none in
         (stands content told image left).table i low not_given ∙ ap (λ (o : Option Part). (unwrap_or o (parts i)).raw) (sym not_given)
     by (Some stamp) some =
-        leaves_from_reads disk (λ image. table_record layout image i ≡ slice_index_or newest.records.items i []) calm
+        leaves_from_reads disk (λ image. table_record layout image i ≡ slice_index_or records i []) calm
         (home i low (λ none. let never : Some stamp ≡ None = sym some ∙ none in cc)) content told image left
-        ∙ are.records i low
+        ∙ are.each i low
 
 -- the sync at the end
-module _ (layout : Layout) (opened : ℕ → Option Transaction) (parts : ℕ → Part) (newest : Newest) (n : ℕ) (first mid new : View) (reached : layout.inodes ≤ n) (lawful : IsLawful mid)
-    (are : AreNewestOf layout opened parts newest) (goes : Advances mid new) (home : AreHome layout newest n mid) (before : Keeps (IsImageOf layout opened parts) first mid) where
+module _ (layout : Layout) (opened : ℕ → Option Transaction) (parts : ℕ → Part) (stamps : List (Option ℕ)) (records : List (List ℕ)) (n : ℕ) (first mid new : View) (reached : layout.inodes ≤ n) (lawful : IsLawful mid)
+    (are : AreNewestOf layout opened parts stamps records) (goes : Advances mid new) (home : AreHome layout stamps records n mid) (before : Keeps (IsImageOf layout opened parts) first mid) where
   pub all_home : {V E : Type 0} (result : Result V E) → IsSync mid new result → BringsHome layout opened parts first new result
   all_home result sync = record {
     keeps = keeps_trans (IsImageOf layout opened parts) first mid new goes before (sync_keeps (IsImageOf layout opened parts) mid new result lawful sync before.now);
@@ -128,5 +120,5 @@ module _ (layout : Layout) (opened : ℕ → Option Transaction) (parts : ℕ �
       full {V} {E} (Ok value) sync =
           let synced : Result V E = Ok value in
           let kept = sync_keeps (IsImageOf layout opened parts) mid new synced lawful sync before.now in
-          full_at_last layout opened parts newest new are sync.ok
+          full_at_last layout opened parts stamps records new are sync.ok
           (λ i low some content told. home i (omega (arith, reached)) some content (sym sync.content ∙ told)) kept.now

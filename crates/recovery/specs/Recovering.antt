@@ -11,21 +11,20 @@ use Rattle.journal_one.specs.Known.{EachLeft, Reads}
 use Rattle.commit_one.specs.Carried.{Keeps, LaterLeaves, GoesOnTelling}
 use Rattle.commit_one.specs.Change.{nothing_open}
 use Rattle.recovery.specs.declared.journals.OpenSlot.{OpenSlot}
-use Rattle.recovery.specs.declared.newest.Newest.{Newest}
 
 -- the record of an inode at its place in the table
 abbrev pub record_piece : Layout → ℕ → List ℕ → Piece
 record_piece layout inode bytes = record { at = table_byte layout inode; bytes = bytes }
 
 -- Newest records are those of the parts that an image stands for: an inode has a commit stamp where an open slot gives it one.
-pub record AreNewestOf (layout : Layout) (opened : ℕ → Option Transaction) (parts : ℕ → Part) (newest : Newest) : Type 0 where
-  pub given_one : (i : ℕ) → i < layout.inodes → slice_index_or newest.stamps.items i None ≢ None → given layout opened i ≢ None
-  pub given_none : (i : ℕ) → i < layout.inodes → slice_index_or newest.stamps.items i None ≡ None → given layout opened i ≡ None
-  pub records : (i : ℕ) → i < layout.inodes → slice_index_or newest.records.items i [] ≡ (with_opened layout opened parts i).raw
+pub record AreNewestOf (layout : Layout) (opened : ℕ → Option Transaction) (parts : ℕ → Part) (stamps : List (Option ℕ)) (records : List (List ℕ)) : Type 0 where
+  pub given_one : (i : ℕ) → i < layout.inodes → slice_index_or stamps i None ≢ None → given layout opened i ≢ None
+  pub given_none : (i : ℕ) → i < layout.inodes → slice_index_or stamps i None ≡ None → given layout opened i ≡ None
+  pub each : (i : ℕ) → i < layout.inodes → slice_index_or records i [] ≡ (with_opened layout opened parts i).raw
 
 -- of the first n inodes the table that a read gives has the newest records, where an open slot has them
-abbrev pub AreHome : Layout → Newest → ℕ → View → Type 0
-AreHome layout newest n disk = (i : ℕ) → i < n → slice_index_or newest.stamps.items i None ≢ None → Reads disk (λ image. table_record layout image i ≡ slice_index_or newest.records.items i [])
+abbrev pub AreHome : Layout → List (Option ℕ) → List (List ℕ) → ℕ → View → Type 0
+AreHome layout stamps records n disk = (i : ℕ) → i < n → slice_index_or stamps i None ≢ None → Reads disk (λ image. table_record layout image i ≡ slice_index_or records i [])
 
 -- The newest records were brought home: each image goes on standing for the parts, and at the end the table has all their records.
 pub record BringsHome {V E : Type 0} (layout : Layout) (opened : ℕ → Option Transaction) (parts : ℕ → Part) (old new : View) (result : Result V E) : Type 0 where

@@ -8,9 +8,7 @@ ghost use Rattle.journal_one.specs.Known.{EachLeft};
 ghost use Rattle.commit_one.specs.Carried.{Keeps};
 ghost use Rattle.recovery.specs.Cause.{Ran};
 ghost use Rattle.recovery.specs.Recovering.{AreHome, AreNewestOf, BringsHome, record_piece};
-ghost use Rattle.recovery.specs.Settling.{HaveCounts};
 
-use crate::newest::Newest;
 use crate::places::table_byte;
 use fmt_super::Layout;
 use sfs_base::Failed;
@@ -21,17 +19,19 @@ use sfs_dev::Disk;
 pub fn bring_home<D: Disk>(
     disk: &mut D,
     layout: &Layout,
-    newest: &Newest,
+    stamps: &[Option<u64>],
+    records: &[[u8; 512]],
 ) -> Result<(), Failed>
     requires layout { IsLayout (D.view disk.old).size layout.now }
-    requires counts { HaveCounts layout.now.inodes newest.now }
+    requires stamps { length stamps.now ≡ layout.now.inodes }
+    requires records { length records.now ≡ layout.now.inodes }
     ensures ran { Ran (D.view disk.old) (D.view disk.new) result }
     ensures calm { OnOk result (IsCalm (D.view disk.new)) }
-    ensures home { (opened : ℕ → Option Transaction) (parts : ℕ → Part) → AreNewestOf layout.now opened parts newest.now
+    ensures home { (opened : ℕ → Option Transaction) (parts : ℕ → Part) → AreNewestOf layout.now opened parts stamps.now records.now
         → EachLeft (D.view disk.old) (IsImageOf layout.now opened parts) → BringsHome layout.now opened parts (D.view disk.old) (D.view disk.new) result }
 {
     for inode in 0..layout.inodes {
-        place_newest(disk, layout, newest, inode)?;
+        place_newest(disk, layout, stamps, records, inode)?;
     }
     disk.sync()
 }
@@ -40,22 +40,24 @@ pub fn bring_home<D: Disk>(
 fn place_newest<D: Disk>(
     disk: &mut D,
     layout: &Layout,
-    newest: &Newest,
+    stamps: &[Option<u64>],
+    records: &[[u8; 512]],
     inode: u32,
 ) -> Result<(), Failed>
     requires layout { IsLayout (D.view disk.old).size layout.now }
-    requires counts { HaveCounts layout.now.inodes newest.now }
+    requires stamps { length stamps.now ≡ layout.now.inodes }
+    requires records { length records.now ≡ layout.now.inodes }
     requires inode { inode < layout.now.inodes }
     ensures ran { Ran (D.view disk.old) (D.view disk.new) result }
-    ensures keeps { (opened : ℕ → Option Transaction) (parts : ℕ → Part) → AreNewestOf layout.now opened parts newest.now
+    ensures keeps { (opened : ℕ → Option Transaction) (parts : ℕ → Part) → AreNewestOf layout.now opened parts stamps.now records.now
         → EachLeft (D.view disk.old) (IsImageOf layout.now opened parts) → Keeps (IsImageOf layout.now opened parts) (D.view disk.old) (D.view disk.new) }
-    ensures home { OnOk result (AreHome layout.now newest.now inode (D.view disk.old) → AreHome layout.now newest.now (inode + 1) (D.view disk.new)) }
+    ensures home { OnOk result (AreHome layout.now stamps.now records.now inode (D.view disk.old) → AreHome layout.now stamps.now records.now (inode + 1) (D.view disk.new)) }
 {
     let place = inode as usize;
-    if newest.stamps[place].is_none() {
+    if stamps[place].is_none() {
         return Ok(());
     }
-    write_record(disk, layout, inode, &newest.records[place])
+    write_record(disk, layout, inode, &records[place])
 }
 
 // Writes the record of an inode into the table.

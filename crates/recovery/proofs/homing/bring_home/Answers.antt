@@ -40,7 +40,7 @@ returns-clause-home g c opened parts are to =
     let new = view c.sync.new.self in
     let lawful : IsLawful mid = record { whole = laws.whole c.loop-inode.disk; read_is_left = laws.read_is_left c.loop-inode.disk } in
     let reached : c.args.layout.now.inodes ≤ c.loop-inode.inode = subst (λ n. n ≤ c.loop-inode.inode) c.loop-inode.invariant.end c.loop-inode-test.false in
-    all_home c.args.layout.now opened parts c.args.newest.now c.loop-inode.inode (view c.args.disk.now) mid new reached lawful are
+    all_home c.args.layout.now opened parts c.args.stamps.now c.args.records.now c.loop-inode.inode (view c.args.disk.now) mid new reached lawful are
     (call_advances mid new c.sync.result (laws.now_fits c.loop-inode.disk) c.sync.ensures.call)
     c.loop-inode.invariant.home (c.loop-inode.invariant.keeps opened parts are to) c.sync.result
     (record { ok = c.sync.ensures.ok; err = c.sync.ensures.images; content = c.sync.ensures.content; call = c.sync.ensures.call })

@@ -1,12 +1,6 @@
 -- A newest record is written home.
-use Rattle.std.proofs.Common.{◌≡◌, ℕ, ◌<◌, ◌+◌, length, List, Result, Ok, Err, OnOk, refl, sym, ◌∙◌, subst}
-use Rattle.std.proofs.lemmas.List.{get_or_default}
-use Rattle.sfs_dev.specs.Disk.{View}
-use Rattle.sfs_image.specs.Super.{Layout}
-use Rattle.journal_one.specs.Calls.{IsWrite}
+use Rattle.std.proofs.Common.{slice_index_or, [], refl}
 use Rattle.journal_one.proofs.Kept.{IsLawful}
-use Rattle.recovery.specs.Recovering.{AreHome, record_piece}
-use Rattle.recovery.specs.declared.newest.Newest.{Newest}
 use Rattle.recovery.proofs.RecordsHome.{record_kept, home_where_written, table_within, some_stamp}
 use Rattle.recovery.proofs.homing.place_newest.Goals as goal
 
@@ -17,12 +11,9 @@ returns-clause-keeps g c opened parts are to =
     let new = g.D.Disk.view c.write_record.new.disk in
     let lawful : IsLawful old = record { whole = laws.whole c.args.disk.now; read_is_left = laws.read_is_left c.args.disk.now } in
     let low = c.requires.inode in
-    let within : c.args.inode < length c.args.newest.now.records.items = subst (λ n. c.args.inode < n) (sym c.requires.counts.records) low in
-    let counted : c.args.inode < length c.args.newest.now.stamps.items = subst (λ n. c.args.inode < n) (sym c.requires.counts.stamps) low in
-    record_kept c.args.layout.now c.args.newest.now c.args.inode c.index-2.result.now old new low
-    (c.index-2.ensures ∙ get_or_default c.args.newest.now.records.items c.args.inode c.index-2.result.now _ within)
+    record_kept c.args.layout.now c.args.stamps.now c.args.records.now c.args.inode (slice_index_or c.args.records.now c.args.inode []) old new low refl
     c.write_record.ensures.long (table_within c.args.layout.now old.size c.args.inode c.requires.layout low) lawful opened parts c.write_record.result c.write_record.ensures.write
-    (are.given_one c.args.inode low (some_stamp c.args.newest.now.stamps.items c.args.inode c.index.result.now c.index.ensures counted c.if-is_none.ensures)) to
+    (are.given_one c.args.inode low (some_stamp c.args.stamps.now c.args.inode c.if-is_none.ensures)) to
 
 pub returns-clause-home : goal.returns-clause-home
 returns-clause-home g c =
@@ -31,7 +22,5 @@ returns-clause-home g c =
     let new = g.D.Disk.view c.write_record.new.disk in
     let lawful : IsLawful old = record { whole = laws.whole c.args.disk.now; read_is_left = laws.read_is_left c.args.disk.now } in
     let low = c.requires.inode in
-    let within : c.args.inode < length c.args.newest.now.records.items = subst (λ n. c.args.inode < n) (sym c.requires.counts.records) low in
-    home_where_written c.args.layout.now c.args.newest.now c.args.inode c.index-2.result.now old new low
-    (c.index-2.ensures ∙ get_or_default c.args.newest.now.records.items c.args.inode c.index-2.result.now _ within)
+    home_where_written c.args.layout.now c.args.stamps.now c.args.records.now c.args.inode (slice_index_or c.args.records.now c.args.inode []) old new low refl
     c.write_record.ensures.long (table_within c.args.layout.now old.size c.args.inode c.requires.layout low) lawful c.write_record.result c.write_record.ensures.write
