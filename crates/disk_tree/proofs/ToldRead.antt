@@ -81,7 +81,7 @@ module _ (layout : Layout) (parts others : ℕ → Part) (same : (i : ℕ) → i
     | inr byte ↦ byte_rule layout parts rule i byte ∙ bytes_alike rule i within ∙ sym (byte_rule layout others rule i byte)
   ]
 
-  fault_alike : fault_of_parts layout parts ≡ fault_of_parts layout others
+  pub fault_alike : fault_of_parts layout parts ≡ fault_of_parts layout others
   fault_alike = faults_alike (breaks_of layout parts) (breaks_of layout others) layout.inodes (λ rule i within. breaks_alike rule i within)
 
   kept_alike : kept_in_use layout.inodes parts ≡ kept_in_use layout.inodes others

@@ -1,9 +1,13 @@
+pub mod BegunFrom
 mod ClosedOnDisk
+pub mod FreePart
+pub mod FreedShown
 pub mod JustMade
 pub mod Newests
 pub mod OpenRead
 pub mod ReadRuns
 pub mod RecordsHome
 pub mod SettledRead
+pub mod ShownAlike
 pub mod SlotsClosed
 pub mod Undisturbed

@@ -1,5 +1,7 @@
 pub mod Cause
+pub mod Freed
 pub mod Mkfs
 pub mod Open
+pub mod Recovered
 pub mod Recovering
 pub mod Settling

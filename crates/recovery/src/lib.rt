@@ -7,6 +7,7 @@ mod homing;
 mod journals;
 mod making;
 mod newest;
+mod orphans;
 mod places;
 mod settled;
 

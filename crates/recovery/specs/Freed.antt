@@ -1,0 +1,61 @@
+-- Orphans and how they are freed: files of link count 0, whose inodes no row names.
+use Rattle.std.specs.Prelude.{◌≡◌, ◌⊎◌, ℕ, ◌==◌, ◌&&◌, ◌<◌, Bool, List, [], length, map, slice_index_or, Option, None, Some, Result, OnOk, if◌then◌else◌}
+use Rattle.std.specs.List.{range_with_len, filter}
+use Rattle.sfs_base.specs.declared.numbers.Kind.TheVariants.{File}
+use Rattle.sfs_image.specs.Bytes.{zeros}
+use Rattle.sfs_image.specs.ImageOf.{InodePart, IsImageOf}
+use Rattle.sfs_image.specs.Inode.{inode_of}
+use Rattle.sfs_image.specs.Journal.{Entry}
+use Rattle.sfs_image.specs.Part.{Part, part_of}
+use Rattle.sfs_image.specs.Slot.{kind_byte}
+use Rattle.sfs_image.specs.Super.{Layout}
+use Rattle.sfs_dev.specs.Disk.{View}
+use Rattle.journal_one.specs.Known.{EachLeft}
+use Rattle.journal_one.specs.Packed.{Contents}
+use Rattle.commit_one.specs.Carried.{GoesOnTelling, LaterLeaves}
+use Rattle.commit_one.specs.Change.{nothing_open}
+use Rattle.recovery.specs.Recovering.{SettlesAs}
+
+-- whether a record is that of a file of link count 0
+abbrev pub is_unlinked : List ℕ → Bool
+is_unlinked raw = (inode_of raw).kind == kind_byte File && (inode_of raw).links == 0
+
+-- the inodes whose records are so, ascending
+abbrev pub unlinked_in : List (List ℕ) → List ℕ
+unlinked_in records = filter (λ i. is_unlinked (slice_index_or records i [])) (range_with_len 0 (length records))
+
+-- the part of a free inode
+unfoldable pub free_part : Part
+free_part = part_of (λ _. []) (zeros 512)
+
+-- a free record for an inode
+abbrev pub free_entry : ℕ → Entry
+free_entry inode = record { inode = inode; bytes = zeros 512 }
+
+-- and its part
+abbrev pub freed_part : ℕ → InodePart
+freed_part inode = record { inode = inode; part = free_part }
+
+-- the transaction that frees inodes: a free record for each, and no fresh block
+abbrev pub freeing : List ℕ → Contents
+freeing inodes = record { entries = map free_entry inodes; fresh = [] }
+
+-- What frees inodes: a transaction, or none where there are none.
+abbrev pub PacksFreeing : List ℕ → Option Contents → Type 0
+PacksFreeing inodes None = inodes ≡ []
+PacksFreeing inodes (Some packed) = (0 < length inodes) × (packed ≡ freeing inodes)
+
+-- parts without those that are unlinked
+abbrev pub without_unlinked : (ℕ → Part) → ℕ → Part
+without_unlinked parts i = if is_unlinked (parts i).raw then free_part else parts i
+
+-- These are the parts once the unlinked ones of the first inodes are freed.
+abbrev pub AreFreed : Layout → (ℕ → Part) → (ℕ → Part) → Type 0
+AreFreed layout parts freed = (i : ℕ) → i < layout.inodes → freed i ≡ without_unlinked parts i
+
+-- The orphans were freed: each image of each later moment settles as the old parts or as those without orphans, and after Ok it stands for the
+-- latter, with no slot open.
+pub record FreesUnlinked {V E : Type 0} (layout : Layout) (parts freed : ℕ → Part) (old new : View) (result : Result V E) : Type 0 where
+  pub told : GoesOnTelling old new
+  pub later : LaterLeaves (λ _ image. SettlesAs layout parts image ⊎ SettlesAs layout freed image) old new
+  pub ended : OnOk result (EachLeft new (IsImageOf layout nothing_open freed))
