@@ -6,8 +6,10 @@ pub mod JustMade
 pub mod Newests
 pub mod OpenRead
 pub mod ReadRuns
+pub mod OrphansFreed
 pub mod RecordsHome
 pub mod SettledRead
 pub mod ShownAlike
 pub mod SlotsClosed
 pub mod Undisturbed
+pub mod Unlinked

@@ -1,9 +1,10 @@
 -- Orphans and how they are freed: files of link count 0, whose inodes no row names.
-use Rattle.std.specs.Prelude.{◌≡◌, ◌⊎◌, ℕ, ◌==◌, ◌&&◌, ◌<◌, Bool, List, [], length, map, slice_index_or, Option, None, Some, Result, OnOk, if◌then◌else◌}
+use Rattle.std.specs.Prelude.{◌≡◌, ◌⊎◌, ℕ, ◌==◌, ◌&&◌, ◌<◌, Bool, List, [], length, map, replicate, slice_index_or, Option, None, Some, Result, OnOk, if◌then◌else◌}
 use Rattle.std.specs.List.{range_with_len, filter}
 use Rattle.sfs_base.specs.declared.numbers.Kind.TheVariants.{File}
+use Rattle.fmt_journal.specs.declared.tx.TxRecord.{TxRecord}
 use Rattle.sfs_image.specs.Bytes.{zeros}
-use Rattle.sfs_image.specs.ImageOf.{InodePart, IsImageOf}
+use Rattle.sfs_image.specs.ImageOf.{InodePart, with_opened, with_slot, IsImageOf}
 use Rattle.sfs_image.specs.Inode.{inode_of}
 use Rattle.sfs_image.specs.Journal.{Entry}
 use Rattle.sfs_image.specs.Part.{Part, part_of}
@@ -12,7 +13,7 @@ use Rattle.sfs_image.specs.Super.{Layout}
 use Rattle.sfs_dev.specs.Disk.{View}
 use Rattle.journal_one.specs.Known.{EachLeft}
 use Rattle.journal_one.specs.Packed.{Contents}
-use Rattle.commit_one.specs.Carried.{GoesOnTelling, LaterLeaves}
+use Rattle.commit_one.specs.Carried.{LaterLeaves}
 use Rattle.commit_one.specs.Change.{nothing_open}
 use Rattle.recovery.specs.Recovering.{SettlesAs}
 
@@ -20,9 +21,13 @@ use Rattle.recovery.specs.Recovering.{SettlesAs}
 abbrev pub is_unlinked : List ℕ → Bool
 is_unlinked raw = (inode_of raw).kind == kind_byte File && (inode_of raw).links == 0
 
--- the inodes whose records are so, ascending
+-- the first n inodes whose records are so, ascending
+unfoldable pub unlinked_below : List (List ℕ) → ℕ → List ℕ
+unlinked_below records n = filter (λ i. is_unlinked (slice_index_or records i [])) (range_with_len 0 n)
+
+-- all of them
 abbrev pub unlinked_in : List (List ℕ) → List ℕ
-unlinked_in records = filter (λ i. is_unlinked (slice_index_or records i [])) (range_with_len 0 (length records))
+unlinked_in records = unlinked_below records (length records)
 
 -- the part of a free inode
 unfoldable pub free_part : Part
@@ -31,6 +36,10 @@ free_part = part_of (λ _. []) (zeros 512)
 -- a free record for an inode
 abbrev pub free_entry : ℕ → Entry
 free_entry inode = record { inode = inode; bytes = zeros 512 }
+
+-- the same as a transaction has it
+abbrev pub free_record : ℕ → TxRecord
+free_record inode = record { inode = inode; bytes = replicate 512 0 }
 
 -- and its part
 abbrev pub freed_part : ℕ → InodePart
@@ -53,9 +62,13 @@ without_unlinked parts i = if is_unlinked (parts i).raw then free_part else part
 abbrev pub AreFreed : Layout → (ℕ → Part) → (ℕ → Part) → Type 0
 AreFreed layout parts freed = (i : ℕ) → i < layout.inodes → freed i ≡ without_unlinked parts i
 
+-- the parts once the first slot has freed those of the first n inodes that pass a test
+abbrev pub freed_by : Layout → (ℕ → Bool) → ℕ → (ℕ → Part) → ℕ → Part
+freed_by layout test n parts =
+    with_opened layout (with_slot nothing_open 0 (Some (record { stamp = 1; parts = map freed_part (filter test (range_with_len 0 n)) }))) parts
+
 -- The orphans were freed: each image of each later moment settles as the old parts or as those without orphans, and after Ok it stands for the
 -- latter, with no slot open.
 pub record FreesUnlinked {V E : Type 0} (layout : Layout) (parts freed : ℕ → Part) (old new : View) (result : Result V E) : Type 0 where
-  pub told : GoesOnTelling old new
   pub later : LaterLeaves (λ _ image. SettlesAs layout parts image ⊎ SettlesAs layout freed image) old new
   pub ended : OnOk result (EachLeft new (IsImageOf layout nothing_open freed))
