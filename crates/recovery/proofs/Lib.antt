@@ -2,6 +2,7 @@ pub mod BegunFrom
 mod ClosedOnDisk
 pub mod FreePart
 pub mod FreedShown
+pub mod JudgedImage
 pub mod JustMade
 pub mod Newests
 pub mod OpenRead

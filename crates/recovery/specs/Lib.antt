@@ -1,5 +1,6 @@
 pub mod Cause
 pub mod Freed
+pub mod Judging
 pub mod Mkfs
 pub mod Open
 pub mod Recovered

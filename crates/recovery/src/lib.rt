@@ -5,6 +5,7 @@ mod closing;
 mod fault;
 mod homing;
 mod journals;
+mod judged;
 mod making;
 mod newest;
 mod orphans;
