@@ -73,7 +73,7 @@ transaction_whole layout image j =
     record { stamp = body.stamp; parts = map (λ (entry : Entry). record { inode = entry.inode; part = part_of (image_block image) entry.bytes }) body.entries }
 
 -- what is in the list of the numbers that pass a test passes it, and each that passes is in it
-passes_at : (test : ℕ → Bool) (numbers : List ℕ) (k : ℕ) → k < length (filter test numbers) → test (get_or (filter test numbers) k 0) ≡ true
+pub passes_at : (test : ℕ → Bool) (numbers : List ℕ) (k : ℕ) → k < length (filter test numbers) → test (get_or (filter test numbers) k 0) ≡ true
 passes_at test [] k low = absurd (omega arith)
 passes_at test (n ∷ rest) k low = elim (cases_Bool (test n)) [
   | inl passes ↦ subst (λ (l : List ℕ). k < length l → test (get_or l k 0) ≡ true) (sym (ap (λ b. cond b (n ∷ filter test rest) (filter test rest)) passes)) (first passes (passes_at test rest) k) low
@@ -84,7 +84,7 @@ passes_at test (n ∷ rest) k low = elim (cases_Bool (test n)) [
     first passes others zero low = passes
     first passes others (suc k) low = others k (omega arith)
 
-passing_is_there : (test : ℕ → Bool) (numbers : List ℕ) (m : ℕ) → m < length numbers → test (get_or numbers m 0) ≡ true
+pub passing_is_there : (test : ℕ → Bool) (numbers : List ℕ) (m : ℕ) → m < length numbers → test (get_or numbers m 0) ≡ true
     → (k : ℕ) × (k < length (filter test numbers)) × (get_or (filter test numbers) k 0 ≡ get_or numbers m 0)
 passing_is_there test [] m low passes = absurd (omega arith)
 passing_is_there test (n ∷ rest) m low passes = elim (cases_Bool (test n)) [

@@ -9,8 +9,10 @@ pub mod OpenRead
 pub mod ReadRuns
 pub mod OrphansFreed
 pub mod RecordsHome
+pub mod Recoveries
 pub mod SettledRead
 pub mod ShownAlike
 pub mod SlotsClosed
+pub mod Stages
 pub mod Undisturbed
 pub mod Unlinked

@@ -72,3 +72,11 @@ freed_by layout test n parts =
 pub record FreesUnlinked {V E : Type 0} (layout : Layout) (parts freed : ℕ → Part) (old new : View) (result : Result V E) : Type 0 where
   pub later : LaterLeaves (λ _ image. SettlesAs layout parts image ⊎ SettlesAs layout freed image) old new
   pub ended : OnOk result (EachLeft new (IsImageOf layout nothing_open freed))
+
+-- A disk was settled: each image of each later moment settles as the old parts or as those without orphans, and after Ok it stands for the
+-- latter, with no slot open.
+pub record RecoversTo {V E : Type 0} (layout : Layout) (parts : ℕ → Part) (old new : View) (result : Result V E) : Type 0 where
+  pub freed : ℕ → Part
+  pub without : AreFreed layout parts freed
+  pub later : LaterLeaves (λ _ image. SettlesAs layout parts image ⊎ SettlesAs layout freed image) old new
+  pub ended : OnOk result (EachLeft new (IsImageOf layout nothing_open freed))

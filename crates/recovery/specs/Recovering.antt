@@ -1,6 +1,6 @@
 -- What recovery knows of a disk while it brings the records of open slots home and closes the slots.
 use Rattle.std.specs.Prelude.{◌≡◌, ◌≢◌, ◌⊎◌, ℕ, ◌+◌, ◌-◌, ◌^◌, ◌<◌, ◌≤◌, nat_lt, Bool, true, false, List, [], length, slice_index_or, Option, None, Some, Result, OnOk}
-use Rattle.sfs_image.specs.ImageOf.{Transaction, with_opened, given, IsImageOf}
+use Rattle.sfs_image.specs.ImageOf.{Transaction, with_opened, given, IsImageOf, transaction_in, table_parts}
 use Rattle.sfs_image.specs.ImageWrites.{IsFullTable}
 use Rattle.sfs_image.specs.Part.{Part}
 use Rattle.sfs_image.specs.Settled.{slot_count, table_byte, table_record}
@@ -10,6 +10,7 @@ use Rattle.journal_one.specs.Job.{Piece}
 use Rattle.journal_one.specs.Known.{EachLeft, Reads}
 use Rattle.commit_one.specs.Carried.{Keeps, LaterLeaves, GoesOnTelling}
 use Rattle.commit_one.specs.Change.{nothing_open}
+use Rattle.recovery.specs.Open.{AreOpen}
 use Rattle.recovery.specs.declared.journals.OpenSlot.{OpenSlot}
 
 -- the record of an inode at its place in the table
@@ -97,3 +98,13 @@ pub record ClosesSoFar (layout : Layout) (parts : ℕ → Part) (found : List Op
   pub told : GoesOnTelling old new
   pub later : LaterLeaves (λ _ image. SettlesAs layout parts image) old new
   pub closed : EachLeft new (IsToBeClosed layout parts found last)
+
+-- the parts that an image settles as
+abbrev pub settled_parts : Layout → List ℕ → ℕ → Part
+settled_parts layout image = with_opened layout (transaction_in layout image) (table_parts layout image)
+
+-- An image was read in which nothing is wrong up to where its pointers point: these are its open slots, and its newest records.
+pub record IsReadyToSettle (layout : Layout) (found : List OpenSlot) (stamps : List (Option ℕ)) (records : List (List ℕ)) (image : List ℕ) : Type 0 where
+  pub stands : IsImageOf layout (transaction_in layout image) (table_parts layout image) image
+  pub open_slots : AreOpen layout image (slot_count layout) found
+  pub newest : AreNewestOf layout (transaction_in layout image) (table_parts layout image) stamps records

@@ -11,6 +11,7 @@ mod newest;
 mod orphans;
 mod places;
 mod settled;
+mod settling;
 
 pub use fault::{MkfsFault, RecoverFault};
 pub use making::mkfs;
