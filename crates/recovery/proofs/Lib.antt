@@ -10,6 +10,7 @@ pub mod ReadRuns
 pub mod OrphansFreed
 pub mod RecordsHome
 pub mod Recoveries
+pub mod RecoverMoments
 pub mod SettledRead
 pub mod ShownAlike
 pub mod SlotsClosed

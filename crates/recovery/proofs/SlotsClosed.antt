@@ -42,6 +42,10 @@ none_given layout opened shut i =
     ap (option_map (λ (newest : Stamped Part). newest.value))
     (none_newest (λ k. part_given i (opened k)) 0 (slot_count layout) (λ k low high. ap (part_given i) (shut k (omega arith))))
 
+-- so the parts are what they are
+pub nothing_given : (layout : Layout) (parts : ℕ → Part) (i : ℕ) → with_opened layout nothing_open parts i ≡ parts i
+nothing_given layout parts i = ap (λ (o : Option Part). unwrap_or o (parts i)) (none_given layout nothing_open (λ k low. refl) i)
+
 -- an image with no slot open stands for the parts of its table
 pub stands_closed : (layout : Layout) (opened : ℕ → Option Transaction) (parts : ℕ → Part) (image : List ℕ) → IsImageOf layout opened parts image
     → ((k : ℕ) → k < slot_count layout → opened k ≡ None) → IsImageOf layout nothing_open parts image

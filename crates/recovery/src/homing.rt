@@ -65,12 +65,12 @@ fn write_record<D: Disk>(
     disk: &mut D,
     layout: &Layout,
     inode: u32,
-    record: &[u8; 512],
+    bytes: &[u8; 512],
 ) -> Result<(), Failed>
     requires layout { IsLayout (D.view disk.old).size layout.now }
     requires inode { inode < layout.now.inodes }
-    ensures long { length record.now ≡ 512 }
-    ensures write { IsWrite (record_piece layout.now inode record.now) (D.view disk.old) (D.view disk.new) result }
+    ensures long { length bytes.now ≡ 512 }
+    ensures write { IsWrite (record_piece layout.now inode bytes.now) (D.view disk.old) (D.view disk.new) result }
 {
-    disk.write_at(table_byte(layout) + 512 * u64::from(inode), record)
+    disk.write_at(table_byte(layout) + 512 * u64::from(inode), bytes)
 }

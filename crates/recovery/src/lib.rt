@@ -10,9 +10,12 @@ mod making;
 mod newest;
 mod orphans;
 mod places;
+
 mod settled;
 mod settling;
+mod whole;
 
 pub use fault::{MkfsFault, RecoverFault};
 pub use making::mkfs;
+pub use whole::{Report, recover};
 pub use settled::{Settled, read_settled};

@@ -1,0 +1,70 @@
+// Recovery: the superblock and the open slots are read and checked, then the image that they settle. Only
+// then is anything written: the newest records into the table, the gates, and a commit that frees orphans.
+ghost use Rattle.std.specs.Prelude.{◌≡◌, ℕ, IfOk, IfErr, OnOk};
+ghost use Rattle.sfs_dev.specs.Run.{CountsOn, EachMoment};
+ghost use Rattle.sfs_dev.specs.Steps.{IfTold};
+ghost use Rattle.journal_one.specs.Calls.{IsCalm};
+ghost use Rattle.journal_one.specs.Known.{EachLeft};
+ghost use Rattle.recovery.specs.Judging.{IsFaultOf};
+ghost use Rattle.recovery.specs.Recovered.{ShowsTheSame, LeavesRefused, IsReportOf, IsSoundReport, IsRecoveredFrom, RunsRecovery};
+
+use crate::fault::RecoverFault;
+use crate::judged::{Judged, judge};
+use crate::orphans::{pack_freeing, unlinked_in};
+use crate::settling::settle_disk;
+use fmt_super::Layout;
+use sfs_dev::Disk;
+use sfs_tree::Tree;
+use std::alloc::Global;
+
+/// What a recovery found and did.
+#[derive(Drop)]
+pub struct Report {
+    pub layout: Layout,
+    /// The tree, each node under its inode's number; no core may make a node yet.
+    pub tree: Tree,
+    /// How many journal slots were open and are closed.
+    pub closed: usize,
+    /// How many orphans were freed.
+    pub freed: usize,
+}
+
+/// Recovers a disk: it reads and checks its image, brings what open slots have into the inode table, closes
+/// them, and frees the inodes of files of link count 0. An image in which something is wrong is refused with
+/// its first fault, and not written to. After a failure, and after a crash at any device call, it may be
+/// begun again: the image shows the same tree.
+pub fn recover<D: Disk>(alloc: Global, disk: &mut D) -> Result<Report, RecoverFault>
+    ensures ok { IfTold (D.view disk.old).content (λ image. IfOk result (IsReportOf image)) }
+    ensures bad { IfTold (D.view disk.old).content (λ image. IfErr result (IsFaultOf image)) }
+    ensures sound { IfOk result (IsSoundReport (D.view disk.old).size) }
+    ensures moments { IfTold (D.view disk.old).content (λ image. IsCalm (D.view disk.old) → CountsOn (D.view disk.new)
+        → EachMoment (D.view disk.old) (D.view disk.new) (λ _ now. ShowsTheSame now image)) }
+    ensures ended { IfTold (D.view disk.old).content (λ image. IsCalm (D.view disk.old) → OnOk result (EachLeft (D.view disk.new) (IsRecoveredFrom image))) }
+    ensures calm { IsCalm (D.view disk.old) → OnOk result (IsCalm (D.view disk.new)) }
+    ensures refused { IfErr result (LeavesRefused (D.view disk.old) (D.view disk.new)) }
+    ensures runs { RunsRecovery (D.view disk.old) (D.view disk.new) result }
+{
+    let Judged {
+        layout,
+        open_slots,
+        stamps,
+        records,
+        found,
+    } = judge(alloc, disk)?;
+    let unlinked = unlinked_in(alloc, records.as_slice())?;
+    let packed = pack_freeing(alloc, &unlinked)?;
+    settle_disk(
+        disk,
+        &layout,
+        &open_slots,
+        &stamps,
+        records.as_slice(),
+        packed,
+    )?;
+    Ok(Report {
+        layout,
+        tree: found.tree,
+        closed: open_slots.len(),
+        freed: unlinked.len(),
+    })
+}
