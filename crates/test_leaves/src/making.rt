@@ -23,7 +23,7 @@ const FRONT: [u8; 28] = [
 ];
 
 // Bytes that are put at a place of the disk.
-pub(crate) type Edit = (u64, &'static [u8]);
+type Edit = (u64, &'static [u8]);
 
 // Edits of the disk that is just made, and what it is refused for then.
 struct Damage {
@@ -155,7 +155,7 @@ fn blank(alloc: Global) -> Result<Memory, Fail> {
 }
 
 // Makes edits.
-pub(crate) fn edit(rt: &impl Abort, disk: &mut Memory, edits: &[Edit]) {
+fn edit(rt: &impl Abort, disk: &mut Memory, edits: &[Edit]) {
     for (at, bytes) in edits {
         assert!(rt; disk.len() == 1024 && *at <= 4_190_208);
         assert!(rt; !bytes.is_empty() && bytes.len() <= 512);
@@ -164,7 +164,7 @@ pub(crate) fn edit(rt: &impl Abort, disk: &mut Memory, edits: &[Edit]) {
 }
 
 // Asserts that a disk was only read since so many calls.
-pub(crate) fn assert_only_read(rt: &impl Abort, disk: &Memory, calls: usize) {
+fn assert_only_read(rt: &impl Abort, disk: &Memory, calls: usize) {
     for call in disk.calls().iter().skip(calls) {
         assert!(rt; matches!(call.act, Act::Read { .. }));
     }
