@@ -1,5 +1,5 @@
 -- The bytes of all inodes, judged by the rules on bytes.
-use Rattle.std.proofs.Common.{◌≡◌, ◌⊎◌, ℕ, ◌*◌, ◌<◌, ◌≤◌, false, eqb, ltb, List, [], length, map, Option, All, sym, ap, subst, ◌∙◌, arith, inl, inr}
+use Rattle.std.proofs.Common.{◌≡◌, ℕ, ◌*◌, ◌<◌, ◌≤◌, false, eqb, ltb, List, [], length, map, Option, All, sym, ap, subst, ◌∙◌, arith, inl, inr}
 use Rattle.std.specs.Prelude.{slice_index_or}
 use Rattle.std.proofs.lemmas.Bool.{cases_Bool, cases_lt, eq-eqb, eqb-true, eqb-false, cond-true, lt-ltb}
 use Rattle.sfs_base.specs.Lists.{Roomy}
@@ -11,13 +11,13 @@ use Rattle.sfs_image.specs.Slot.{Row}
 use Rattle.sfs_image.specs.Super.{Layout}
 use Rattle.sfs_image.proofs.RuleFacts.{sizes_say}
 use Rattle.sfs_image.proofs.RuleLaws.{good_from_rule}
-use Rattle.block_map.specs.Kept.{block_kept, kept_tables}
+use Rattle.block_map.specs.Kept.{block_kept}
 use Rattle.disk_tree.specs.Blocks.{breaks_tail_at, breaks_slots_at, AreSlotLists, BreaksSeventh, ReadWell}
 use Rattle.disk_tree.specs.Contents.{blocks_of_size, AreReadContents, HoldContents}
 use Rattle.disk_tree.specs.First.{IsFirst, NonePasses}
-use Rattle.disk_tree.specs.Gathered.{tables_at, KeepTables, KeepPointerRules}
+use Rattle.disk_tree.specs.Gathered.{tables_at, KeepPointerRules}
 use Rattle.disk_tree.specs.Inodes.{inode_at, KeepRecordRules}
-use Rattle.disk_tree.specs.Judged.{IsReadPart, AreReadParts, Refused, IsRefusal, IsReadRefusal}
+use Rattle.disk_tree.specs.Judged.{Refused, IsRefusal, IsReadRefusal}
 use Rattle.disk_tree.specs.declared.fault.TreeFault.{TreeFault}
 use Rattle.disk_tree.specs.declared.fault.TreeFault.TheVariants.{DiskFailed, BadImage, NoMemory}
 use Rattle.disk_tree.proofs.BytesJudged.{sixth_rule, seventh_rule}

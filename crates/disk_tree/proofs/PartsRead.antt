@@ -73,6 +73,7 @@ free_pointers inode blocks free place within =
             (table_found inode blocks (table_of place) (omega arith) ∙ cond-true (eqb (slice_index inode.indirect (table_of place)) 0) _ _ (eq-eqb _ _ (free_indirect inode free (table_of place))))
       ]
     ]
+
 module _ (told : Option (List ℕ)) (layout : Layout) (records : List (List ℕ)) (count : length records ≡ layout.inodes) (inodes : List Inode) (are : inodes ≡ map inode_of records) (fit : All IsInode inodes) where
   abbrev raw_at : ℕ → List ℕ
   raw_at i = slice_index_or records i []

@@ -1,26 +1,23 @@
 -- What reads gave of a disk that tells its content is the settled part of its image.
-use Rattle.std.proofs.Common.{◌≡◌, ℕ, zero, suc, ◌<◌, ◌≤◌, Bool, false, cond, not, ◌||◌, ◌&&◌, eqb, List, [], length, get_or, Option, None, Some, refl, sym, ap, subst, ◌∙◌, arith, inl, inr}
-use Rattle.std.specs.Prelude.{is_none, slice_index, slice_index_or}
+use Rattle.std.proofs.Common.{◌≡◌, ℕ, zero, suc, ◌<◌, Bool, cond, not, ◌||◌, ◌&&◌, eqb, List, [], Option, None, Some, refl, sym, ap, ◌∙◌, arith, inl, inr}
+use Rattle.std.specs.Prelude.{is_none, slice_index_or}
 use Rattle.std.proofs.lemmas.Bool.{cases_lt, cases_Bool, eqb-true, eqb-false}
 use Rattle.std.proofs.lemmas.List.{same_lists, get_or_default}
-use Rattle.sfs_image.specs.Inode.{Inode, inode_of}
+use Rattle.sfs_image.specs.Inode.{inode_of}
 use Rattle.sfs_image.specs.Part.{Part, block_pointer, is_free_part, part_of, pointer_at, read_block, seen_of}
 use Rattle.sfs_image.specs.Rules.{any_below, breaks_apart, breaks_bytes_rule, is_held_before, stands_below}
 use Rattle.sfs_image.specs.Seen.{FILE_BLOCKS, PLACES}
-use Rattle.sfs_image.specs.Settled.{SlotFault, image_block, journal_fault_of, layout_of, parts_of, settled, super_fault_of}
+use Rattle.sfs_image.specs.Settled.{SlotFault, image_block, journal_fault_of, layout_of, parts_of, super_fault_of}
 use Rattle.sfs_image.specs.Super.{Layout}
-use Rattle.sfs_tree.specs.Tree.{TreeState}
-use Rattle.image_tree.specs.Image.{ImageFault, Super, Journal, Tree, breaks_bytes_of, fault_of, first_of_faults, image_inodes, inodes_shown, making_at_mount, tree_of}
+use Rattle.image_tree.specs.Image.{ImageFault, breaks_bytes_of, fault_of, first_of_faults, image_inodes, inodes_shown, making_at_mount}
 use Rattle.image_tree.specs.ImageTree.{image_tree}
 use Rattle.image_tree.specs.Rules.{TreeFault, tree_fault}
 use Rattle.image_tree.proofs.Alike.{tree_alike, tree_rule_alike}
 use Rattle.image_tree.proofs.WholeImages.{rule_alike}
-use Rattle.disk_tree.specs.Found.{IsFoundIn, making_when_read}
-use Rattle.disk_tree.specs.Judged.{AreReadParts, IsReadPart, Refused, fault_of_parts}
+use Rattle.disk_tree.specs.Found.{making_when_read}
+use Rattle.disk_tree.specs.Judged.{AreReadParts, IsReadPart, fault_of_parts}
 use Rattle.disk_tree.specs.KeptParts.{kept_if_used, kept_in_use}
-use Rattle.disk_tree.specs.Reading.{IsReadBlock}
 use Rattle.disk_tree.specs.Told.{SettlesRecords, FoundIsTheImages, FaultsAreTheImages}
-use Rattle.disk_tree.specs.declared.found.Found.{Found}
 use Rattle.disk_tree.proofs.Refusals.{breaks_of, byte_rule, tree_rule, faults_alike, unread_is_read}
 use Rattle.disk_tree.proofs.TablesRead.{filter_map_same}
 

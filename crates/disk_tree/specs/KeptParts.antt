@@ -23,12 +23,12 @@ kept_if_used parts i = if is_free_part (parts i) then None else Some (record { n
 unfoldable pub kept_in_use : ℕ → (ℕ → Part) → List NumberedKept
 kept_in_use count parts = filter_map (kept_if_used parts) (range_with_len 0 count)
 
--- the same of one inode, by what was gathered
+-- what is kept of an inode that is in use, by what was gathered
 abbrev pub gathered_if_used : List Inode → List (Roomy Table) → List (Roomy (List (Option Row))) → ℕ → Option NumberedKept
 gathered_if_used inodes tables slots i =
     if (inode_at inodes i).kind == 0 then None
     else Some (record { number = i; kept = record { inode = inode_at inodes i; tables = tables_at tables i; slots = slots_at slots i } })
 
--- the same of those of the first inodes that are in use
+-- what is kept of those of the first inodes that are in use, by what was gathered, ascending
 unfoldable pub gathered_in_use : List Inode → List (Roomy Table) → List (Roomy (List (Option Row))) → ℕ → List NumberedKept
 gathered_in_use inodes tables slots count = filter_map (gathered_if_used inodes tables slots) (range_with_len 0 count)

@@ -12,10 +12,11 @@ use Rattle.disk_tree.specs.Rows.{rows_of_inode, has_full_bucket, is_misplaced_by
 abbrev pub rows_named : List ℕ → List Row → ℕ
 rows_named name rows = count_by (λ row. bytes_eq name row.name) rows
 
--- rule 8: two rows have one name
+-- whether two rows have one name
 abbrev pub has_twice : List Row → Bool
 has_twice rows = list_any (λ row. nat_lt 1 (rows_named row.name rows)) rows
 
+-- rule 8: two rows have one name
 abbrev pub breaks_eighth : List (Roomy Row) → ℕ → Bool
 breaks_eighth rows i = has_twice (rows_of_inode rows i)
 

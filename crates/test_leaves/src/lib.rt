@@ -25,6 +25,8 @@ mod making;
 #[cfg(test)]
 mod names;
 #[cfg(test)]
+mod reading;
+#[cfg(test)]
 mod slots;
 #[cfg(test)]
 mod space;

@@ -23,7 +23,7 @@ const FRONT: [u8; 28] = [
 ];
 
 // Bytes that are put at a place of the disk.
-type Edit = (u64, &'static [u8]);
+pub(crate) type Edit = (u64, &'static [u8]);
 
 // Edits of the disk that is just made, and what it is refused for then.
 struct Damage {
@@ -139,8 +139,18 @@ fn just_made(rt: &impl Abort, alloc: Global) -> Result<Memory, Fail> {
 
 // The same with another layout.
 pub(crate) fn made_with(rt: &impl Abort, alloc: Global, layout: &Layout) -> Result<Memory, Fail> {
+    made_over(rt, alloc, layout, 255)
+}
+
+// The same over bytes that are all this one.
+pub(crate) fn made_over(
+    rt: &impl Abort,
+    alloc: Global,
+    layout: &Layout,
+    byte: u8,
+) -> Result<Memory, Fail> {
     assert!(rt; layout.blocks <= 1024);
-    let Ok(mut disk) = Memory::of(alloc, vec![in alloc; 255u8; 4096 * layout.blocks as usize]?)
+    let Ok(mut disk) = Memory::of(alloc, vec![in alloc; byte; 4096 * layout.blocks as usize]?)
     else {
         panic!(rt; "no whole number of blocks");
     };
@@ -155,7 +165,7 @@ fn blank(alloc: Global) -> Result<Memory, Fail> {
 }
 
 // Makes edits.
-fn edit(rt: &impl Abort, disk: &mut Memory, edits: &[Edit]) {
+pub(crate) fn edit(rt: &impl Abort, disk: &mut Memory, edits: &[Edit]) {
     for (at, bytes) in edits {
         assert!(rt; disk.len() == 1024 && *at <= 4_190_208);
         assert!(rt; !bytes.is_empty() && bytes.len() <= 512);
@@ -164,7 +174,7 @@ fn edit(rt: &impl Abort, disk: &mut Memory, edits: &[Edit]) {
 }
 
 // Asserts that a disk was only read since so many calls.
-fn assert_only_read(rt: &impl Abort, disk: &Memory, calls: usize) {
+pub(crate) fn assert_only_read(rt: &impl Abort, disk: &Memory, calls: usize) {
     for call in disk.calls().iter().skip(calls) {
         assert!(rt; matches!(call.act, Act::Read { .. }));
     }
