@@ -1,0 +1,3 @@
+pub mod Counting
+pub mod KnownKinds
+pub mod SlotsKept

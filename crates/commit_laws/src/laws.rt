@@ -1,0 +1,13 @@
+// What is proved of the definitions: each function's contract is a law.
+ghost use Rattle.commit_laws.specs.Counting.{NetsCountLinks};
+ghost use Rattle.commit_laws.specs.SlotsKept.{NetSlotsAreThose};
+
+/// A node's link count after nets is that in the tree after them.
+pub fn nets_count_links()
+    ensures { NetsCountLinks }
+{}
+
+/// The slots of a directory after a net, with the numbers of its children, are those of a commit.
+pub fn net_slots_are_those()
+    ensures { NetSlotsAreThose }
+{}

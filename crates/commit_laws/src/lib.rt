@@ -1,0 +1,6 @@
+//! That what a commit writes is what stands for its tree.
+#![tactic(auto)]
+
+mod laws;
+
+pub use laws::{net_slots_are_those, nets_count_links};
