@@ -192,7 +192,7 @@ no_row_is (None ∷ block) = no_row_is block ∙ sym (by (nat_eq (rows_end block
 no_row_is (Some row ∷ block) = sym (not_same (suc (rows_end block)) 0 (λ e. omega arith))
 
 -- the blocks up to the last one with a row
-end_is : (blocks : List Slots) → AreLong blocks → blocks_to_last_row blocks ≡ (rows_end (slots_joined blocks) + 14) / 15
+pub end_is : (blocks : List Slots) → AreLong blocks → blocks_to_last_row blocks ≡ (rows_end (slots_joined blocks) + 14) / 15
 unfolding AreLong
 end_is [] long = refl
 end_is (block ∷ blocks) long = elim (cases_Bool (nat_eq (rows_end (slots_joined blocks)) 0)) [

@@ -1,3 +1,4 @@
 pub mod Counting
 pub mod JoinedSlots
+pub mod Shown
 pub mod SlotsKept

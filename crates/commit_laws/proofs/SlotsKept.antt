@@ -26,12 +26,12 @@ use Rattle.disk_change.specs.Directory.{is_among, row_brought, slot_moved, block
 use Rattle.disk_change.specs.Numbered.{row_numbered, slot_numbered, block_numbered}
 use Rattle.disk_change.specs.Seat.{has_no_row, blocks_to_last_row}
 use Rattle.disk_change.proofs.Blocks.{fill-append, left-append, length-fill, drop_none}
-use Rattle.commit_laws.specs.KnownKinds.{IsChildIn, KnowsChildren}
+use Rattle.commit_laws.specs.KnownKinds.{IsChildIn, KnowsChildren, NumbersChildren}
 use Rattle.commit_laws.specs.SlotsKept.{AreSlotBlocks, slots_joined, blocks_kept, NetSlotsAreThose}
 use Rattle.commit_laws.proofs.Counting.{first_in, further_in}
 use Rattle.commit_laws.proofs.JoinedSlots.{Slots, joined_kept, in_blocks_padded, in_blocks_mapped, joined_mapped, AreLong, long_blocks, filled_is, filled_mapped, added_blocks}
 
-module _ (num : Numbering) (tree : TreeState) (directories : List ℕ) (net : List NetRow) (known : KnowsChildren directories tree net) where
+module _ (numbers : ℕ → Option ℕ) (num : Numbering) (tree : TreeState) (directories : List ℕ) (net : List NetRow) (known : KnowsChildren directories tree net) (agree : NumbersChildren numbers num net) where
   -- a row of the net is found under its name
   found_in : (rest : List NetRow) (change : NetRow) → Contains rest change → is_some (row_in_net change.name rest) ≡ true
   found_in [] change (k, within, is) = absurd (omega arith)
@@ -52,51 +52,51 @@ module _ (num : Numbering) (tree : TreeState) (directories : List ℕ) (net : Li
       by false e later = further_in row change rest (later e)
 
   -- the row that a name of the net gets has its child's number and kind
-  brought_is : (change : NetRow) → Contains net change → slot_numbered num net (row_brought directories change) ≡ brought_row num tree change
-  brought_is change there = by change.after (λ child e. known child (record { row = change; one = there; names = inr e }))
+  brought_is : (change : NetRow) → Contains net change → slot_numbered numbers net (row_brought directories change) ≡ brought_row num tree change
+  brought_is change there = by change.after (λ child e. known child (record { row = change; one = there; names = inr e })) (λ child e. agree child (record { row = change; one = there; names = inr e }))
     where
       kind_is : (child : ℕ) → is_among directories child ≡ is_directory tree child → kind_if (is_among directories child) ≡ kind_of tree child
       kind_is child e = ap kind_if (e ∙ directory_by_kind tree child) ∙ kind_again (kind_of tree child)
 
-      by : (o : Option NodeId) → ((child : ℕ) → number_of o ≡ Some child → is_among directories child ≡ is_directory tree child)
-          → slot_numbered num net (option_map (λ child. record { inode = child.0; kind = kind_if (is_among directories child.0); name = change.name }) o) ≡ option_map (row_on num tree change.name) (number_of o)
-      by None kinds = refl
-      by (Some child) kinds =
-          ap Some (cond-true (is_some (row_in_net change.name net)) (record { inode = inode_under num child.0; kind = kind_if (is_among directories child.0); name = change.name })
+      by : (o : Option NodeId) → ((child : ℕ) → number_of o ≡ Some child → is_among directories child ≡ is_directory tree child) → ((child : ℕ) → number_of o ≡ Some child → numbers child ≡ num child)
+          → slot_numbered numbers net (option_map (λ child. record { inode = child.0; kind = kind_if (is_among directories child.0); name = change.name }) o) ≡ option_map (row_on num tree change.name) (number_of o)
+      by None kinds same = refl
+      by (Some child) kinds same =
+          ap Some (cond-true (is_some (row_in_net change.name net)) (record { inode = unwrap_or (numbers child.0) 0; kind = kind_if (is_among directories child.0); name = change.name })
           (record { inode = child.0; kind = kind_if (is_among directories child.0); name = change.name }) (found_in net change there)
-          ∙ (λ i. record { inode = inode_under num child.0; kind = kind_is child.0 (kinds child.0 refl) i; name = change.name }))
+          ∙ (λ i. record { inode = unwrap_or (same child.0 refl i) 0; kind = kind_is child.0 (kinds child.0 refl) i; name = change.name }))
 
   -- a slot after the net
-  slot_is : (slot : Option Row) → slot_numbered num net (slot_moved directories net slot) ≡ slot_after num tree net slot
+  slot_is : (slot : Option Row) → slot_numbered numbers net (slot_moved directories net slot) ≡ slot_after num tree net slot
   slot_is None = refl
   slot_is (Some row) = by (row_in_net row.name net) refl
     where
-      by : (o : Option NetRow) → row_in_net row.name net ≡ o → slot_numbered num net (option_map_or (row_brought directories) o (Some row)) ≡ option_map_or (brought_row num tree) o (Some row)
-      by None e = ap (λ (o : Option NetRow). Some (cond (is_some o) (record row { inode = unwrap_or (num row.inode) 0 }) row)) e
+      by : (o : Option NetRow) → row_in_net row.name net ≡ o → slot_numbered numbers net (option_map_or (row_brought directories) o (Some row)) ≡ option_map_or (brought_row num tree) o (Some row)
+      by None e = ap (λ (o : Option NetRow). Some (cond (is_some o) (record row { inode = unwrap_or (numbers row.inode) 0 }) row)) e
       by (Some change) e = brought_is change (found_there row.name net change e)
 
-  slots_are : (slots : Slots) → map (slot_numbered num net) (map (slot_moved directories net) slots) ≡ map (slot_after num tree net) slots
+  slots_are : (slots : Slots) → map (slot_numbered numbers net) (map (slot_moved directories net) slots) ≡ map (slot_after num tree net) slots
   slots_are [] = refl
   slots_are (slot ∷ slots) = λ i. slot_is slot i ∷ slots_are slots i
 
   -- the rows that are new
   rows_are : (rest : List NetRow) → ((change : NetRow) → Contains rest change → Contains net change)
-      → map (row_numbered num net) (rows_new directories rest) ≡ new_rows num tree rest
+      → map (row_numbered numbers net) (rows_new directories rest) ≡ new_rows num tree rest
   rows_are [] there = refl
   rows_are (change ∷ rest) there =
       with_one (row_new directories change) (rows_new directories rest) ∙ (λ i. cons_option (by (is_none change.before) i) (rows_are rest (λ other is. there other (further_in change other rest is)) i))
     where
-      with_one : (o : Option Row) (rows : List Row) → map (row_numbered num net) (cons_option o rows) ≡ cons_option (slot_numbered num net o) (map (row_numbered num net) rows)
+      with_one : (o : Option Row) (rows : List Row) → map (row_numbered numbers net) (cons_option o rows) ≡ cons_option (slot_numbered numbers net o) (map (row_numbered numbers net) rows)
       with_one None rows = refl
       with_one (Some row) rows = refl
 
-      by : (b : Bool) → slot_numbered num net (cond b (row_brought directories change) None) ≡ cond b (brought_row num tree change) None
+      by : (b : Bool) → slot_numbered numbers net (cond b (row_brought directories change) None) ≡ cond b (brought_row num tree change) None
       by true = brought_is change (there change (first_in change rest))
       by false = refl
 
   -- all slots after the net, with the numbers
-  all_are : (slots : Slots) → map (slot_numbered num net) (filled (map (slot_moved directories net) slots) (rows_new directories net)) ≡ slots_after num tree net slots
-  all_are slots = filled_mapped (row_numbered num net) (map (slot_moved directories net) slots) (rows_new directories net) ∙ (λ i. filled (slots_are slots i) (rows_are net (λ change is. is) i))
+  all_are : (slots : Slots) → map (slot_numbered numbers net) (filled (map (slot_moved directories net) slots) (rows_new directories net)) ≡ slots_after num tree net slots
+  all_are slots = filled_mapped (row_numbered numbers net) (map (slot_moved directories net) slots) (rows_new directories net) ∙ (λ i. filled (slots_are slots i) (rows_are net (λ change is. is) i))
 
 long_append : (front back : List Slots) → AreLong front → AreLong back → AreLong (front ++ back)
 unfolding AreLong
@@ -134,7 +134,7 @@ module _ (directories : List ℕ) (net : List NetRow) where
       length-mapped [] = refl
       length-mapped (slot ∷ slots) = ap suc (length-mapped slots)
 
-  long_after : (blocks : List Slots) → AreLong blocks → AreLong (slot_blocks_after directories net blocks)
+  pub long_after : (blocks : List Slots) → AreLong blocks → AreLong (slot_blocks_after directories net blocks)
   long_after blocks long = long_append _ _ (long_old blocks (rows_new directories net) long) (long_added (rows_behind directories net blocks (rows_new directories net)) (range_with_len 0 (blocks_for (rows_behind directories net blocks (rows_new directories net)))))
 
   -- all blocks are the slots after the net, filled up with empty ones
@@ -150,10 +150,10 @@ module _ (directories : List ℕ) (net : List NetRow) where
       )
 
 pub net_slots_are_those : NetSlotsAreThose
-net_slots_are_those num tree directories net blocks long known =
+net_slots_are_those numbers num tree directories net blocks long known agree =
     let after = slot_blocks_after directories net blocks in
     let padding = joined_after directories net blocks in
-    joined_mapped (slot_numbered num net) (take (blocks_to_last_row after) after)
-    ∙ ap (map (slot_numbered num net)) (joined_kept after (long_after directories net blocks (long_blocks blocks long)) ∙ ap in_blocks padding.1 ∙ in_blocks_padded (filled (map (slot_moved directories net) (slots_joined blocks)) (rows_new directories net)) padding.0)
-    ∙ in_blocks_mapped (row_numbered num net) (filled (map (slot_moved directories net) (slots_joined blocks)) (rows_new directories net))
-    ∙ ap in_blocks (all_are num tree directories net known (slots_joined blocks))
+    joined_mapped (slot_numbered numbers net) (take (blocks_to_last_row after) after)
+    ∙ ap (map (slot_numbered numbers net)) (joined_kept after (long_after directories net blocks (long_blocks blocks long)) ∙ ap in_blocks padding.1 ∙ in_blocks_padded (filled (map (slot_moved directories net) (slots_joined blocks)) (rows_new directories net)) padding.0)
+    ∙ in_blocks_mapped (row_numbered numbers net) (filled (map (slot_moved directories net) (slots_joined blocks)) (rows_new directories net))
+    ∙ ap in_blocks (all_are numbers num tree directories net known agree (slots_joined blocks))

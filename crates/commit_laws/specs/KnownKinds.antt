@@ -1,5 +1,5 @@
 -- That a commit knows which of its nodes are directories.
-use Rattle.std.specs.Prelude.{◌≡◌, ◌⊎◌, ℕ, true, List, Some, Contains}
+use Rattle.std.specs.Prelude.{◌≡◌, ◌⊎◌, ℕ, true, List, Option, Some, Contains}
 use Rattle.sfs_tree.specs.NameRow.{number_of}
 use Rattle.sfs_tree.specs.Tree.{TreeState, is_directory}
 use Rattle.absorb.specs.declared.nets.NetRow.{NetRow}
@@ -20,3 +20,7 @@ KnowsChildren directories tree net = (node : ℕ) → IsChildIn net node → is_
 pub record KnowsDirectories (directories : List ℕ) (tree : TreeState) (nets : List DirectoryNet) : Type 0 where
   pub children : (one : DirectoryNet) → Contains nets one → KnowsChildren directories tree one.net.items
   pub holders : (one : DirectoryNet) → Contains nets one → is_directory tree one.node.0 ≡ true
+
+-- Two numberings agree on the children that a net names.
+abbrev pub NumbersChildren : (ℕ → Option ℕ) → (ℕ → Option ℕ) → List NetRow → Type 0
+NumbersChildren numbers num net = (node : ℕ) → IsChildIn net node → numbers node ≡ num node

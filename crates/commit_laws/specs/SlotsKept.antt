@@ -10,7 +10,7 @@ use Rattle.image_tree.specs.Slots.{BLOCK_SLOTS, in_blocks}
 use Rattle.disk_change.specs.Directory.{slot_blocks_after}
 use Rattle.disk_change.specs.Numbered.{block_numbered}
 use Rattle.disk_change.specs.Seat.{blocks_to_last_row}
-use Rattle.commit_laws.specs.KnownKinds.{KnowsChildren}
+use Rattle.commit_laws.specs.KnownKinds.{KnowsChildren, NumbersChildren}
 
 -- each block has the slots of one
 abbrev pub AreSlotBlocks : List (List (Option Row)) → Type 0
@@ -27,8 +27,8 @@ blocks_kept numbers directories net blocks =
     map (block_numbered numbers net) (take (blocks_to_last_row after) after)
 
 -- The slots that a commit keeps of a directory are those of the new tree: the old ones after the net, in the blocks up to the last one
--- that has a row.
+-- that has a row. The commit has numbers of the children that the net names, which are theirs.
 abbrev pub NetSlotsAreThose : Type 0
-NetSlotsAreThose = (num : Numbering) (tree : TreeState) (directories : List ℕ) (net : List NetRow) (blocks : List (List (Option Row)))
-    → AreSlotBlocks blocks → KnowsChildren directories tree net
-    → slots_joined (blocks_kept num directories net blocks) ≡ in_blocks (slots_after num tree net (slots_joined blocks))
+NetSlotsAreThose = (numbers : ℕ → Option ℕ) (num : Numbering) (tree : TreeState) (directories : List ℕ) (net : List NetRow) (blocks : List (List (Option Row)))
+    → AreSlotBlocks blocks → KnowsChildren directories tree net → NumbersChildren numbers num net
+    → slots_joined (blocks_kept numbers directories net blocks) ≡ in_blocks (slots_after num tree net (slots_joined blocks))

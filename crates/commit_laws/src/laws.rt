@@ -1,5 +1,6 @@
 // What is proved of the definitions: each function's contract is a law.
 ghost use Rattle.commit_laws.specs.Counting.{NetsCountLinks};
+ghost use Rattle.commit_laws.specs.Shown.{BuiltNodesShow};
 ghost use Rattle.commit_laws.specs.SlotsKept.{NetSlotsAreThose};
 
 /// A node's link count after nets is that in the tree after them.
@@ -10,4 +11,9 @@ pub fn nets_count_links()
 /// The slots of a directory after a net, with the numbers of its children, are those of a commit.
 pub fn net_slots_are_those()
     ensures { NetSlotsAreThose }
+{}
+
+/// What is built of a node shows it as the new tree has it.
+pub fn built_nodes_show()
+    ensures { BuiltNodesShow }
 {}

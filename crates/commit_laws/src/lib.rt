@@ -3,4 +3,4 @@
 
 mod laws;
 
-pub use laws::{net_slots_are_those, nets_count_links};
+pub use laws::{built_nodes_show, net_slots_are_those, nets_count_links};
