@@ -1,4 +1,5 @@
 pub mod Counting
 pub mod JoinedSlots
+pub mod Ranked
 pub mod Shown
 pub mod SlotsKept

@@ -1,4 +1,5 @@
 pub mod Counting
 pub mod KnownKinds
+pub mod Ranked
 pub mod Shown
 pub mod SlotsKept

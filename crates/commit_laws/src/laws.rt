@@ -1,5 +1,6 @@
 // What is proved of the definitions: each function's contract is a law.
 ghost use Rattle.commit_laws.specs.Counting.{NetsCountLinks};
+ghost use Rattle.commit_laws.specs.Ranked.{NodesAreBuiltByRank, NeedsAreThose};
 ghost use Rattle.commit_laws.specs.Shown.{BuiltNodesShow};
 ghost use Rattle.commit_laws.specs.SlotsKept.{NetSlotsAreThose};
 
@@ -16,4 +17,14 @@ pub fn net_slots_are_those()
 /// What is built of a node shows it as the new tree has it.
 pub fn built_nodes_show()
     ensures { BuiltNodesShow }
+{}
+
+/// Each node of a commit has the blocks that the grant has for its places by their ranks.
+pub fn nodes_are_built_by_rank()
+    ensures { NodesAreBuiltByRank }
+{}
+
+/// The fresh blocks that a commit needs are those of its rewritten nodes.
+pub fn needs_are_those()
+    ensures { NeedsAreThose }
 {}

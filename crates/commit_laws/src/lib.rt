@@ -3,4 +3,7 @@
 
 mod laws;
 
-pub use laws::{built_nodes_show, net_slots_are_those, nets_count_links};
+pub use laws::{
+    built_nodes_show, needs_are_those, net_slots_are_those, nets_count_links,
+    nodes_are_built_by_rank,
+};

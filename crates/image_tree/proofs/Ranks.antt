@@ -38,7 +38,7 @@ module _ (takes : ℕ → Bool) where
       let e = ap (rank takes) next in
       omega arith
 
-  rank_below : (p n : ℕ) → takes p ≡ true → p < n → rank takes p < rank takes n
+  pub rank_below : (p n : ℕ) → takes p ≡ true → p < n → rank takes p < rank takes n
   rank_below p n t lt =
       let own : rank takes (suc p) ≡ rank takes p + 1 = rank_more p ∙ ap (λ b. rank takes p + cond b 1 0) t in
       let up = rank_up (suc p) (n - suc p) in
