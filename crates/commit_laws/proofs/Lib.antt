@@ -1,3 +1,4 @@
+pub mod CommitMade
 pub mod Counting
 pub mod JoinedSlots
 pub mod Ranked

@@ -1,4 +1,5 @@
 // What is proved of the definitions: each function's contract is a law.
+ghost use Rattle.commit_laws.specs.CommitMade.{ChangesMakeCommits};
 ghost use Rattle.commit_laws.specs.Counting.{NetsCountLinks};
 ghost use Rattle.commit_laws.specs.Ranked.{NodesAreBuiltByRank, NeedsAreThose};
 ghost use Rattle.commit_laws.specs.Shown.{BuiltNodesShow};
@@ -27,4 +28,9 @@ pub fn nodes_are_built_by_rank()
 /// The fresh blocks that a commit needs are those of its rewritten nodes.
 pub fn needs_are_those()
     ensures { NeedsAreThose }
+{}
+
+/// A change with a grant that serves is a commit.
+pub fn changes_make_commits()
+    ensures { ChangesMakeCommits }
 {}

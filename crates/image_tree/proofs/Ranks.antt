@@ -68,7 +68,7 @@ unfolding rank
 rank_none takes = refl
 
 -- a place in the row is that of its inode
-place_takes : (rewrites : List Rewrite) (m place : ℕ) (rewrite : Rewrite) → slice_get rewrites m ≡ Some rewrite → place < PLACES →
+pub place_takes : (rewrites : List Rewrite) (m place : ℕ) (rewrite : Rewrite) → slice_get rewrites m ≡ Some rewrite → place < PLACES →
     takes_in_row rewrites (place_in_row m place) ≡ takes_place rewrite place
 place_takes rewrites m place rewrite is small =
     let quotient : (PLACES * m + place) / PLACES ≡ m = omega arith in
