@@ -22,15 +22,9 @@ use Rattle.disk_change.specs.Nodes.{net_node}
 use Rattle.disk_change.specs.Seated.{net_of_node}
 use Rattle.disk_change.specs.declared.directory_net.DirectoryNet.{DirectoryNet}
 use Rattle.disk_change.proofs.Keyed.{item_at}
+use Rattle.disk_change.proofs.NumbersGiven.{first_in, further_in}
 use Rattle.commit_laws.specs.KnownKinds.{IsChildIn, KnowsChildren, KnowsDirectories}
 use Rattle.commit_laws.specs.Counting.{LeadTo, NetsCountLinks}
-
--- what is first in a list, and what is further in it
-pub first_in : {X : Type 0} (x : X) (xs : List X) → Contains (x ∷ xs) x
-first_in x xs = (0, omega arith, refl)
-
-pub further_in : {X : Type 0} (y x : X) (xs : List X) → Contains xs x → Contains (y ∷ xs) x
-further_in y x xs (k, within, is) = (suc k, omega arith, is)
 
 module _ (tree : TreeState) (directories : List ℕ) (node : ℕ) where
   abbrev times : List ℕ → ℕ

@@ -1,6 +1,7 @@
 pub mod CommitMade
 pub mod Counting
 pub mod JoinedSlots
+pub mod NumbersGiven
 pub mod Ranked
 pub mod Shown
 pub mod SlotsKept

@@ -27,7 +27,8 @@ use Rattle.disk_change.specs.declared.directory_net.DirectoryNet.{DirectoryNet}
 use Rattle.commit_laws.specs.KnownKinds.{IsChildIn, KnowsChildren, KnowsDirectories, NumbersChildren}
 use Rattle.commit_laws.specs.SlotsKept.{slots_joined, blocks_kept}
 use Rattle.commit_laws.specs.Shown.{BeginsWith, LeadNode, ShowsNewNode, BuiltNodesShow}
-use Rattle.commit_laws.proofs.Counting.{first_in, further_in, nets_count_links}
+use Rattle.disk_change.proofs.NumbersGiven.{first_in, further_in}
+use Rattle.commit_laws.proofs.Counting.{nets_count_links}
 use Rattle.commit_laws.proofs.JoinedSlots.{Slots, AreLong, long_blocks, joined_kept, joined_mapped, end_is}
 use Rattle.commit_laws.proofs.SlotsKept.{long_after, net_slots_are_those}
 

@@ -28,7 +28,7 @@ use Rattle.disk_change.specs.Seat.{has_no_row, blocks_to_last_row}
 use Rattle.disk_change.proofs.Blocks.{fill-append, left-append, length-fill, drop_none}
 use Rattle.commit_laws.specs.KnownKinds.{IsChildIn, KnowsChildren, NumbersChildren}
 use Rattle.commit_laws.specs.SlotsKept.{AreSlotBlocks, slots_joined, blocks_kept, NetSlotsAreThose}
-use Rattle.commit_laws.proofs.Counting.{first_in, further_in}
+use Rattle.disk_change.proofs.NumbersGiven.{first_in, further_in}
 use Rattle.commit_laws.proofs.JoinedSlots.{Slots, joined_kept, in_blocks_padded, in_blocks_mapped, joined_mapped, AreLong, long_blocks, filled_is, filled_mapped, added_blocks}
 
 module _ (numbers : ℕ → Option ℕ) (num : Numbering) (tree : TreeState) (directories : List ℕ) (net : List NetRow) (known : KnowsChildren directories tree net) (agree : NumbersChildren numbers num net) where

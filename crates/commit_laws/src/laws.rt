@@ -1,6 +1,7 @@
 // What is proved of the definitions: each function's contract is a law.
 ghost use Rattle.commit_laws.specs.CommitMade.{ChangesMakeCommits};
 ghost use Rattle.commit_laws.specs.Counting.{NetsCountLinks};
+ghost use Rattle.commit_laws.specs.NumbersGiven.{GivenNumbersAreThose};
 ghost use Rattle.commit_laws.specs.Ranked.{NodesAreBuiltByRank, NeedsAreThose};
 ghost use Rattle.commit_laws.specs.Shown.{BuiltNodesShow};
 ghost use Rattle.commit_laws.specs.SlotsKept.{NetSlotsAreThose};
@@ -33,4 +34,9 @@ pub fn needs_are_those()
 /// A change with a grant that serves is a commit.
 pub fn changes_make_commits()
     ensures { ChangesMakeCommits }
+{}
+
+/// A node that stays keeps its number, and those that enter get the grant's in their order.
+pub fn given_numbers_are_those()
+    ensures { GivenNumbersAreThose }
 {}
