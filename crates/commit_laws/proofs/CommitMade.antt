@@ -118,7 +118,7 @@ module _ (commit : Commit) (change : Planned) (grant : GrantedNumbers) (old new 
       ap (λ (o : Option ℕ). option_map_or (λ m. unwrap_or (slice_get rewrites m) (rewrite_still (λ _. 0))) o (rewrite_still (λ _. 0))) (place_found inodes is.inodes_once i m listed.inode)
       ∙ ap (λ (o : Option Rewrite). unwrap_or o (rewrite_still (λ _. 0))) listed.rewritten
 
-  by_rank : TakesByRank commit image blocks_next inodes rewrites grant.blocks
+  pub by_rank : TakesByRank commit image blocks_next inodes rewrites grant.blocks
   by_rank = record {
     listed = λ node i has concerns. let at = is.seated node i has concerns in let found = listed_at i at.0 at.1.inode_there in (at.0, found.0, found.1);
     once = is.inodes_once;
@@ -134,7 +134,7 @@ module _ (commit : Commit) (change : Planned) (grant : GrantedNumbers) (old new 
   }
 
   -- what is rewritten of a node that is built
-  rewrite_of_node : (node m : ℕ) (rewrite : Rewrite) → slice_get (seated_nodes change) m ≡ Some node → slice_get rewrites m ≡ Some rewrite → rewrites_of_change commit change image node ≡ rewrite
+  pub rewrite_of_node : (node m : ℕ) (rewrite : Rewrite) → slice_get (seated_nodes change) m ≡ Some node → slice_get rewrites m ≡ Some rewrite → rewrites_of_change commit change image node ≡ rewrite
   rewrite_of_node node m rewrite there at =
       ap (λ (o : Option ℕ). option_map_or (λ m. unwrap_or (slice_get rewrites m) (rewrite_still (seen_before commit image node).blocks)) o (rewrite_still (seen_before commit image node).blocks)) (place_found (seated_nodes change) is.nodes_once node m there)
       ∙ ap (λ (o : Option Rewrite). unwrap_or o (rewrite_still (seen_before commit image node).blocks)) at

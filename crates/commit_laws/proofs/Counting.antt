@@ -23,7 +23,7 @@ use Rattle.disk_change.specs.Seated.{net_of_node}
 use Rattle.disk_change.specs.declared.directory_net.DirectoryNet.{DirectoryNet}
 use Rattle.disk_change.proofs.Keyed.{item_at}
 use Rattle.disk_change.proofs.NumbersGiven.{first_in, further_in}
-use Rattle.commit_laws.specs.KnownKinds.{IsChildIn, KnowsChildren, KnowsDirectories}
+use Rattle.commit_laws.specs.KnownKinds.{IsNetChild, KnowsChildren, KnowsDirectories}
 use Rattle.commit_laws.specs.Counting.{LeadTo, NetsCountLinks}
 
 module _ (tree : TreeState) (directories : List ℕ) (node : ℕ) where

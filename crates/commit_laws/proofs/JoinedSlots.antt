@@ -9,7 +9,7 @@ use Rattle.std.proofs.lemmas.Grind.{flat_map-append}
 use Rattle.std.proofs.Math.Seq.{take-append-add}
 use borrow.Author.Tests.{eqb-true}
 use Rattle.sfs_base.proofs.BasicLists.{take_none}
-use Rattle.sfs_base.proofs.BasicNumbers.{zero_plus, from_zero_plus, suc_is_one_more, not_same, same_number}
+use Rattle.sfs_base.proofs.BasicNumbers.{zero_plus, from_zero_plus, suc_is_one_more, suc_joins, not_same}
 use Rattle.sfs_base.proofs.BasicTruth.{and_false}
 use Rattle.sfs_image.specs.Slot.{Row}
 use Rattle.sfs_tree.proofs.Joined.{count-cons}
@@ -19,6 +19,7 @@ use Rattle.block_map.proofs.Places.{range_more}
 use Rattle.disk_change.specs.Directory.{fill_front, rows_left, empty_block, block_added, blocks_for}
 use Rattle.disk_change.specs.Seat.{has_no_row, blocks_to_last_row}
 use Rattle.disk_change.proofs.Blocks.{fill-append, drop_none}
+use Rattle.disk_change.proofs.NumbersGiven.{drop_zero}
 use Rattle.commit_laws.specs.SlotsKept.{AreSlotBlocks, slots_joined}
 
 abbrev pub Slots : Type 0
@@ -38,10 +39,6 @@ length_joined : (blocks : List Slots) → AreLong blocks → length (slots_joine
 unfolding AreLong
 length_joined [] long = refl
 length_joined (block ∷ blocks) long = let rest = length_joined blocks long.1 in let first = long.0 in omega (arith, length-append block (slots_joined blocks))
-
-drop_zero : {X : Type 0} (xs : List X) → drop 0 xs ≡ xs
-drop_zero [] = refl
-drop_zero (x ∷ xs) = refl
 
 -- slots that no further row fills
 fill_none : (slots : Slots) → fill_front slots [] ≡ slots
@@ -177,10 +174,7 @@ end_behind (slot ∷ block) slots some =
     let rest = end_behind block slots some in
     let far : rows_end (block ++ slots) ≢ 0 = λ e. some (omega arith) in
     ap (λ b. cond (is_none slot && b) 0 (suc (rows_end (block ++ slots)))) (not_same (rows_end (block ++ slots)) 0 far)
-    ∙ ap (λ b. cond b 0 (suc (rows_end (block ++ slots)))) (and_false (is_none slot)) ∙ ap suc rest ∙ next (length block) (rows_end slots)
-  where
-    next : (a b : ℕ) → suc (a + b) ≡ suc a + b
-    next a b = omega arith
+    ∙ ap (λ b. cond b 0 (suc (rows_end (block ++ slots)))) (and_false (is_none slot)) ∙ ap suc rest ∙ suc_joins (length block) (rows_end slots)
 
 no_row_is : (block : Slots) → has_no_row block ≡ nat_eq (rows_end block) 0
 no_row_is [] = refl

@@ -14,6 +14,7 @@ use Rattle.block_map.proofs.Counts.{rank_first}
 use Rattle.space_map.specs.Space.{GrantedNumbers}
 use Rattle.disk_change.specs.AllBuilt.{numbers_with, built_by, nodes_built}
 use Rattle.disk_change.proofs.Directories.{drop_twice}
+use Rattle.disk_change.proofs.NumbersGiven.{drop_zero}
 use Rattle.disk_change.specs.Built.{rewrite_in}
 use Rattle.disk_change.specs.Planned.{Planned, blocks_taken}
 use Rattle.disk_change.specs.Seated.{CommitChanges, Seated}
@@ -56,10 +57,6 @@ built_at changes numbers [] fresh m seat e = absurd (none_some e)
 built_at changes numbers (first ∷ seats) fresh zero seat e =
     let same = some_same e in
     ap (λ (s : Seated). Some (built_by changes numbers (take (blocks_taken s) fresh) s)) same ∙ ap (λ those. Some (built_by changes numbers (take (blocks_taken seat) those) seat)) (sym (drop_zero fresh))
-  where
-    drop_zero : (xs : List ℕ) → drop 0 xs ≡ xs
-    drop_zero [] = refl
-    drop_zero (x ∷ xs) = refl
 built_at changes numbers (first ∷ seats) fresh (suc m) seat e =
     built_at changes numbers seats (drop (blocks_taken first) fresh) m seat e
     ∙ ap (λ those. Some (built_by changes numbers (take (blocks_taken seat) those) seat))

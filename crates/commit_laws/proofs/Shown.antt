@@ -24,7 +24,7 @@ use Rattle.disk_change.specs.Numbered.{slot_numbered}
 use Rattle.disk_change.specs.Seat.{blocks_to_last_row}
 use Rattle.disk_change.specs.Seated.{CommitChanges, Begun, seated_as, net_of_node, size_of_blocks}
 use Rattle.disk_change.specs.declared.directory_net.DirectoryNet.{DirectoryNet}
-use Rattle.commit_laws.specs.KnownKinds.{IsChildIn, KnowsChildren, KnowsDirectories, NumbersChildren}
+use Rattle.commit_laws.specs.KnownKinds.{IsNetChild, KnowsChildren, KnowsDirectories, NumbersChildren}
 use Rattle.commit_laws.specs.SlotsKept.{slots_joined, blocks_kept}
 use Rattle.commit_laws.specs.Shown.{BeginsWith, LeadNode, ShowsNewNode, BuiltNodesShow}
 use Rattle.disk_change.proofs.NumbersGiven.{first_in, further_in}

@@ -26,7 +26,7 @@ use Rattle.disk_change.specs.Directory.{is_among, row_brought, slot_moved, block
 use Rattle.disk_change.specs.Numbered.{row_numbered, slot_numbered, block_numbered}
 use Rattle.disk_change.specs.Seat.{has_no_row, blocks_to_last_row}
 use Rattle.disk_change.proofs.Blocks.{fill-append, left-append, length-fill, drop_none}
-use Rattle.commit_laws.specs.KnownKinds.{IsChildIn, KnowsChildren, NumbersChildren}
+use Rattle.commit_laws.specs.KnownKinds.{IsNetChild, KnowsChildren, NumbersChildren}
 use Rattle.commit_laws.specs.SlotsKept.{AreSlotBlocks, slots_joined, blocks_kept, NetSlotsAreThose}
 use Rattle.disk_change.proofs.NumbersGiven.{first_in, further_in}
 use Rattle.commit_laws.proofs.JoinedSlots.{Slots, joined_kept, in_blocks_padded, in_blocks_mapped, joined_mapped, AreLong, long_blocks, filled_is, filled_mapped, added_blocks}

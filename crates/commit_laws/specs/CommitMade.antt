@@ -28,11 +28,11 @@ StandOnce numbers = (m l i : ℕ) → slice_get numbers m ≡ Some i → slice_g
 abbrev pub inodes_built : Planned → GrantedNumbers → List ℕ
 inodes_built change grant = map (λ (one : Built). one.number) (nodes_with_grant change grant)
 
--- and the nodes
+-- the nodes that a commit builds, in their order
 abbrev pub seated_nodes : Planned → List ℕ
 seated_nodes change = map (λ (seat : Seated). seat.node) change.seats
 
--- what is rewritten of them
+-- what is rewritten of the nodes that a commit builds, in their order
 abbrev pub rewrites_seated : Planned → List Rewrite
 rewrites_seated change = map rewrite_in change.seats
 
@@ -41,15 +41,16 @@ abbrev pub takes_of_change : Planned → GrantedNumbers → ℕ → ℕ → Bool
 takes_of_change change grant i place =
     nat_lt place PLACES && option_map_or (λ m. takes_in_row (rewrites_seated change) (place_in_row m place)) (place_among (inodes_built change grant) i) false
 
--- the block that the grant has for it
+-- the block that the grant has for a place of an inode
 abbrev pub fresh_of_change : Planned → GrantedNumbers → ℕ → ℕ → ℕ
 fresh_of_change change grant i place =
     option_map_or (λ m. granted_block (rewrites_seated change) grant.blocks (place_in_row m place)) (place_among (inodes_built change grant) i) 0
 
--- what is rewritten of a node of a commit: of one that is built what is planned, and of another nothing
+-- what is rewritten of a node with these pointers where nothing is
 abbrev pub rewrite_still : (ℕ → ℕ) → Rewrite
 rewrite_still pointers = record { blocks = 0; is_rewritten = λ _. false; is_zero = λ _. false; pointers = pointers }
 
+-- what is rewritten of a node of a commit: of one that is built what is planned, and of another nothing
 abbrev pub rewrites_of_change : Commit → Planned → SeenInodes → ℕ → Rewrite
 rewrites_of_change commit change image node =
     let still = rewrite_still (seen_before commit image node).blocks in

@@ -5,3 +5,4 @@ pub mod NumbersGiven
 pub mod Ranked
 pub mod Shown
 pub mod SlotsKept
+pub mod Whole

@@ -5,6 +5,7 @@ ghost use Rattle.commit_laws.specs.NumbersGiven.{GivenNumbersAreThose};
 ghost use Rattle.commit_laws.specs.Ranked.{NodesAreBuiltByRank, NeedsAreThose};
 ghost use Rattle.commit_laws.specs.Shown.{BuiltNodesShow};
 ghost use Rattle.commit_laws.specs.SlotsKept.{NetSlotsAreThose};
+ghost use Rattle.commit_laws.specs.Whole.{BuiltNodesShowTheirInodes, ChangesLeaveTrees};
 
 /// A node's link count after nets is that in the tree after them.
 pub fn nets_count_links()
@@ -39,4 +40,14 @@ pub fn changes_make_commits()
 /// A node that stays keeps its number, and those that enter get the grant's in their order.
 pub fn given_numbers_are_those()
     ensures { GivenNumbersAreThose }
+{}
+
+/// What is built of a node shows exactly the inode that the commit makes for it.
+pub fn built_nodes_show_their_inodes()
+    ensures { BuiltNodesShowTheirInodes }
+{}
+
+/// The image that a change makes stands for the new tree.
+pub fn changes_leave_trees()
+    ensures { ChangesLeaveTrees }
 {}

@@ -4,6 +4,7 @@
 mod laws;
 
 pub use laws::{
-    built_nodes_show, changes_make_commits, given_numbers_are_those, needs_are_those,
-    net_slots_are_those, nets_count_links, nodes_are_built_by_rank,
+    built_nodes_show, built_nodes_show_their_inodes, changes_leave_trees, changes_make_commits,
+    given_numbers_are_those, needs_are_those, net_slots_are_those, nets_count_links,
+    nodes_are_built_by_rank,
 };

@@ -64,6 +64,10 @@ given_olds changes (entry ∷ entries) seats grant =
     (λ i. record { node = node i; number = number_given (number i) grant } ∷ numbers_given (map (seated_old changes) entries ++ seats) (grant_left (number i) grant))
     ∙ ap (λ rest. record { node = entry.node.0; number = Some entry.old.number } ∷ rest) (given_olds changes entries seats grant)
 
+pub drop_zero : {X : Type 0} (xs : List X) → drop 0 xs ≡ xs
+drop_zero [] = refl
+drop_zero (x ∷ xs) = refl
+
 module _ (node : ℕ) where
   abbrev step : Option ℕ → NodeNumber → Option ℕ
   step found one = cond (is_eq (nat_cmp one.node node)) one.number found
@@ -94,10 +98,6 @@ module _ (node : ℕ) where
   grant_of_none : (nodes : List ℕ) → grant_for nodes [] node ≡ None
   grant_of_none [] = refl
   grant_of_none (n ∷ nodes) = refl
-
-  drop_zero : (xs : List ℕ) → drop 0 xs ≡ xs
-  drop_zero [] = refl
-  drop_zero (x ∷ xs) = refl
 
 -- a later item has a greater number than the first
 later_is_greater : {X : Type 0} (key : X → ℕ) (first x : X) (xs : List X) → AscendBy key (first ∷ xs) → Contains xs x → key first < key x
@@ -135,7 +135,7 @@ enter_found (first ∷ enter) up one (suc k, within, is) grant found =
   where
     by : (grant : List ℕ) → nat_eq first.node.0 one.node.0 ≡ false → grant_for (map enter_node enter) (drop 1 grant) one.node.0 ≡ grant_for (first.node.0 ∷ map enter_node enter) grant one.node.0
     by [] apart = grant_of_none one.node.0 (map enter_node enter)
-    by (i ∷ grant) apart = ap (λ those. grant_for (map enter_node enter) those one.node.0) (drop_zero one.node.0 grant) ∙ sym (cond-false (nat_eq first.node.0 one.node.0) (Some i) _ apart)
+    by (i ∷ grant) apart = ap (λ those. grant_for (map enter_node enter) those one.node.0) (drop_zero grant) ∙ sym (cond-false (nat_eq first.node.0 one.node.0) (Some i) _ apart)
 
 -- the numbers of all nodes of a commit
 module _ (changes : CommitChanges) (entries : List OldEntry) (enter : List Enter) (grant : List ℕ) where
