@@ -1,5 +1,6 @@
 pub mod CommitMade
 pub mod Counting
+pub mod Granted
 pub mod KnownKinds
 pub mod NumbersGiven
 pub mod Ranked

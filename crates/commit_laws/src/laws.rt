@@ -1,6 +1,7 @@
 // What is proved of the definitions: each function's contract is a law.
 ghost use Rattle.commit_laws.specs.CommitMade.{ChangesMakeCommits};
 ghost use Rattle.commit_laws.specs.Counting.{NetsCountLinks};
+ghost use Rattle.commit_laws.specs.Granted.{FreshBlocksAreGranted};
 ghost use Rattle.commit_laws.specs.NumbersGiven.{GivenNumbersAreThose};
 ghost use Rattle.commit_laws.specs.Ranked.{NodesAreBuiltByRank, NeedsAreThose};
 ghost use Rattle.commit_laws.specs.Shown.{BuiltNodesShow};
@@ -50,4 +51,9 @@ pub fn built_nodes_show_their_inodes()
 /// The image that a change makes stands for the new tree.
 pub fn changes_leave_trees()
     ensures { ChangesLeaveTrees }
+{}
+
+/// Each fresh block that a commit writes is one of its grant.
+pub fn fresh_blocks_are_granted()
+    ensures { FreshBlocksAreGranted }
 {}
