@@ -65,7 +65,7 @@ given_first f x xs y (Some w) e (zero, within, is) later = (x, first_in x xs, e 
 given_first f x xs y (Some w) e (suc k, within, is) later = let rest = later (k, omega arith, is) in (rest.0, further_in x rest.0 xs rest.1, rest.2)
 
 -- what a function gives of a list comes from one of its items
-given_by : {X Y : Type 0} (f : X → Option Y) (xs : List X) (y : Y) → Contains (filter_map f xs) y → (x : X) × Contains xs x × (f x ≡ Some y)
+pub given_by : {X Y : Type 0} (f : X → Option Y) (xs : List X) (y : Y) → Contains (filter_map f xs) y → (x : X) × Contains xs x × (f x ≡ Some y)
 given_by f [] y (k, within, is) = absurd (omega arith)
 given_by f (x ∷ xs) y has = given_first f x xs y (f x) refl has (λ rest. given_by f xs y rest)
 

@@ -3,6 +3,7 @@ pub mod Counting
 pub mod Granted
 pub mod JoinedSlots
 pub mod NumbersGiven
+pub mod OwnInodes
 pub mod Ranked
 pub mod Shown
 pub mod SlotsKept

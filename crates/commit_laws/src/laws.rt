@@ -1,7 +1,7 @@
 // What is proved of the definitions: each function's contract is a law.
 ghost use Rattle.commit_laws.specs.CommitMade.{ChangesMakeCommits};
 ghost use Rattle.commit_laws.specs.Counting.{NetsCountLinks};
-ghost use Rattle.commit_laws.specs.Granted.{FreshBlocksAreGranted};
+ghost use Rattle.commit_laws.specs.Granted.{FreshBlocksAreGranted, InodesAreGrantedOrOld};
 ghost use Rattle.commit_laws.specs.NumbersGiven.{GivenNumbersAreThose};
 ghost use Rattle.commit_laws.specs.Ranked.{NodesAreBuiltByRank, NeedsAreThose};
 ghost use Rattle.commit_laws.specs.Shown.{BuiltNodesShow};
@@ -56,4 +56,9 @@ pub fn changes_leave_trees()
 /// Each fresh block that a commit writes is one of its grant.
 pub fn fresh_blocks_are_granted()
     ensures { FreshBlocksAreGranted }
+{}
+
+/// Each inode in the records and in what the disk then has is one of the grant, or an old one.
+pub fn inodes_are_granted_or_old()
+    ensures { InodesAreGrantedOrOld }
 {}

@@ -1,6 +1,6 @@
 -- The numbers of a commit's nodes are those that a commit gives.
-use Rattle.std.proofs.Common.{◌≡◌, ◌≢◌, ℕ, zero, suc, ◌+◌, ◌<◌, Bool, true, false, cond, List, [], ◌∷◌, ◌++◌, length, map, drop, Option, Some, None, fold, inl, inr, refl, sym, ap, subst, ◌∙◌, arith, nat_eq, Contains}
-use Rattle.std.specs.Prelude.{slice_get}
+use Rattle.std.proofs.Common.{◌≡◌, ◌≢◌, ℕ, zero, suc, ◌+◌, ◌<◌, Bool, true, false, cond, List, [], ◌∷◌, ◌++◌, length, map, drop, Option, Some, None, fold, inl, inr, refl, sym, ap, subst, ◌∙◌, arith, nat_eq, Contains, ◌≤◌, is_none, count_by}
+use Rattle.std.specs.Prelude.{slice_get, ◌⊎◌}
 use Rattle.std.specs.Ordering.{nat_cmp, is_eq}
 use Rattle.std.specs.Cmp.{tied_itself, nat_cmp_total}
 use Rattle.std.specs.FinMap.{nat_cmp-IsAntisymmetric}
@@ -10,12 +10,13 @@ use Rattle.sfs_base.proofs.BasicNumbers.{same_number, not_same}
 use Rattle.sfs_base.proofs.BasicOptions.{none_some}
 use Rattle.sfs_base.specs.declared.numbers.Kind.{Kind}
 use Rattle.sfs_base.specs.declared.numbers.Kind.TheVariants.{File, Directory}
-use Rattle.sfs_tree.proofs.Joined.{is_equal}
+use Rattle.sfs_base.proofs.BasicTruth.{false_not_true}
+use Rattle.sfs_tree.proofs.Joined.{is_equal, count-cons}
 use Rattle.image_tree.specs.Numbers.{grant_for}
 use Rattle.disk_change.specs.Lists.{AscendBy}
 use Rattle.disk_change.specs.Nodes.{entry_node, enter_node}
 use Rattle.disk_change.specs.Numbered.{numbers_given, number_in, number_given, grant_left}
-use Rattle.disk_change.specs.Planned.{seated_old, seated_entering}
+use Rattle.disk_change.specs.Planned.{seated_old, seated_entering, enters}
 use Rattle.disk_change.specs.Seated.{CommitChanges, Begun, Seated, seated_as, begun_old, begun_entering}
 use Rattle.disk_change.specs.declared.enter.Enter.{Enter}
 use Rattle.disk_change.specs.declared.numbers.NodeNumber.{NodeNumber}
@@ -154,3 +155,50 @@ module _ (changes : CommitChanges) (entries : List OldEntry) (enter : List Enter
       → numbered one.node.0 ≡ grant_for (map enter_node enter) grant one.node.0
   enters_granted up one is apart =
       all one.node.0 ∙ ap (λ o. fold (step one.node.0) o (enters_numbered enter grant)) (olds_without one.node.0 entries None apart) ∙ enter_found enter up one is grant None
+
+-- a number is a node's own, or one of a grant
+abbrev pub IsOwnOrGranted : List Seated → List ℕ → ℕ → Type 0
+IsOwnOrGranted seats grant n = ((seat : Seated) × Contains seats seat × (seat.number ≡ Some n)) ⊎ Contains grant n
+
+-- some node of a list is this one
+abbrev pub HasSeat : List Seated → ℕ → Type 0
+HasSeat seats node = (seat : Seated) × Contains seats seat × (seat.node ≡ node)
+
+-- each node has such a number, where a grant has one for each that enters
+pub number_known : (Known : ℕ → Type 0) (node : ℕ) (seats : List Seated) (grant : List ℕ) → count_by enters seats ≤ length grant → ((n : ℕ) → IsOwnOrGranted seats grant n → Known n)
+    → (found : Option ℕ) → ((n : ℕ) × (found ≡ Some n) × Known n) ⊎ HasSeat seats node → (n : ℕ) × (fold (step node) found (numbers_given seats grant) ≡ Some n) × Known n
+number_known Known node [] grant enough known found (inl has) = has
+number_known Known node [] grant enough known found (inr (seat, (k, within, is), same)) = absurd (omega arith)
+number_known Known node (first ∷ seats) grant enough known found has =
+    by first.number refl grant enough known (λ rest few knows before is. number_known Known node seats rest few knows before is)
+  where
+    Rest : List ℕ → Type 0
+    Rest rest = count_by enters seats ≤ length rest → ((n : ℕ) → IsOwnOrGranted seats rest n → Known n) → (before : Option ℕ) → ((n : ℕ) × (before ≡ Some n) × Known n) ⊎ HasSeat seats node
+        → (n : ℕ) × (fold (step node) before (numbers_given seats rest) ≡ Some n) × Known n
+
+    moved : (one : NodeNumber) (m : ℕ) → one.node ≡ first.node → one.number ≡ Some m → Known m → ((n : ℕ) × (step node found one ≡ Some n) × Known n) ⊎ HasSeat seats node
+    moved one m same is knows = elim (cases_Bool (is_eq (nat_cmp one.node node))) [
+      | inl t ↦ inl (m, cond-true (is_eq (nat_cmp one.node node)) one.number found t ∙ is, knows)
+      | inr f ↦ elim has [
+        | inl before ↦ inl (before.0, cond-false (is_eq (nat_cmp one.node node)) one.number found f ∙ before.1, before.2)
+        | inr (seat, (zero, within, here), own) ↦ absurd (false_not_true (sym f ∙ ap (λ n. is_eq (nat_cmp n node)) (same ∙ ap (λ (s : Seated). s.node) here ∙ own) ∙ ap is_eq (is_equal _ (ap is_eq (tied_itself nat_cmp_total node)))))
+        | inr (seat, (suc k, within, here), own) ↦ inr (seat, (k, omega arith, here), own)
+      ]
+    ]
+
+    further : (rest all : List ℕ) → ((x : ℕ) → Contains rest x → Contains all x) → (n : ℕ) → IsOwnOrGranted seats rest n → IsOwnOrGranted (first ∷ seats) all n
+    further rest all in_all n (inl (seat, is, own)) = inl (seat, further_in first seat seats is, own)
+    further rest all in_all n (inr is) = inr (in_all n is)
+
+    by : (o : Option ℕ) → first.number ≡ o → (grant : List ℕ) → count_by enters (first ∷ seats) ≤ length grant → ((n : ℕ) → IsOwnOrGranted (first ∷ seats) grant n → Known n) → ((rest : List ℕ) → Rest rest)
+        → (n : ℕ) × (fold (step node) (step node found (record { node = first.node; number = number_given o grant })) (numbers_given seats (grant_left o grant)) ≡ Some n) × Known n
+    by (Some m) e grant enough known later =
+        let counted = count-cons enters first seats in
+        later grant (omega (arith, counted)) (λ n own. known n (further grant grant (λ x is. is) n own)) _ (moved (record { node = first.node; number = Some m }) m refl refl (known m (inl (first, first_in first seats, e))))
+    by None e [] enough known later =
+        absurd (let counted = count-cons enters first seats ∙ ap (λ (o : Option ℕ). cond (is_none o) 1 0 + count_by enters seats) e in omega arith)
+    by None e (i ∷ grant) enough known later =
+        let counted = count-cons enters first seats ∙ ap (λ (o : Option ℕ). cond (is_none o) 1 0 + count_by enters seats) e in
+        let whole = ap length (drop_zero grant) in
+        later (drop 1 (i ∷ grant)) (omega (arith, counted, whole)) (λ n own. known n (further (drop 1 (i ∷ grant)) (i ∷ grant) (λ x is. further_in i x grant (subst (λ xs. Contains xs x) (drop_zero grant) is)) n own)) _
+        (moved (record { node = first.node; number = Some i }) i refl refl (known i (inr (first_in i grant))))
