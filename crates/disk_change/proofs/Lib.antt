@@ -8,5 +8,6 @@ pub mod Keyed
 pub mod Left
 pub mod Names
 pub mod Numbering
+pub mod NumbersGiven
 pub mod Places
 pub mod Rewriting

@@ -38,7 +38,7 @@ module _ (takes : ℕ → Bool) where
       let e = ap (rank takes) next in
       omega arith
 
-  rank_below : (p n : ℕ) → takes p ≡ true → p < n → rank takes p < rank takes n
+  pub rank_below : (p n : ℕ) → takes p ≡ true → p < n → rank takes p < rank takes n
   rank_below p n t lt =
       let own : rank takes (suc p) ≡ rank takes p + 1 = rank_more p ∙ ap (λ b. rank takes p + cond b 1 0) t in
       let up = rank_up (suc p) (n - suc p) in
@@ -68,7 +68,7 @@ unfolding rank
 rank_none takes = refl
 
 -- a place in the row is that of its inode
-place_takes : (rewrites : List Rewrite) (m place : ℕ) (rewrite : Rewrite) → slice_get rewrites m ≡ Some rewrite → place < PLACES →
+pub place_takes : (rewrites : List Rewrite) (m place : ℕ) (rewrite : Rewrite) → slice_get rewrites m ≡ Some rewrite → place < PLACES →
     takes_in_row rewrites (place_in_row m place) ≡ takes_place rewrite place
 place_takes rewrites m place rewrite is small =
     let quotient : (PLACES * m + place) / PLACES ≡ m = omega arith in

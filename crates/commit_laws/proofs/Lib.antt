@@ -1,0 +1,10 @@
+pub mod CommitMade
+pub mod Counting
+pub mod Granted
+pub mod JoinedSlots
+pub mod NumbersGiven
+pub mod OwnInodes
+pub mod Ranked
+pub mod Shown
+pub mod SlotsKept
+pub mod Whole

@@ -1,0 +1,109 @@
+-- Each inode that a commit writes is one of its grant, or an old one.
+use Rattle.std.proofs.Common.{◌≡◌, ℕ, zero, suc, ◌<◌, ◌≤◌, Bool, true, false, cond, List, [], ◌∷◌, ◌++◌, length, map, drop, take, filter_map, Option, Some, None, inl, inr, refl, sym, ap, subst, ◌∙◌, arith, count_by, fold, Contains}
+use Rattle.std.specs.Prelude.{◌⊎◌}
+use Rattle.std.specs.Option.{unwrap_or}
+use Rattle.std.specs.Ordering.{nat_cmp, match_ordering}
+use Rattle.std.specs.declared.cmp.Ordering.{Ordering}
+use Rattle.std.specs.declared.cmp.Ordering.TheVariants.{Less, Equal, Greater}
+use Rattle.std.proofs.lemmas.Bool.{cond-true, cond-false, cases_Bool}
+use Rattle.std.proofs.lemmas.List.Elements.{Contains-append_cases}
+use Rattle.sfs_base.proofs.BasicOptions.{none_some, some_same}
+use Rattle.fmt_journal.specs.declared.tx.TxRecord.{TxRecord}
+use Rattle.space_map.specs.Space.{GrantedNumbers}
+use Rattle.disk_change.specs.AllBuilt.{nodes_built, built_by, nodes_with_grant, numbers_with, entry_after}
+use Rattle.disk_change.specs.Built.{Built}
+use Rattle.disk_change.specs.Lists.{put_over, ascending_by}
+use Rattle.disk_change.specs.Nodes.{entry_node}
+use Rattle.disk_change.specs.Planned.{Planned, enters, blocks_taken}
+use Rattle.disk_change.specs.Records.{RecordChange, same_inode, record_of_built, record_of_gone, record_written, written_of_built, written_of_gone, record_inode}
+use Rattle.disk_change.specs.Seated.{CommitChanges, Seated}
+use Rattle.disk_change.specs.declared.old.OldEntry.{OldEntry}
+use Rattle.disk_change.proofs.NumbersGiven.{first_in, further_in, IsOwnOrGranted, number_known}
+use Rattle.commit_laws.specs.Granted.{IsOwnInode, InodesAreOwn, InodesAreGrantedOrOld}
+use Rattle.commit_laws.specs.Granted.IsOwnInode.{granted, kept, lost}
+use Rattle.commit_laws.proofs.Granted.{given_by}
+
+-- of an item that is put before, over or behind another
+by_order : {X : Type 0} (key : X → ℕ) (item other : X) (others : List X) (y : X) (o : Ordering) → Contains (match_ordering o (item ∷ other ∷ others) (item ∷ others) (other ∷ put_over key item others)) y
+    → (Contains (put_over key item others) y → Contains (item ∷ others) y) → Contains (item ∷ other ∷ others) y
+by_order key item other others y Less has later = has
+by_order key item other others y Equal (zero, within, is) later = (0, omega arith, is)
+by_order key item other others y Equal (suc k, within, is) later = (suc (suc k), omega arith, is)
+by_order key item other others y Greater (zero, within, is) later = (1, omega arith, is)
+by_order key item other others y Greater (suc k, within, is) later = shifted (later (k, omega arith, is))
+  where
+    shifted : Contains (item ∷ others) y → Contains (item ∷ other ∷ others) y
+    shifted (zero, within, is) = (0, omega arith, is)
+    shifted (suc k, within, is) = (suc (suc k), omega arith, is)
+
+-- what is put among others ascending is that, or one of them
+in_put : {X : Type 0} (key : X → ℕ) (item : X) (items : List X) (y : X) → Contains (put_over key item items) y → Contains (item ∷ items) y
+in_put key item [] y has = has
+in_put key item (other ∷ others) y has = by_order key item other others y (nat_cmp (key item) (key other)) has (λ rest. in_put key item others y rest)
+
+-- and what is in an ascending list was in the list
+in_ascending : {X : Type 0} (key : X → ℕ) (items found : List X) (y : X) → Contains (fold (λ others item. put_over key item others) found items) y → Contains items y ⊎ Contains found y
+in_ascending key [] found y has = inr has
+in_ascending key (item ∷ items) found y has = elim (in_ascending key items (put_over key item found) y has) [
+  | inl later ↦ inl (further_in item y items later)
+  | inr put ↦ first (in_put key item found y put)
+]
+  where
+    first : Contains (item ∷ found) y → Contains (item ∷ items) y ⊎ Contains found y
+    first (zero, within, is) = inl (0, omega arith, is)
+    first (suc k, within, is) = inr (k, omega arith, is)
+
+ascending_is_in : {X : Type 0} (key : X → ℕ) (items : List X) (y : X) → Contains (ascending_by key items) y → Contains items y
+ascending_is_in key items y has = elim (in_ascending key items [] y has) [
+  | inl is ↦ is
+  | inr (k, within, is) ↦ absurd (omega arith)
+]
+
+-- a node that is built is that of a seat
+seat_of_built : (changes : CommitChanges) (numbers : ℕ → Option ℕ) (seats : List Seated) (fresh : List ℕ) (one : Built) → Contains (nodes_built changes numbers seats fresh) one
+    → (seat : Seated) × Contains seats seat × (one.number ≡ unwrap_or (numbers seat.node) 0)
+seat_of_built changes numbers [] fresh one (k, within, is) = absurd (omega arith)
+seat_of_built changes numbers (seat ∷ seats) fresh one (zero, within, is) = (seat, first_in seat seats, ap (λ (b : Built). b.number) (sym is))
+seat_of_built changes numbers (seat ∷ seats) fresh one (suc k, within, is) =
+    let rest = seat_of_built changes numbers seats (drop (blocks_taken seat) fresh) one (k, omega arith, is) in
+    (rest.0, further_in seat rest.0 seats rest.1, rest.2)
+
+mapped_is_in : {X Y : Type 0} (f : X → Y) (xs : List X) (y : Y) → Contains (map f xs) y → (x : X) × Contains xs x × (f x ≡ y)
+mapped_is_in f [] y (k, within, is) = absurd (omega arith)
+mapped_is_in f (x ∷ xs) y (zero, within, is) = (x, first_in x xs, is)
+mapped_is_in f (x ∷ xs) y (suc k, within, is) = let rest = mapped_is_in f xs y (k, omega arith, is) in (rest.0, further_in x rest.0 xs rest.1, rest.2)
+
+-- a record that is written is that of its number
+written_number : (change : RecordChange) (one : TxRecord) → record_written change ≡ Some one → change.number ≡ one.inode
+written_number change one e = elim (cases_Bool (same_inode change.before change.after)) [
+  | inl t ↦ absurd (none_some (sym (cond-true (same_inode change.before change.after) None _ t) ∙ e))
+  | inr f ↦ ap record_inode (some_same (sym (cond-false (same_inode change.before change.after) None _ f) ∙ e))
+]
+
+module _ (change : Planned) (grant : GrantedNumbers) (enough : count_by enters change.seats ≤ length grant.inodes) where
+  own_or_granted : (n : ℕ) → IsOwnOrGranted change.seats grant.inodes n → IsOwnInode change grant n
+  own_or_granted n (inl (seat, is, own)) = kept seat is own
+  own_or_granted n (inr is) = granted is
+
+  built_own : (one : Built) → Contains (nodes_with_grant change grant) one → IsOwnInode change grant one.number
+  built_own one there =
+      let seat = seat_of_built change.changes (numbers_with change grant.inodes) change.seats grant.blocks one there in
+      let number = number_known (IsOwnInode change grant) seat.0.node change.seats grant.inodes enough own_or_granted None (inr (seat.0, seat.1, refl)) in
+      subst (λ n. IsOwnInode change grant n) (sym (seat.2 ∙ ap (λ o. unwrap_or o 0) number.1)) number.2
+
+  record_own : (one : TxRecord) → Contains (filter_map written_of_built (nodes_with_grant change grant)) one ⊎ Contains (filter_map written_of_gone change.gone) one → IsOwnInode change grant one.inode
+  record_own one (inl there) =
+      let node = given_by written_of_built (nodes_with_grant change grant) one there in
+      subst (λ n. IsOwnInode change grant n) (written_number (record_of_built node.0) one node.2) (built_own node.0 node.1)
+  record_own one (inr there) =
+      let entry = given_by written_of_gone change.gone one there in
+      lost entry.0 entry.1 (written_number (record_of_gone entry.0) one entry.2)
+
+pub inodes_are_granted_or_old : InodesAreGrantedOrOld
+inodes_are_granted_or_old change grant enough = record {
+  records = λ one there. record_own change grant enough one
+      (Contains-append_cases (filter_map written_of_built (nodes_with_grant change grant)) (filter_map written_of_gone change.gone) one (ascending_is_in record_inode _ one there));
+  after = λ entry there.
+      let node = mapped_is_in entry_after (nodes_with_grant change grant) entry (ascending_is_in entry_node _ entry there) in
+      subst (λ n. IsOwnInode change grant n) (ap (λ (e : OldEntry). e.old.number) node.2) (built_own change grant enough node.0 node.1);
+}

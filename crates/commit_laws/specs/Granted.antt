@@ -1,0 +1,29 @@
+-- That the fresh blocks and the inodes that a commit writes are those of its grant, or old ones.
+use Rattle.std.specs.Prelude.{◌≡◌, ℕ, ◌≤◌, List, length, count_by, Some, Contains}
+use Rattle.fmt_journal.specs.declared.tx.TxBlock.{TxBlock}
+use Rattle.fmt_journal.specs.declared.tx.TxRecord.{TxRecord}
+use Rattle.space_map.specs.Space.{GrantedNumbers}
+use Rattle.disk_change.specs.AllBuilt.{fresh_of_commit, after_commit}
+use Rattle.disk_change.specs.Planned.{Planned, enters}
+use Rattle.disk_change.specs.Records.{records_written}
+use Rattle.disk_change.specs.Seated.{Seated}
+use Rattle.disk_change.specs.declared.old.OldEntry.{OldEntry}
+
+-- Each fresh block that a commit writes is one of its grant, whatever the change and the grant are.
+abbrev pub FreshBlocksAreGranted : Type 0
+FreshBlocksAreGranted = (change : Planned) (grant : GrantedNumbers) (one : TxBlock) → Contains (fresh_of_commit change grant) one → Contains grant.blocks one.block
+
+-- An inode is one of a grant, or that of a node of a change that has one.
+pub data IsOwnInode (change : Planned) (grant : GrantedNumbers) (i : ℕ) : Type 0 where
+  granted : Contains grant.inodes i → IsOwnInode change grant i
+  kept : (seat : Seated) → Contains change.seats seat → seat.number ≡ Some i → IsOwnInode change grant i
+  lost : (entry : OldEntry) → Contains change.gone entry → entry.old.number ≡ i → IsOwnInode change grant i
+
+-- Each inode in the records that a commit writes, and in what the disk then has, is one of these.
+pub record InodesAreOwn (change : Planned) (grant : GrantedNumbers) : Type 0 where
+  pub records : (one : TxRecord) → Contains (records_written change grant) one → IsOwnInode change grant one.inode
+  pub after : (entry : OldEntry) → Contains (after_commit change grant) entry → IsOwnInode change grant entry.old.number
+
+-- So it is where the grant has an inode for each node that enters.
+abbrev pub InodesAreGrantedOrOld : Type 0
+InodesAreGrantedOrOld = (change : Planned) (grant : GrantedNumbers) → count_by enters change.seats ≤ length grant.inodes → InodesAreOwn change grant

@@ -1,0 +1,9 @@
+pub mod CommitMade
+pub mod Counting
+pub mod Granted
+pub mod KnownKinds
+pub mod NumbersGiven
+pub mod Ranked
+pub mod Shown
+pub mod SlotsKept
+pub mod Whole

@@ -1,0 +1,64 @@
+// What is proved of the definitions: each function's contract is a law.
+ghost use Rattle.commit_laws.specs.CommitMade.{ChangesMakeCommits};
+ghost use Rattle.commit_laws.specs.Counting.{NetsCountLinks};
+ghost use Rattle.commit_laws.specs.Granted.{FreshBlocksAreGranted, InodesAreGrantedOrOld};
+ghost use Rattle.commit_laws.specs.NumbersGiven.{GivenNumbersAreThose};
+ghost use Rattle.commit_laws.specs.Ranked.{NodesAreBuiltByRank, NeedsAreThose};
+ghost use Rattle.commit_laws.specs.Shown.{BuiltNodesShow};
+ghost use Rattle.commit_laws.specs.SlotsKept.{NetSlotsAreThose};
+ghost use Rattle.commit_laws.specs.Whole.{BuiltNodesShowTheirInodes, ChangesLeaveTrees};
+
+/// A node's link count after nets is that in the tree after them.
+pub fn nets_count_links()
+    ensures { NetsCountLinks }
+{}
+
+/// The slots of a directory after a net, with the numbers of its children, are those of a commit.
+pub fn net_slots_are_those()
+    ensures { NetSlotsAreThose }
+{}
+
+/// What is built of a node shows it as the new tree has it.
+pub fn built_nodes_show()
+    ensures { BuiltNodesShow }
+{}
+
+/// Each node of a commit has the blocks that the grant has for its places by their ranks.
+pub fn nodes_are_built_by_rank()
+    ensures { NodesAreBuiltByRank }
+{}
+
+/// The fresh blocks that a commit needs are those of its rewritten nodes.
+pub fn needs_are_those()
+    ensures { NeedsAreThose }
+{}
+
+/// A change with a grant that serves is a commit.
+pub fn changes_make_commits()
+    ensures { ChangesMakeCommits }
+{}
+
+/// A node that stays keeps its number, and those that enter get the grant's in their order.
+pub fn given_numbers_are_those()
+    ensures { GivenNumbersAreThose }
+{}
+
+/// What is built of a node shows exactly the inode that the commit makes for it.
+pub fn built_nodes_show_their_inodes()
+    ensures { BuiltNodesShowTheirInodes }
+{}
+
+/// The image that a change makes stands for the new tree.
+pub fn changes_leave_trees()
+    ensures { ChangesLeaveTrees }
+{}
+
+/// Each fresh block that a commit writes is one of its grant.
+pub fn fresh_blocks_are_granted()
+    ensures { FreshBlocksAreGranted }
+{}
+
+/// Each inode in the records and in what the disk then has is one of the grant, or an old one.
+pub fn inodes_are_granted_or_old()
+    ensures { InodesAreGrantedOrOld }
+{}
