@@ -9,6 +9,7 @@ use Rattle.sfs_base.proofs.BasicTruth.{not_both, true_or_false}
 use Rattle.flush_core.specs.Cut.{Cut, cut_of}
 use Rattle.flush_core.specs.Closure.{Counts, HasNaming, IsRaised, IsReached, IsDead}
 use Rattle.flush_core.proofs.Basics.{below_or}
+use Rattle.flush_core.proofs.Raises.{cuts_rise}
 use Rattle.flush_ties.specs.Look.{Look, SeesNaming, Touches, member}
 use Rattle.flush_ties.specs.Made.{Lifts, Found, SeesReached, SeesDead}
 use Rattle.flush_ties.specs.Fit.{KnowsEnough, FindsRight}
@@ -25,13 +26,6 @@ module _ (first : TreeState) (history : List Entry) (counts : Counts) (cut raise
       | inl own ↦ lifts.members node (((fits first history counts cut inodes look knows).members node).1 own) ∙ ap (λ n. max n look.flush.stamp) (knows.cuts node touched) ∙ sym (raise.member node own)
       | inr also ↦ same ∙ knows.cuts node touched ∙ sym also
     ]
-  ]
-
-  -- no stamp falls
-  no_lower : (node : ℕ) → cut_of cut node ≤ cut_of raised node
-  no_lower node = elim (raise.other node) [
-    | inl own ↦ let up = raise.member node own in omega arith
-    | inr same ↦ omega arith
   ]
 
   -- a stamp that does not reach the raised cut of a directory
@@ -60,7 +54,7 @@ module _ (first : TreeState) (history : List Entry) (counts : Counts) (cut raise
   raised_seen : (node : ℕ) → Touches look node → HasNaming first history counts raised node → SeesNaming look lifted node
   raised_seen node touched naming =
       let change = naming.change in
-      let lower : cut_of cut change.directory ≤ change.stamp = (let low = no_lower change.directory in let from = naming.unflushed in omega arith) in
+      let lower : cut_of cut change.directory ≤ change.stamp = (let low = cuts_rise first history counts cut inodes look.flush raised raise change.directory in let from = naming.unflushed in omega arith) in
       let noted = knows.namings change (subst (Touches look) (sym naming.child) touched) naming.is_change naming.counted lower in
       record {
         noted = noted.0;

@@ -9,7 +9,7 @@ use Rattle.std.proofs.lemmas.List.Elements.{All-nil, All-append, All-cons, All-h
 use Rattle.sfs_tree.specs.declared.changes.Change.{Change}
 use Rattle.mem_cells.specs.Log.{log_place, IsInOrder}
 use Rattle.mem_cells.proofs.Order.{nothing_in_order, in_order-push, in_order-drop}
-use Rattle.log_merge.specs.Merge.{stands_at, IsMergeOf, is_first_next, Leaves, TakesNext}
+use Rattle.log_merge.specs.Merge.{stands_at, IsMergeOf, is_first_next, GoesFrom, TakesNext}
 
 -- Each of some changes stands no later than each of others.
 abbrev pub IsBefore : List Change → List Change → Type 0
@@ -92,7 +92,7 @@ merges_step first second first_left second_left first_after second_after taken c
   | inr (leaves, sooner) ↦ from_second leaves sooner
 ]
   where
-    from_first : Leaves first_left second_left change first_after second_after → MergesTo first second first_after second_after (taken ++ change ∷ [])
+    from_first : GoesFrom first_left second_left change first_after second_after → MergesTo first second first_after second_after (taken ++ change ∷ [])
     from_first leaves =
         let order = subst IsInOrder leaves.taken m.first_order in
         let before = subst (IsBefore taken) leaves.taken m.before_first in
@@ -110,7 +110,7 @@ merges_step first second first_left second_left first_after second_after taken c
               ∙ m.same place);
         }
 
-    from_second : Leaves second_left first_left change second_after first_after → All (λ one. log_place change < log_place one) first_left → MergesTo first second first_after second_after (taken ++ change ∷ [])
+    from_second : GoesFrom second_left first_left change second_after first_after → All (λ one. log_place change < log_place one) first_left → MergesTo first second first_after second_after (taken ++ change ∷ [])
     from_second leaves sooner =
         let order = subst IsInOrder leaves.taken m.second_order in
         let before = subst (IsBefore taken) leaves.taken m.before_second in

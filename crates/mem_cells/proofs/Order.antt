@@ -1,16 +1,17 @@
 -- Changes in order, and what is left of them once those below a stamp are dropped.
-use Rattle.std.proofs.Common.{◌≡◌, ℕ, ◌+◌, ◌*◌, ◌<◌, ◌≤◌, Bool, true, false, cond, nat_le, List, [], ◌∷◌, ◌++◌, ◌-◌, length, get_or, filter, refl, sym, ap, ◌∙◌, arith}
+use Rattle.std.proofs.Common.{◌≡◌, ℕ, ◌+◌, ◌*◌, ◌<◌, ◌≤◌, Bool, true, false, cond, nat_le, List, [], ◌∷◌, ◌++◌, ◌-◌, length, get_or, filter, refl, sym, ap, ◌∙◌, subst, suc, arith}
 use borrow.Author.Tests.{ltb-true}
 use Rattle.std.specs.Prelude.{All, drop}
 use Rattle.std.proofs.lemmas.Bool.{cond-true, cond-false}
 use Rattle.std.proofs.lemmas.Bool.Decides.{nat_tests}
 use Rattle.std.proofs.lemmas.List.{get_or_append_left, length-append}
 use Rattle.std.proofs.Math.Seq.{get_or-append_seam}
-use Rattle.std.proofs.lemmas.List.Elements.{All-get_or, All-from_get_or}
+use Rattle.std.proofs.lemmas.List.Elements.{All-get_or, All-append, All-cons, All-nil}
 use Rattle.std.proofs.lemmas.List.Sorted.{IsNonDecreasingBy-push, IsNonDecreasingBy-drop, IsNonDecreasingBy-short}
 use Rattle.sfs_tree.specs.declared.changes.Change.{Change}
-use Rattle.sfs_tree.specs.Logged.{is_addition}
+use Rattle.sfs_tree.specs.Logged.{is_addition, is_logged_in}
 use Rattle.mem_cells.specs.Log.{log_place, is_from, begins_under, IsInOrder}
+use Rattle.mem_cells.specs.Part.{StandBehind}
 
 pub nothing_in_order : IsInOrder []
 nothing_in_order = record { rises = IsNonDecreasingBy-short log_place [] (omega arith) }
@@ -19,15 +20,6 @@ nothing_in_order = record { rises = IsNonDecreasingBy-short log_place [] (omega 
 pub in_order-push : (changes : List Change) (change : Change) → IsInOrder changes → All (λ other. log_place other ≤ log_place change) changes → IsInOrder (changes ++ change ∷ [])
 in_order-push changes change order last =
     record { rises = IsNonDecreasingBy-push log_place changes change order.rises (λ d some. All-get_or (λ other. log_place other ≤ log_place change) changes (length changes - 1) d (omega arith) last) }
-
--- and of changes in order each comes before none that stands in front of it
-pub stands_last : (before : List Change) (change : Change) (rest : List Change) → IsInOrder (before ++ change ∷ rest) → All (λ other. log_place other ≤ log_place change) before
-stands_last before change rest order = All-from_get_or (λ other. log_place other ≤ log_place change) before change each
-  where
-    each : (i : ℕ) → i < length before → log_place (get_or before i change) ≤ log_place change
-    each i within =
-        let whole = order.rises i (length before) change (omega arith) (omega (arith, length-append before (change ∷ rest))) in
-        rw (← get_or_append_left before (change ∷ rest) change i within) (rw (get_or-append_seam before change rest change) at whole)
 
 pub in_order-drop : (count : ℕ) (changes : List Change) → IsInOrder changes → IsInOrder (drop count changes)
 in_order-drop count changes order = record { rises = IsNonDecreasingBy-drop log_place count changes order.rises }
@@ -57,3 +49,16 @@ filter-rest below (change ∷ changes) order e =
     rest : (changes : List Change) → ((d : Change) → 0 < length changes → change.stamp.0 ≤ (get_or changes 0 d).stamp.0) → begins_under below changes ≡ false
     rest [] rise = refl
     rest (next ∷ changes) rise = let le = rise next (omega arith) in grind (arith, nat_tests)
+
+-- what stood behind others still does, once the first of it has gone behind those of its directory
+pub still_behind : (change : Change) (rest : List Change) (kept after : ℕ → List Change) → ((directory : ℕ) → after directory ≡ cond (is_logged_in directory change) (kept directory ++ change ∷ []) (kept directory)) → IsInOrder (change ∷ rest)
+    → StandBehind (change ∷ rest) kept → StandBehind rest after
+still_behind change rest kept after puts order behind = λ k d within.
+    let later = get_or rest k d in
+    let low : log_place change ≤ log_place later = order.rises 0 (suc k) d (omega arith) (omega arith) in
+    let there : All (λ other. log_place other ≤ log_place later) (kept later.dir.0) = behind (suc k) d (omega arith) in
+    subst (All (λ other. log_place other ≤ log_place later)) (sym (puts later.dir.0)) (both (is_logged_in later.dir.0 change) (kept later.dir.0) later low there)
+  where
+    both : (b : Bool) (those : List Change) (later : Change) → log_place change ≤ log_place later → All (λ other. log_place other ≤ log_place later) those → All (λ other. log_place other ≤ log_place later) (cond b (those ++ change ∷ []) those)
+    both true those later low there = All-append (λ other. log_place other ≤ log_place later) those (change ∷ []) there (All-cons (λ other. log_place other ≤ log_place later) change [] low (All-nil (λ other. log_place other ≤ log_place later)))
+    both false those later low there = there

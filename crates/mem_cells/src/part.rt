@@ -3,7 +3,7 @@ ghost use Rattle.std.specs.Prelude.{◌≡◌, ◌+◌, ◌<◌, ◌≤◌, ◌-
 ghost use Rattle.std.specs.Option.{option_copied};
 ghost use Rattle.sfs_tree.specs.Logged.{is_logged_in};
 ghost use Rattle.mem_cells.specs.Log.{log_place, IsInOrder};
-ghost use Rattle.mem_cells.specs.Part.{log_of, changes_kept, mark_kept, room_kept, IsSamePart, AreSameLogs, IsAddedTo, IsTrimmed, PutsChange, AreTrimmed};
+ghost use Rattle.mem_cells.specs.Part.{log_of, changes_kept, mark_kept, room_kept, IsSamePart, AreSameLogs, IsAddedTo, IsTrimmed, PutsChange, StandBehind, AreTrimmed};
 
 use crate::log::DirectoryLog;
 use sfs_base::{NoMemory, NodeId, Stamp};
@@ -21,9 +21,9 @@ pub struct LogPart {
 }
 
 impl Model for LogPart {
-    ghost use Rattle.mem_cells.specs.Part.{Part};
+    ghost use Rattle.mem_cells.specs.Part.{CoreLog};
 
-    ghost Value = { Part };
+    ghost Value = { CoreLog };
 
     ghost view = { λ p. record { logs = p.logs.items; entries = p.entries } };
 }
@@ -80,12 +80,13 @@ impl LogPart {
         Ok(())
     }
 
-    /// Puts the changes of the core's next entry behind those that it has, into room that was reserved:
-    /// for a directory that they change there has to be room for as many, and none of them may come
-    /// before one that the directory has. It takes no memory.
+    /// Puts the changes of the core's next entry behind those that it has, into room that was reserved.
+    /// For a directory that they change there has to be room for as many; they stand in order, and none
+    /// of them comes before one that its directory has. It takes no memory.
     pub fn add(&mut self, entry: Changes)
         requires room { (dir : ℕ) → length (filter (is_logged_in dir) entry.items) ≤ room_kept self.old dir }
-        requires order { (dir : ℕ) → IsInOrder (changes_kept self.old dir ++ filter (is_logged_in dir) entry.items) }
+        requires order { IsInOrder entry.items }
+        requires behind { StandBehind entry.items (changes_kept self.old) }
         requires entries { self.old.entries < 2 ^ 64 - 1 }
         ensures { IsAddedTo self.old entry.items self.new }
     {
@@ -142,7 +143,8 @@ fn reserve_at(logs: &mut Vec<DirectoryLog>, place: usize, count: u32) -> Result<
 // Puts changes behind those of their directories, in their order.
 fn add_all(logs: &mut Vec<DirectoryLog>, entry: Vec<Change>)
     requires room { (dir : ℕ) → length (filter (is_logged_in dir) entry.items) ≤ (log_of logs.old.items dir).room }
-    requires order { (dir : ℕ) → IsInOrder ((log_of logs.old.items dir).changes ++ filter (is_logged_in dir) entry.items) }
+    requires order { IsInOrder entry.items }
+    requires behind { StandBehind entry.items (λ dir. (log_of logs.old.items dir).changes) }
     ensures places { length logs.new.items ≡ length logs.old.items }
     ensures changes { (dir : ℕ) → (log_of logs.new.items dir).changes ≡ (log_of logs.old.items dir).changes ++ filter (is_logged_in dir) entry.items }
     ensures marks { (dir : ℕ) → (log_of logs.new.items dir).mark ≡ (log_of logs.old.items dir).mark }

@@ -4,7 +4,7 @@ use Rattle.sfs_base.proofs.BasicOptions.{none_some, some_same}
 use Rattle.sfs_tree.specs.declared.changes.Change.{Change}
 use Rattle.mem_cells.specs.Log.{IsInOrder}
 use Rattle.mem_cells.specs.Part.{changes_kept}
-use Rattle.log_merge.specs.Merge.{lies_below}
+use Rattle.log_merge.specs.Merge.{is_under}
 use Rattle.log_merge.proofs.Owned.{front_below, front_more, below_more_own, in_order_front}
 use Rattle.log_merge.proofs.merging.own_changes.Goals as goal
 use Rattle.log_merge.proofs.merging.own_changes.Goals.{in-Some+then-change-below, in_default}
@@ -20,7 +20,7 @@ loop-change-preserved c =
     let pushed = c.in_ok-push.ensures.items ∙ ap (λ (one : Change). own ++ one ∷ []) c.in_ok-copy.ensures.ok in
     record {
       front = subst (λ (those : List Change). those ≡ take (length those) kept) (sym pushed) (front_more kept own change c.loop-change.invariant.front next);
-      below = subst (λ (those : List Change). filter (lies_below c.args.below.0) those ≡ those) (sym pushed) (below_more_own c.args.below.0 own change c.loop-change.invariant.below less);
+      below = subst (λ (those : List Change). filter (is_under c.args.below.0) those ≡ those) (sym pushed) (below_more_own c.args.below.0 own change c.loop-change.invariant.below less);
     }
 
 pub returns-clause-own : goal.returns-clause-own
