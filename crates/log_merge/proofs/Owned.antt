@@ -1,5 +1,5 @@
 -- The changes of a part below a stamp, and those of part after part.
-use Rattle.std.proofs.Common.{◌≡◌, ℕ, zero, suc, ◌<◌, ◌≤◌, List, [], ◌∷◌, ◌++◌, length, get_or, take, drop, filter, refl, sym, ap, ◌∙◌, subst, inl, inr, arith}
+use Rattle.std.proofs.Common.{◌≡◌, ℕ, ◌<◌, ◌≤◌, List, [], ◌∷◌, ◌++◌, length, get_or, take, drop, filter, refl, sym, ap, ◌∙◌, subst, inl, inr, arith}
 use Rattle.std.proofs.lemmas.Bool.{cond-true, cond-false}
 use Rattle.std.proofs.lemmas.Bool.Decides.{nat_tests}
 use Rattle.std.proofs.lemmas.List.{append_assoc, append-nil, take-append-drop, get_or-drop, length-drop, length-append, take_more}
@@ -40,7 +40,7 @@ pub front_more : (changes own : List Change) (change : Change) → own ≡ take 
 front_more changes own change front next =
     ap (λ l. l ++ change ∷ []) front
     ∙ ap (λ c. take (length own) changes ++ c ∷ []) (sym (get_or_from_slice_get changes (length own) change change next))
-    ∙ sym (take_more changes (length own) change (elim (slice_get_cases changes (length own)).1 [ | inl there ↦ there.1 | inr (past, none) ↦ absurd (none_some (sym none ∙ next)) ]))
+    ∙ sym (take_more changes (length own) change (elim (slice_get_cases changes (length own)).1 [ inl there ↦ there.1 | inr (past, none) ↦ absurd (none_some (sym none ∙ next)) ]))
     ∙ ap (λ n. take n changes) (sym (length-append own (change ∷ [])))
 
 pub below_more_own : (stamp : ℕ) (own : List Change) (change : Change) → filter (is_under stamp) own ≡ own → change.stamp.0 < stamp → filter (is_under stamp) (own ++ change ∷ []) ≡ own ++ change ∷ []

@@ -4,8 +4,6 @@ use borrow.Author.Tests.{ltb-true}
 use Rattle.std.specs.Prelude.{All, drop}
 use Rattle.std.proofs.lemmas.Bool.{cond-true, cond-false}
 use Rattle.std.proofs.lemmas.Bool.Decides.{nat_tests}
-use Rattle.std.proofs.lemmas.List.{get_or_append_left, length-append}
-use Rattle.std.proofs.Math.Seq.{get_or-append_seam}
 use Rattle.std.proofs.lemmas.List.Elements.{All-get_or, All-append, All-cons, All-nil}
 use Rattle.std.proofs.lemmas.List.Sorted.{IsNonDecreasingBy-push, IsNonDecreasingBy-drop, IsNonDecreasingBy-short}
 use Rattle.sfs_tree.specs.declared.changes.Change.{Change}

@@ -1,4 +1,4 @@
-use Rattle.std.proofs.Common.{◌≡◌, ◌≤◌, ◌∷◌, ◌++◌, ℕ, List, filter, length, ap, ◌∙◌, sym, subst, arith}
+use Rattle.std.proofs.Common.{◌≤◌, ◌∷◌, ◌++◌, ℕ, List, filter, length, ap, ◌∙◌, sym, subst, arith}
 use Rattle.std.specs.Prelude.{All}
 use Rattle.sfs_tree.specs.declared.changes.Change.{Change}
 use Rattle.sfs_tree.specs.Logged.{is_logged_in}
@@ -40,5 +40,5 @@ loop-change-preserved c =
           (c.push_at.ensures.room dir);
       order = in_order-drop 1 (change ∷ rest) (subst IsInOrder c.in-Some.ensures.steps.0 c.loop-change.invariant.order);
       behind = still_behind change rest (λ dir. (log_of before dir).changes) (λ dir. (log_of c.push_at.new.logs.items dir).changes) c.push_at.ensures.changes (subst IsInOrder c.in-Some.ensures.steps.0 c.loop-change.invariant.order)
-      (subst (λ (those : List Change). StandBehind those (λ dir. (log_of before dir).changes)) c.in-Some.ensures.steps.0 c.loop-change.invariant.behind);
+          (subst (λ (those : List Change). StandBehind those (λ dir. (log_of before dir).changes)) c.in-Some.ensures.steps.0 c.loop-change.invariant.behind);
     }
