@@ -12,6 +12,8 @@ mod failures;
 #[cfg(test)]
 mod histories;
 #[cfg(test)]
+mod logs;
+#[cfg(test)]
 mod machine;
 #[cfg(test)]
 mod nets;

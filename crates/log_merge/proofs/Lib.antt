@@ -1,0 +1,3 @@
+pub mod OneMerge
+pub mod Owned
+pub mod Taking

@@ -1,0 +1,24 @@
+-- What a part keeps of its core's changes; each law is proved by a function of the module laws.
+use Rattle.std.specs.Prelude.{◌≡◌, ℕ, ◌+◌, ◌≤◌, List, [], ◌++◌, filter, All}
+use Rattle.sfs_tree.specs.declared.changes.Change.{Change}
+use Rattle.sfs_tree.specs.Logged.{is_logged_in}
+use Rattle.mem_cells.specs.Log.{is_from}
+use Rattle.mem_cells.specs.Part.{CoreLog, changes_kept, mark_kept, IsAddedTo, IsTrimmed}
+
+-- A part is what is left of a core's changes: of each directory those that have its mark as their stamp at least, in their order; and
+-- it counts the core's entries.
+pub record IsLeftOf (changes : List Change) (entries : ℕ) (part : CoreLog) : Type 0 where
+  pub changes_left : (directory : ℕ) → changes_kept part directory ≡ filter (is_from (mark_kept part directory)) (filter (is_logged_in directory) changes)
+  pub entries_counted : part.entries ≡ entries
+
+-- A part without changes is what is left of no entries.
+abbrev pub PartsBegin : Type 0
+PartsBegin = IsLeftOf [] 0 (record { logs = []; entries = 0 })
+
+-- Where no change of an entry has a stamp below its directory's mark, the part with it is what is left of the changes with those of the entry.
+abbrev pub EntriesAreKept : Type 0
+EntriesAreKept = (changes entry : List Change) (entries : ℕ) (part after : CoreLog) → IsLeftOf changes entries part → All (λ change. mark_kept part change.dir.0 ≤ change.stamp.0) entry → IsAddedTo part entry after → IsLeftOf (changes ++ entry) (entries + 1) after
+
+-- A trimmed part is what is left of the same changes.
+abbrev pub TrimsKeep : Type 0
+TrimsKeep = (changes : List Change) (entries : ℕ) (part : CoreLog) (directory below : ℕ) (after : CoreLog) → IsLeftOf changes entries part → IsTrimmed part directory below after → IsLeftOf changes entries after
