@@ -1,7 +1,7 @@
 -- What a recovery begins with: an image in which nothing is wrong, as it was read.
-use Rattle.std.proofs.Common.{◌≡◌, ◌≢◌, ◌⊎◌, ◌↔◌, ℕ, zero, suc, ◌+◌, ◌-◌, ◌*◌, ◌<◌, ◌≤◌, Bool, true, false, cond, List, [], ◌∷◌, ◌++◌, length, map, get_or, slice_index_or, Option, None, Some, refl, sym, ◌∙◌, ap, subst, arith, inl, inr}
+use Rattle.std.proofs.Common.{◌≡◌, ℕ, zero, suc, ◌<◌, Bool, true, false, cond, List, [], ◌∷◌, length, map, get_or, Option, None, Some, refl, sym, ◌∙◌, ap, subst, arith, inl, inr}
 use Rattle.std.specs.Prelude.{option_map, unwrap_or}
-use Rattle.std.specs.List.{range_with_len, filter, AllByRecursion}
+use Rattle.std.specs.List.{range_with_len, filter}
 use Rattle.std.proofs.lemmas.Bool.{cases_Bool}
 use Rattle.std.proofs.lemmas.List.{length-map, get_or-map, get_or_default}
 use Rattle.std.proofs.lemmas.List.FromFn.{length-range_with_len, get_or-range_with_len}
@@ -12,11 +12,12 @@ use Rattle.sfs_image.specs.ImageOf.{Transaction, given, with_opened, transaction
 use Rattle.sfs_image.specs.ImageWrites.{IsFullTable}
 use Rattle.sfs_image.specs.Journal.{Entry, head_of}
 use Rattle.sfs_image.specs.Part.{Part, part_of}
-use Rattle.sfs_image.specs.Settled.{Stamped, image_block, newest, record_in, held, body_in, open_bodies, journal_slot, slot_count, table_record, settled}
+use Rattle.sfs_image.specs.Settled.{Stamped, image_block, body_in, open_bodies, journal_slot, slot_count, table_record}
 use Rattle.sfs_image.specs.Super.{Layout}
+use Rattle.sfs_image.proofs.BytesLaws.{None-option_map}
 use Rattle.sfs_image.proofs.ImageOfLaws.{held_given, settled_is, parts_instead}
 use Rattle.recovery.specs.Open.{AreOpen, IsOpenSlot, is_slot_open}
-use Rattle.recovery.specs.Recovering.{AreNewestOf, SettlesAs, is_above, IsAt, IsFoundAt, AreOpenAbove, IsToBeClosed}
+use Rattle.recovery.specs.Recovering.{AreNewestOf, is_above, IsAt, IsFoundAt, AreOpenAbove, IsToBeClosed}
 use Rattle.recovery.specs.Settling.{AreSettled, best_of}
 use Rattle.recovery.specs.declared.journals.OpenSlot.{OpenSlot}
 use Rattle.recovery.proofs.SettledRead.{found_has}
@@ -31,18 +32,14 @@ module _ (layout : Layout) (image : List ℕ) (stands : IsImageOf layout (transa
   held_is : (i : ℕ) → option_map (λ (s : Stamped (List ℕ)). s.value) (best i) ≡ option_map (λ (p : Part). p.raw) (given layout (transaction_in layout image) i)
   held_is i = held_given layout (transaction_in layout image) image stands.slots i
 
-  none_if : {X Y : Type 0} (f : X → Y) (o : Option X) → option_map f o ≡ None → o ≡ None
-  none_if f None is = refl
-  none_if f (Some x) is = absurd (let never : Some (f x) ≡ None = is in cc)
-
   pub newest_were_read : AreNewestOf layout (transaction_in layout image) (table_parts layout image) kept.stamps.items kept.records.items
   newest_were_read = record {
     given_one = λ i low some none.
         let value : option_map (λ (s : Stamped (List ℕ)). s.value) (best i) ≡ None = held_is i ∙ ap (option_map (λ (p : Part). p.raw)) none in
-        some (are.stamps i low ∙ ap (option_map (λ (s : Stamped (List ℕ)). s.stamp)) (none_if (λ (s : Stamped (List ℕ)). s.value) (best i) value));
+        some (are.stamps i low ∙ ap (option_map (λ (s : Stamped (List ℕ)). s.stamp)) (None-option_map (λ (s : Stamped (List ℕ)). s.value) (best i) value));
     given_none = λ i low none.
-        let no_best : best i ≡ None = none_if (λ (s : Stamped (List ℕ)). s.stamp) (best i) (sym (are.stamps i low) ∙ none) in
-        none_if (λ (p : Part). p.raw) (given layout (transaction_in layout image) i) (sym (held_is i) ∙ ap (option_map (λ (s : Stamped (List ℕ)). s.value)) no_best);
+        let no_best : best i ≡ None = None-option_map (λ (s : Stamped (List ℕ)). s.stamp) (best i) (sym (are.stamps i low) ∙ none) in
+        None-option_map (λ (p : Part). p.raw) (given layout (transaction_in layout image) i) (sym (held_is i) ∙ ap (option_map (λ (s : Stamped (List ℕ)). s.value)) no_best);
     each = λ i low. are.records i low ∙ settled_is layout (transaction_in layout image) (table_parts layout image) image stands i low;
   }
 
@@ -144,7 +141,7 @@ module _ (layout : Layout) (image : List ℕ) (found : List OpenSlot) (are : Are
       there j low is_open =
           let numbered : get_or (range_with_len 0 (slot_count layout)) j 0 ≡ j = get_or-range_with_len 0 (slot_count layout) j 0 low ∙ zero_plus j in
           let at = passing_is_there (is_slot_open layout image) (range_with_len 0 (slot_count layout)) j (subst (λ n. j < n) (sym (length-range_with_len 0 (slot_count layout))) low)
-              (subst (λ (n : ℕ). is_slot_open layout image n ≡ true) (sym numbered) is_open) in
+          (subst (λ (n : ℕ). is_slot_open layout image n ≡ true) (sym numbered) is_open) in
           let within : at.0 < length found = subst (λ n. at.0 < n) (sym as_many) at.1 in
           let one = some_at found at.0 within in
           (at.0, one.0, one.1, number_is at.0 one.0 one.1 ∙ at.2 ∙ numbered, refl)

@@ -14,6 +14,7 @@ use Rattle.sfs_dev.specs.Run.{Advances}
 use Rattle.sfs_dev.specs.Steps.{TellsAlike, Puts, TearsOnly}
 use Rattle.sfs_dev.specs.Ranges.{SameOutside}
 use Rattle.sfs_dev.specs.RangeLaws.{SameOutside-put}
+use Rattle.sfs_dev.proofs.ReadRuns.{answered}
 use Rattle.journal_one.specs.Job.{Place, gate_piece}
 use Rattle.journal_one.specs.Known.{EachLeft}
 use Rattle.journal_one.proofs.Kept.{IsLawful, put_told, written_stands, gate_put}
@@ -21,12 +22,7 @@ use Rattle.commit_one.specs.Carried.{GoesOnTelling}
 use Rattle.commit_one.proofs.Moments.{telling_trans, later_trans}
 use Rattle.recovery.specs.Recovering.{is_above, IsOldestAbove, HasNoneAbove, SettlesAs, IsToBeClosed, ClosesUpTo, ClosesSoFar, ClosesAll}
 use Rattle.recovery.specs.declared.journals.OpenSlot.{OpenSlot}
-use Rattle.recovery.proofs.JustMade.{gate_within}
 use Rattle.recovery.proofs.SlotsClosed.{written_settles, gate_is_shut, all_are_closed}
-
--- an answer, with its types
-abbrev pub ok_answer : (V E : Type 0) → V → Result V E
-ok_answer V E value = Ok value
 
 pub no_answer : {W F : Type 0} (X : Type 0) (answer : Result W F) → IsErr answer → OnOk answer X
 no_answer X (Ok value) failed = absurd (false_not_true failed)
@@ -66,11 +62,11 @@ module _ (layout : Layout) (parts : ℕ → Part) (found : List OpenSlot) (last 
       let sole = subst (λ (t : Option (List ℕ)). OnlyTold t (images new)) told puts.only in
       let is : image ≡ content = sole image left in
       let same = subst (λ (l : List ℕ). SameOutside (slot_byte layout one.number) 1 p.0 l) (sym (is ∙ p.2))
-          (SameOutside-put (slot_byte layout one.number) (0 ∷ []) p.0 (omega (arith, lawful.whole p.0 p.1))) in
+      (SameOutside-put (slot_byte layout one.number) (0 ∷ []) p.0 (omega (arith, lawful.whole p.0 p.1))) in
       let stands = written_stands (gate_piece spot 0) old new large lawful puts.content content told in
       let gate = gate_put spot 0 content stands in
       let shut : (head_of (part 0 4096 (journal_slot layout image one.number))).gate ≡ false =
-          ap (λ (l : List ℕ). (head_of (part 0 4096 (journal_slot layout l one.number))).gate) is ∙ gate in
+      ap (λ (l : List ℕ). (head_of (part 0 4096 (journal_slot layout l one.number))).gate) is ∙ gate in
       gate_is_shut layout parts found last place one within oldest p.0 image (to p.0 p.1 p.0 (lawful.read_is_left p.0 p.1)) same shut
 
   pub slot_closes : {V E : Type 0} (result : Result V E) → OnOk result (Puts (slot_byte layout one.number) (0 ∷ []) old new)
@@ -94,7 +90,7 @@ none_closed layout parts found disk to = record {
 
 module _ (layout : Layout) (parts : ℕ → Part) (found : List OpenSlot) (last next : Option ℕ) (old mid new : View) (goes : Advances mid new) (before : ClosesSoFar layout parts found last old mid) where
   -- one closing more
-  pub one_more_closed : {V E : Type 0} (value : V) → ClosesUpTo layout parts found next mid new (ok_answer V E value) → ClosesSoFar layout parts found next old new
+  pub one_more_closed : {V E : Type 0} (value : V) → ClosesUpTo layout parts found next mid new (answered {V = V} {F = E} value) → ClosesSoFar layout parts found next old new
   one_more_closed value run = record {
     told = telling_trans old mid new before.told run.told;
     later = later_trans (λ _ image. SettlesAs layout parts image) old mid new before.told goes before.later run.later;
@@ -111,7 +107,7 @@ module _ (layout : Layout) (parts : ℕ → Part) (found : List OpenSlot) (last 
 
 -- all are closed
 pub closings_end : {V E : Type 0} (layout : Layout) (parts : ℕ → Part) (found : List OpenSlot) (last : Option ℕ) (old new : View) (value : V) → HasNoneAbove found (length found) last
-    → ClosesSoFar layout parts found last old new → ClosesAll layout parts old new (ok_answer V E value)
+    → ClosesSoFar layout parts found last old new → ClosesAll layout parts old new (answered {V = V} {F = E} value)
 closings_end layout parts found last old new value none so_far = record {
   told = so_far.told;
   later = so_far.later;

@@ -1,5 +1,5 @@
 -- The part of a free inode, and the inodes that a transaction frees.
-use Rattle.std.proofs.Common.{◌≡◌, ◌≢◌, ◌⊎◌, ℕ, zero, suc, ◌+◌, ◌<◌, ◌≤◌, Bool, true, false, cond, eqb, List, [], ◌∷◌, length, map, get_or, Option, None, Some, refl, sym, ◌∙◌, ap, subst, arith, inl, inr}
+use Rattle.std.proofs.Common.{◌≡◌, ◌≢◌, ◌⊎◌, ℕ, zero, suc, ◌<◌, Bool, true, false, cond, eqb, List, [], ◌∷◌, length, map, get_or, Option, None, Some, refl, sym, ◌∙◌, ap, subst, arith, inl, inr}
 use Rattle.std.specs.Prelude.{option_map, unwrap_or, All}
 use Rattle.std.specs.List.{range_with_len, filter, find}
 use Rattle.std.proofs.lemmas.Bool.{cases_Bool, cases_eq, eqb-true, eq-eqb, ne_eqb}
@@ -8,8 +8,8 @@ use Rattle.sfs_base.proofs.BasicNumbers.{zero_plus}
 use Rattle.sfs_image.specs.Bytes.{zeros}
 use Rattle.sfs_image.specs.ImageOf.{InodePart, Transaction, FreshBlock, TurnsInto, PointsToData, part_given, given, with_opened, with_slot}
 use Rattle.sfs_image.specs.Inode.{inode_fault}
-use Rattle.sfs_image.specs.Part.{Part, part_of, IsGathered, pointer_at, is_free_part, inode_in, seen_of}
-use Rattle.sfs_image.specs.Settled.{Stamped, newest, slot_count}
+use Rattle.sfs_image.specs.Part.{Part, part_of, IsGathered, pointer_at, is_free_part, seen_of}
+use Rattle.sfs_image.specs.Settled.{Stamped, slot_count}
 use Rattle.sfs_image.specs.Super.{Layout}
 use Rattle.sfs_image.proofs.AcceptedLaws.{raw_of}
 use Rattle.sfs_image.proofs.Basics.{find_made}
@@ -80,14 +80,14 @@ found_passing test (n ∷ rest) i = go (found_passing test rest i)
     go : find (λ n. eqb n i) (filter test rest) ≡ cond (test i) (find (λ n. eqb n i) rest) None → find (λ n. eqb n i) (filter test (n ∷ rest)) ≡ cond (test i) (find (λ n. eqb n i) (n ∷ rest)) None
     go before = elim (cases_eq n i) [
       | inr apart ↦ elim (cases_Bool (test n)) [
-          | inl passes ↦ kept passes ∙ others apart (filter test rest) ∙ before ∙ ap (λ (o : Option ℕ). cond (test i) o None) (sym (others apart rest))
-          | inr fails ↦ left_out fails ∙ before ∙ ap (λ (o : Option ℕ). cond (test i) o None) (sym (others apart rest))
-        ]
+        | inl passes ↦ kept passes ∙ others apart (filter test rest) ∙ before ∙ ap (λ (o : Option ℕ). cond (test i) o None) (sym (others apart rest))
+        | inr fails ↦ left_out fails ∙ before ∙ ap (λ (o : Option ℕ). cond (test i) o None) (sym (others apart rest))
+      ]
       | inl is ↦ elim (cases_Bool (test n)) [
-          | inl passes ↦ kept passes ∙ same is (filter test rest) ∙ sym (ap (λ b. cond b (find (λ n. eqb n i) (n ∷ rest)) None) (ap test (sym is) ∙ passes) ∙ same is rest)
-          | inr fails ↦ left_out fails ∙ before ∙ ap (λ b. cond {A = Option ℕ} b (find (λ n. eqb n i) rest) None) (ap test (sym is) ∙ fails)
-              ∙ sym (ap (λ b. cond {A = Option ℕ} b (find (λ n. eqb n i) (n ∷ rest)) None) (ap test (sym is) ∙ fails))
-        ]
+        | inl passes ↦ kept passes ∙ same is (filter test rest) ∙ sym (ap (λ b. cond b (find (λ n. eqb n i) (n ∷ rest)) None) (ap test (sym is) ∙ passes) ∙ same is rest)
+        | inr fails ↦ left_out fails ∙ before ∙ ap (λ b. cond {A = Option ℕ} b (find (λ n. eqb n i) rest) None) (ap test (sym is) ∙ fails)
+            ∙ sym (ap (λ b. cond {A = Option ℕ} b (find (λ n. eqb n i) (n ∷ rest)) None) (ap test (sym is) ∙ fails))
+      ]
     ]
 
 -- what is in a list is found in it

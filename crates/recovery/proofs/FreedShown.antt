@@ -1,24 +1,24 @@
 -- An image whose orphans are freed has no fault, and the very same tree.
-use Rattle.std.proofs.Common.{◌≡◌, ◌≢◌, ℕ, ◌+◌, ◌<◌, ◌≤◌, Bool, true, false, cond, eqb, ◌&&◌, List, length, Option, None, Some, refl, sym, ◌∙◌, ap, subst, arith, inl, inr}
+use Rattle.std.proofs.Common.{◌≡◌, ◌≢◌, ℕ, ◌+◌, ◌<◌, ◌≤◌, Bool, true, false, cond, eqb, ◌&&◌, List, Option, None, Some, refl, sym, ◌∙◌, ap, subst, arith, inl, inr}
 use Rattle.std.specs.Prelude.{count_by}
 use Rattle.std.specs.FinMap.{entries}
 use Rattle.std.specs.Option.{is_some, is_none}
-use Rattle.std.proofs.lemmas.Bool.{cases_Bool, cases_eq, eqb-true, eq-eqb, ne_eqb}
+use Rattle.std.proofs.lemmas.Bool.{cases_Bool, cases_eq, eqb-true, ne_eqb}
 use Rattle.sfs_base.specs.declared.numbers.Kind.TheVariants.{File, Directory}
 use Rattle.sfs_base.proofs.BasicTruth.{and_first}
 use Rattle.sfs_tree.specs.Tree.{TreeState, count_of, holds_directory}
-use Rattle.sfs_image.specs.Part.{Part, seen_of, is_free_part}
-use Rattle.sfs_image.specs.Rules.{breaks_bytes_rule, breaks_record}
-use Rattle.sfs_image.specs.Seen.{Seen, SeenInodes}
-use Rattle.sfs_image.specs.Settled.{journal_fault_of, layout_of, parts_of}
+use Rattle.sfs_image.specs.Part.{Part, seen_of}
+use Rattle.sfs_image.specs.Rules.{breaks_bytes_rule}
+use Rattle.sfs_image.specs.Seen.{SeenInodes}
+use Rattle.sfs_image.specs.Settled.{journal_fault_of, parts_of}
 use Rattle.sfs_image.specs.Slot.{kind_byte}
 use Rattle.sfs_image.specs.Super.{Layout}
 use Rattle.sfs_image.specs.Inode.{inode_fault}
 use Rattle.sfs_image.proofs.RuleLaws.{free_breaks_none}
 use Rattle.image_tree.specs.Image.{ImageFault, inodes_shown, image_inodes, fault_of, tree_of, making_at_mount, HaveGoodBytes, HasGoodBytes}
-use Rattle.image_tree.specs.ImageTree.{Making, NOTHING_MADE, image_rows, image_tree, shows_file, shows_directory, tree_with_orphans}
-use Rattle.image_tree.specs.Keeps.{KeepsRules, ruled_tree}
-use Rattle.image_tree.specs.Mount.{ShowsByKind, StandsByItself, own_numbers}
+use Rattle.image_tree.specs.ImageTree.{Making, NOTHING_MADE, image_rows, image_tree, shows_directory, tree_with_orphans}
+use Rattle.image_tree.specs.Keeps.{ruled_tree}
+use Rattle.image_tree.specs.Mount.{StandsByItself, own_numbers}
 use Rattle.image_tree.specs.Orphans.{is_orphan, FreesOrphans, IsFreed}
 use Rattle.image_tree.specs.Stands.{IsUnused, StandsForSoundTree}
 use Rattle.image_tree.proofs.Alike.{tree_alike}
@@ -27,10 +27,14 @@ use Rattle.image_tree.proofs.Mounted.{rules_make_standing}
 use Rattle.image_tree.proofs.Orphans.{freed_orphans_keep_the_tree}
 use Rattle.image_tree.proofs.WholeImages.{rule_alike, standing_images_are_read}
 use Rattle.disk_tree.specs.Shown.{AreRuled}
-use Rattle.recovery.specs.Freed.{is_unlinked, free_part, without_unlinked, AreFreed}
+use Rattle.recovery.specs.Freed.{is_unlinked, free_part, without_unlinked, AreUnlinkedFree}
 use Rattle.recovery.specs.Recovered.{ShowsTheSame}
 use Rattle.recovery.proofs.FreePart.{zeros_are_sound, free_raw, free_is_free, free_is_unused}
 use Rattle.recovery.proofs.ShownAlike.{IsReadable, making_of}
+
+-- a file is no directory
+file_apart : kind_byte File ≡ kind_byte Directory → ⊥
+file_apart e = omega (arith, e)
 
 -- parts that break no rule
 pub record AreFaultless (layout : Layout) (parts : ℕ → Part) : Type 0 where
@@ -50,19 +54,16 @@ module _ (layout : Layout) (parts : ℕ → Part) (are : AreFaultless layout par
         let no_directory : shows_directory (shown.seen i) ≡ false = ne_eqb _ _ (λ two. file_apart (sym kind ∙ two)) in
         let in_tree = directory_shown shown NOTHING_MADE i low ∙ no_directory in
         let links : (shown.seen i).links ≡ count_of (image_rows shown) i =
-            are.ruled.rules.links i low (λ none. file_used (sym kind ∙ none))
-            ∙ ap (λ b. cond b (2 + count_by (holds_directory (ruled_tree shown) i) (entries (ruled_tree shown).rows)) (count_of (ruled_tree shown).rows i)) in_tree in
+        are.ruled.rules.links i low (λ none. file_used (sym kind ∙ none))
+        ∙ ap (λ b. cond b (2 + count_by (holds_directory (ruled_tree shown) i) (entries (ruled_tree shown).rows)) (count_of (ruled_tree shown).rows i)) in_tree in
         ap (λ n. eqb (shown.seen i).kind (kind_byte File) && eqb n 0) (sym links)
   ]
     where
-      file_apart : kind_byte File ≡ kind_byte Directory → ⊥
-      file_apart e = omega (arith, e)
-
       file_used : kind_byte File ≡ 0 → ⊥
       file_used e = omega (arith, e)
 
   -- the parts without orphans, in an image that settles as them
-  module _ (freed : ℕ → Part) (without : AreFreed layout parts freed) (image : List ℕ) (is : IsReadable layout image)
+  module _ (freed : ℕ → Part) (without : AreUnlinkedFree layout parts freed) (image : List ℕ) (is : IsReadable layout image)
       (settles : (i : ℕ) → i < layout.inodes → parts_of layout image i ≡ freed i) where
     abbrev next : SeenInodes
     next = inodes_shown layout (parts_of layout image)
@@ -93,10 +94,7 @@ module _ (layout : Layout) (parts : ℕ → Part) (are : AreFaultless layout par
     no_root unlinked =
         let file : (shown.seen 0).kind ≡ kind_byte File = eqb-true _ _ (and_first (eqb (shown.seen 0).kind (kind_byte File)) (eqb (shown.seen 0).links 0) unlinked) in
         let directory = are.ruled.rules.root.1 in
-        apart (sym file ∙ directory)
-      where
-        apart : kind_byte File ≡ kind_byte Directory → ⊥
-        apart e = omega (arith, e)
+        file_apart (sym file ∙ directory)
 
     good : (rule i : ℕ) → 1 ≤ rule → rule ≤ 7 → rule ≢ 2 → rule ≢ 5 → i < layout.inodes → breaks_bytes_rule rule layout (parts_of layout image) i ≡ false
     good rule i low high no_second no_fifth within = elim (cases_Bool (is_unlinked (parts i).raw)) [
@@ -132,7 +130,7 @@ module _ (layout : Layout) (parts : ℕ → Part) (are : AreFaultless layout par
         ∙ (is_freed (making_of layout share)).tree
 
   -- it shows what an image shows that settles as the parts with their orphans
-  pub freed_shows_the_same : (freed : ℕ → Part) → AreFreed layout parts freed → (image other : List ℕ) → IsReadable layout image → IsReadable layout other
+  pub freed_shows_the_same : (freed : ℕ → Part) → AreUnlinkedFree layout parts freed → (image other : List ℕ) → IsReadable layout image → IsReadable layout other
       → ((i : ℕ) → i < layout.inodes → parts_of layout image i ≡ freed i) → ((i : ℕ) → i < layout.inodes → parts_of layout other i ≡ parts i) → fault_of other ≡ None
       → ShowsTheSame image other
   freed_shows_the_same freed without image other one two settles was none = record {

@@ -1,19 +1,18 @@
 -- What was read of a disk that tells its content is its image's.
-use Rattle.std.proofs.Common.{◌≡◌, ◌≢◌, ℕ, ◌<◌, ◌≤◌, Bool, true, false, cond, List, [], length, slice_index_or, Option, None, Some, refl, sym, ◌∙◌, ap, subst, arith, inl, inr}
+use Rattle.std.proofs.Common.{◌≡◌, ℕ, ◌<◌, ◌≤◌, false, cond, List, [], slice_index_or, Option, None, Some, refl, sym, ◌∙◌, ap, subst, arith, inl, inr}
 use Rattle.std.specs.Option.{is_none}
-use Rattle.std.specs.Prelude.{option_map}
 use Rattle.std.proofs.lemmas.Bool.{cases_Bool, cases_lt, eqb-true}
 use Rattle.sfs_tree.specs.Tree.{TreeState}
-use Rattle.sfs_image.specs.ImageOf.{IsAccepted, IsImageOf, PointsToData, transaction_in, table_parts}
-use Rattle.sfs_image.specs.Part.{Part, part_of, pointer_at, is_free_part}
+use Rattle.sfs_image.specs.ImageOf.{IsImageOf, PointsToData, transaction_in, table_parts}
+use Rattle.sfs_image.specs.Part.{part_of, is_free_part}
 use Rattle.sfs_image.specs.Rules.{breaks_bytes_rule}
 use Rattle.sfs_image.specs.Seen.{PLACES}
-use Rattle.sfs_image.specs.Settled.{image_block, layout_of, parts_of, settled}
+use Rattle.sfs_image.specs.Settled.{image_block, parts_of, settled}
 use Rattle.sfs_image.specs.Super.{Layout}
 use Rattle.sfs_image.proofs.AcceptedLaws.{accepted_stands}
 use Rattle.sfs_image.proofs.PartLaws.{none_past_places}
 use Rattle.sfs_image.proofs.RuleLaws.{good_from_rule}
-use Rattle.image_tree.specs.Image.{ImageFault, first_of_faults, fault_of, tree_of, image_inodes, making_at_mount, inodes_shown}
+use Rattle.image_tree.specs.Image.{ImageFault, first_of_faults, fault_of, tree_of, image_inodes, making_at_mount}
 use Rattle.image_tree.specs.ImageTree.{image_tree}
 use Rattle.image_tree.specs.Rules.{TreeFault, FindsFault}
 use Rattle.image_tree.proofs.FirstFault.{first_fault_is_least}
@@ -75,9 +74,9 @@ module _ (image : List ℕ) (layout : Layout) (records : List (List ℕ)) (settl
   points_well i low place there = elim (cases_lt place PLACES) [
     | inr past ↦ absurd (there (none_past_places (image_block image) (settled layout image i) place past))
     | inl within ↦ elim (cases_Bool (is_free_part (parts_of layout image i))) [
-        | inl free ↦ absurd (there ((are_faultless.ruled.kinds.unused i low (eqb-true _ 0 free)).blocks place within))
-        | inr used ↦ (let facts = good_from_rule layout (parts_of layout image i) place (bytes_kept 4 i (omega arith) (omega arith) low) used within there in (facts.low, facts.high))
-      ]
+      | inl free ↦ absurd (there ((are_faultless.ruled.kinds.unused i low (eqb-true _ 0 free)).blocks place within))
+      | inr used ↦ (let facts = good_from_rule layout (parts_of layout image i) place (bytes_kept 4 i (omega arith) (omega arith) low) used within there in (facts.low, facts.high))
+    ]
   ]
 
   pub image_stands : IsImageOf layout (transaction_in layout image) (table_parts layout image) image

@@ -7,15 +7,14 @@ use Rattle.std.proofs.Math.Seq.{take-append_seam, drop-append_seam, take-length}
 use Rattle.sfs_base.proofs.BasicNumbers.{le_itself}
 use Rattle.sfs_image.proofs.BytesLaws.{zeros-is, length-zeros, part_in_zeros}
 use Rattle.std.proofs.Math.Nat.{mul-div_cancel_left}
-use Rattle.sfs_dev.specs.Ranges.{put, SameOutside}
+use Rattle.sfs_dev.specs.Ranges.{put}
 use Rattle.sfs_dev.specs.RangeLaws.{part-put, length-put, SameOutside-put}
 use Rattle.sfs_image.specs.Bytes.{part, zeros}
 use Rattle.sfs_image.specs.ImageOf.{IsShut, IsJustMade, empty_directory}
 use Rattle.sfs_image.specs.ImageWrites.{AgreesOutside, LiesApart}
 use Rattle.sfs_image.specs.Inode.{inode_bytes}
-use Rattle.sfs_image.specs.Journal.{head_of}
 use Rattle.sfs_image.specs.Laws.{IsDivided}
-use Rattle.sfs_image.specs.Settled.{image_block, journal_slot, slot_byte, slot_count, table_byte, table_record}
+use Rattle.sfs_image.specs.Settled.{journal_slot, slot_byte, slot_count, table_byte, table_record}
 use Rattle.sfs_image.specs.Super.{Layout, InRange, IsLayout, super_bytes, slot_blocks, record_blocks, number_blocks, table_start}
 use Rattle.sfs_image.proofs.FrameLaws.{part-part, part_apart, gate_byte}
 use Rattle.sfs_image.proofs.LayoutLaws.{divided}

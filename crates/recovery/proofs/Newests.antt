@@ -1,5 +1,5 @@
 -- The records of a body, one after another.
-use Rattle.std.proofs.Common.{◌≡◌, ◌≢◌, ℕ, zero, suc, ◌+◌, ◌*◌, ◌-◌, ◌<◌, ◌≤◌, Bool, true, false, cond, not, ◌&&◌, ◌||◌, List, [], ◌∷◌, ◌++◌, length, map, Option, None, Some, option_map, slice_index, refl, sym, ap, ap₂, subst, ◌∙◌, arith, nat_lt, nat_eq, inl, inr, add-one, unwrap_or}
+use Rattle.std.proofs.Common.{◌≡◌, ◌≢◌, ℕ, zero, suc, ◌+◌, ◌*◌, ◌-◌, ◌<◌, ◌≤◌, Bool, true, false, cond, not, ◌||◌, List, [], ◌∷◌, ◌++◌, length, map, Option, None, Some, option_map, slice_index, refl, sym, ap, subst, ◌∙◌, arith, nat_lt, nat_eq, inl, inr, add-one, unwrap_or}
 use Rattle.std.specs.Option.{option_or}
 use Rattle.std.specs.List.{range_with_len, find}
 use Rattle.std.proofs.lemmas.Bool.{ltb-true, cases_order}
@@ -11,7 +11,7 @@ use Rattle.sfs_base.proofs.BasicTruth.{and_first, and_second, not_false}
 use Rattle.sfs_base.proofs.BasicOptions.{or_none}
 use Rattle.sfs_image.specs.Bytes.{part}
 use Rattle.sfs_image.specs.Journal.{Entry, numbers_fault, is_next}
-use Rattle.sfs_image.specs.Settled.{Body, Stamped, newer, record_in}
+use Rattle.sfs_image.specs.Settled.{Stamped, newer}
 use Rattle.sfs_image.proofs.BytesLaws.{false_from_fault}
 use Rattle.sfs_image.proofs.PiecesLaws.{first_of-None}
 use Rattle.block_map.proofs.Places.{range_more}

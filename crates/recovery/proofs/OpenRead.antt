@@ -1,6 +1,6 @@
 -- What reads give of the superblock and of the journal slots of an image.
-use Rattle.std.proofs.Common.{◌≡◌, ℕ, zero, suc, ◌+◌, ◌*◌, ◌/◌, ◌%◌, ◌<◌, ◌≤◌, min, Bool, true, false, cond, List, [], ◌∷◌, ◌++◌, length, map, Option, None, Some, option_map, refl, sym, ap, ap₂, subst, ◌∙◌, arith, add-zero, nat_lt, drop, ◌⊎◌, inl, inr}
-use Rattle.std.proofs.lemmas.Bool.{ltb-true, ltb-false, cases_order}
+use Rattle.std.proofs.Common.{◌≡◌, ℕ, ◌+◌, ◌*◌, ◌/◌, ◌%◌, ◌<◌, ◌≤◌, min, true, false, cond, List, [], ◌∷◌, ◌++◌, length, map, Option, None, Some, option_map, refl, sym, ap, ap₂, subst, ◌∙◌, arith, add-zero, nat_lt, drop, ◌⊎◌, inl, inr}
+use Rattle.std.proofs.lemmas.Bool.{ltb-false, cases_order}
 use Rattle.std.proofs.lemmas.List.{map-append, append-nil}
 use Rattle.std.proofs.lemmas.List.Elements.{filter-append}
 use Rattle.sfs_base.proofs.BasicNumbers.{none_below, zero_plus}
@@ -14,8 +14,8 @@ use Rattle.std.proofs.Math.Nat.{mul-div_cancel_left}
 use Rattle.sfs_image.specs.Bytes.{part, u32s_at, number_from, first_of}
 use Rattle.sfs_image.specs.Journal.{Head, head_of, head_fault, numbers_of, numbers_fault, journal_fault}
 use Rattle.sfs_image.specs.Laws.{IsDivided}
-use Rattle.sfs_image.specs.Settled.{Body, SlotFault, image_block, journal_slot, slot_byte, slot_count, layout_of, super_fault_of, body_in, open_body, open_below, slot_fault_of, journal_fault_of}
-use Rattle.sfs_image.specs.Super.{Layout, IsLayout, slot_blocks, table_start, record_blocks, super_of, super_fault}
+use Rattle.sfs_image.specs.Settled.{Body, SlotFault, image_block, journal_slot, slot_byte, slot_count, super_fault_of, body_in, open_body, open_below, slot_fault_of, journal_fault_of}
+use Rattle.sfs_image.specs.Super.{Layout, IsLayout, slot_blocks, table_start, record_blocks, super_fault}
 use Rattle.sfs_image.proofs.FrameLaws.{part-part}
 use Rattle.sfs_image.proofs.LayoutLaws.{divided}
 use Rattle.sfs_dev.specs.Disk.{Gives}

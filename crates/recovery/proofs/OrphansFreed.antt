@@ -1,24 +1,22 @@
 -- What a commit that frees inodes leaves.
-use Rattle.std.proofs.Common.{◌≡◌, ◌⊎◌, ℕ, zero, suc, ◌+◌, ◌*◌, ◌<◌, ◌≤◌, Bool, List, [], ◌∷◌, length, map, get_or, Option, None, Some, Result, Ok, Err, OnOk, refl, sym, ◌∙◌, ap, ap₂, subst, arith, inl, inr}
+use Rattle.std.proofs.Common.{◌≡◌, ◌⊎◌, ℕ, ◌<◌, Bool, List, [], ◌∷◌, map, get_or, Result, OnOk, refl, sym, ap₂, subst, arith, inl, inr}
 use Rattle.std.specs.Prelude.{All}
 use Rattle.std.specs.List.{range_with_len, filter}
 use Rattle.std.proofs.lemmas.Bool.{cases_lt}
 use Rattle.std.proofs.lemmas.List.{length-map, get_or-map}
 use Rattle.std.proofs.lemmas.List.Elements.{All-from_get_or}
-use Rattle.sfs_image.specs.Bytes.{zeros}
-use Rattle.sfs_image.specs.ImageOf.{InodePart, with_opened, TurnsInto, PointsToData, IsImageOf}
+use Rattle.sfs_image.specs.ImageOf.{InodePart, TurnsInto, PointsToData, IsImageOf}
 use Rattle.sfs_image.specs.Journal.{Entry}
 use Rattle.sfs_image.specs.Part.{Part}
 use Rattle.sfs_image.specs.Super.{Layout}
 use Rattle.sfs_dev.specs.Disk.{View}
-use Rattle.sfs_dev.specs.Run.{Advances, CountsOn}
-use Rattle.journal_one.specs.Job.{Place, Job, HaveOwnBlocks}
+use Rattle.journal_one.specs.Job.{Place, Job}
 use Rattle.journal_one.specs.Known.{EachLeft}
 use Rattle.journal_one.specs.Packed.{Contents}
-use Rattle.commit_one.specs.Carried.{Carries, LaterLeaves, IsMomentOf, durable_at}
-use Rattle.commit_one.specs.Change.{nothing_open, entry_of_part, opened_by, parts_after, IsBefore, IsByItsSlot, IsAfter, IsChangeOf, job_for}
+use Rattle.commit_one.specs.Carried.{Carries, IsMomentOf, durable_at}
+use Rattle.commit_one.specs.Change.{nothing_open, entry_of_part, opened_by, IsBefore, IsByItsSlot, IsAfter, IsChangeOf, job_for}
 use Rattle.commit_one.proofs.Images.{own_part}
-use Rattle.recovery.specs.Freed.{free_part, free_entry, freed_part, freeing, freed_by, FreesUnlinked}
+use Rattle.recovery.specs.Freed.{free_entry, freed_part, freeing, freed_by, FreesUnlinked}
 use Rattle.recovery.specs.Recovering.{SettlesAs}
 use Rattle.recovery.proofs.BegunFrom.{settled_again, stands_settled}
 use Rattle.recovery.proofs.FreePart.{free_raw, turns_free, free_points_to_data}
@@ -72,8 +70,8 @@ module _ (layout : Layout) (n : ℕ) (test : ℕ → Bool) (parts : ℕ → Part
 
   moment_settles : (began k : ℕ) (image : List ℕ) → IsMomentOf job parts new began k image → SettlesAs layout parts image ⊎ SettlesAs layout freed image
   moment_settles began k image is = elim (cases_lt (durable_at began job) k) [
-    | inl late ↦ inr (elim (is.durable late) [ | inl slot ↦ slot_settles image slot | inr after ↦ after_settles image after ])
-    | inr early ↦ elim (is.opening early) [ | inl before ↦ inl (before_settles image before) | inr slot ↦ inr (slot_settles image slot) ]
+    | inl late ↦ inr (elim (is.durable late) [ inl slot ↦ slot_settles image slot | inr after ↦ after_settles image after ])
+    | inr early ↦ elim (is.opening early) [ inl before ↦ inl (before_settles image before) | inr slot ↦ inr (slot_settles image slot) ]
   ]
 
   pub carried_frees : {V E W F : Type 0} (old now : View) (result : Result V E) (answer : Result W F)
@@ -90,7 +88,7 @@ module _ (layout : Layout) (n : ℕ) (test : ℕ → Bool) (parts : ℕ → Part
 
     pub commit_frees : {V E W F : Type 0} (old now : View) (result : Result V E) (answer : Result W F)
         → ((parts : ℕ → Part) (new : List InodePart) → IsChangeOf (job_for place packed 1) parts new → EachLeft old (IsBefore (job_for place packed 1) parts)
-          → Carries (job_for place packed 1) parts new old now result)
+        → Carries (job_for place packed 1) parts new old now result)
         → EachLeft old (IsImageOf layout nothing_open parts) → (OnOk result (EachLeft now (IsAfter job parts new)) → OnOk answer (EachLeft now (IsAfter job parts new)))
         → FreesUnlinked layout parts freed old now answer
     commit_frees old now result answer carried before ends =

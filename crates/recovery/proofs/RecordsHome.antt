@@ -1,5 +1,5 @@
 -- How the newest records come into the table, one after another.
-use Rattle.std.proofs.Common.{◌≡◌, ◌≢◌, ◌⊎◌, ℕ, ◌+◌, ◌*◌, ◌<◌, ◌≤◌, List, length, slice_index_or, [], Option, None, Some, is_some, true, false, Result, Ok, Err, OnOk, refl, sym, ◌∙◌, ap, subst, arith, inl, inr}
+use Rattle.std.proofs.Common.{◌≡◌, ◌≢◌, ◌⊎◌, ℕ, ◌+◌, ◌*◌, ◌<◌, ◌≤◌, List, length, slice_index_or, [], Option, None, Some, is_some, true, Result, Ok, Err, OnOk, refl, sym, ◌∙◌, ap, subst, arith, inl, inr}
 use Rattle.std.specs.Prelude.{unwrap_or}
 use Rattle.std.proofs.lemmas.Bool.{cases_eq, cases_lt}
 use Rattle.sfs_base.proofs.BasicTruth.{not_both}
@@ -12,16 +12,16 @@ use Rattle.sfs_image.specs.Super.{Layout, IsLayout, data_start}
 use Rattle.sfs_image.specs.Laws.{IsDivided}
 use Rattle.sfs_image.proofs.LayoutLaws.{divided}
 use Rattle.sfs_image.proofs.WrittenLaws.{table_written}
-use Rattle.sfs_dev.specs.Disk.{View, OnlyTold, images}
+use Rattle.sfs_dev.specs.Disk.{View}
 use Rattle.sfs_dev.specs.Ranges.{SameOutside}
 use Rattle.sfs_dev.specs.RangeLaws.{part_apart}
 use Rattle.sfs_dev.specs.Run.{Advances}
+use Rattle.sfs_dev.proofs.ReadRuns.{answered}
 use Rattle.journal_one.specs.Calls.{IsCalm, IsWrite, IsSync}
-use Rattle.journal_one.specs.Job.{Piece}
-use Rattle.journal_one.specs.Known.{EachLeft, Reads}
+use Rattle.journal_one.specs.Known.{EachLeft}
 use Rattle.journal_one.proofs.Kept.{IsLawful, written_touches, written_stands, leaves_from_reads}
 use Rattle.commit_one.specs.Carried.{Keeps}
-use Rattle.commit_one.proofs.Moments.{keeps_none, keeps_trans, write_keeps, writes_told, sync_keeps}
+use Rattle.commit_one.proofs.Moments.{keeps_trans, write_keeps, writes_told, sync_keeps}
 use Rattle.recovery.specs.Recovering.{AreHome, AreNewestOf, BringsHome, record_piece}
 
 -- a record of the table lies on the disk
@@ -59,21 +59,18 @@ passed_home layout stamps records n disk none home i low some = elim (cases_eq i
 module _ (layout : Layout) (stamps : List (Option ℕ)) (records : List (List ℕ)) (n : ℕ) (bytes : List ℕ) (old new : View) (low : n < layout.inodes) (is : bytes ≡ slice_index_or records n [])
     (long : length bytes ≡ 512) (large : table_byte layout n + 512 ≤ 4096 * old.size) (lawful : IsLawful old) where
   written_home : {V E : Type 0} (value : V) → IsWrite {V = V} {E = E} (record_piece layout n bytes) old new (Ok value) → AreHome layout stamps records n old → AreHome layout stamps records (n + 1) new
-  written_home value write home i less some content told = elim (cases_eq i n) [
+  written_home {V} {E} value write home i less some content told = elim (cases_eq i n) [
     | inl same ↦
         let stands = written_stands (record_piece layout n bytes) old new (omega (arith, long)) lawful write.ok content told in
         subst (λ (k : ℕ). table_record layout content k ≡ slice_index_or records k []) (sym same)
         (subst (λ (m : ℕ). part (table_byte layout n) m content ≡ slice_index_or records n []) long (stands ∙ is))
     | inr apart ↦
-        let touches = (written_touches (record_piece layout n bytes) old new (omega (arith, long)) lawful (ok_write value) write).read content told in
+        let touches = (written_touches (record_piece layout n bytes) old new (omega (arith, long)) lawful (answered {V = V} {F = E} value) write).read content told in
         let elsewhere : table_record layout content i ≡ table_record layout touches.0 i =
-            part_apart (table_byte layout i) 512 (table_byte layout n) (length bytes) touches.0 content (beside i apart) touches.2 in
+        part_apart (table_byte layout i) 512 (table_byte layout n) (length bytes) touches.0 content (beside i apart) touches.2 in
         elsewhere ∙ home i (omega arith) some touches.0 touches.1
   ]
     where
-      ok_write : {V E : Type 0} → V → Result V E
-      ok_write value = Ok value
-
       beside : (i : ℕ) → i ≢ n → (table_byte layout n + length bytes ≤ table_byte layout i) ⊎ (table_byte layout i + 512 ≤ table_byte layout n)
       beside i apart = elim (cases_lt i n) [
         | inl less ↦ inr (omega arith)

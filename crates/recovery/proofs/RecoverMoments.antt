@@ -1,9 +1,9 @@
 -- What each crash during a recovery leaves.
-use Rattle.std.proofs.Common.{◌≡◌, ◌⊎◌, ℕ, ◌<◌, ◌≤◌, cond, List, Option, None, Some, Result, Ok, Err, OnOk, refl, sym, ◌∙◌, ap, subst, arith, inl, inr}
+use Rattle.std.proofs.Common.{◌≡◌, ℕ, ◌<◌, cond, List, Option, None, Some, Result, Ok, Err, OnOk, refl, sym, ◌∙◌, ap, subst, arith, inl, inr}
 use Rattle.std.proofs.lemmas.Result.{on_ok_weaker}
 use Rattle.sfs_image.specs.ImageOf.{IsImageOf, transaction_in, table_parts}
 use Rattle.sfs_image.specs.Part.{Part}
-use Rattle.sfs_image.specs.Settled.{layout_of, parts_of}
+use Rattle.sfs_image.specs.Settled.{parts_of}
 use Rattle.sfs_image.specs.Super.{Layout}
 use Rattle.sfs_dev.specs.Disk.{View, OnlyTold, images}
 use Rattle.sfs_dev.specs.Run.{Advances, CountsOn, EachMoment, Unwritten}
@@ -22,14 +22,14 @@ use Rattle.recovery.specs.Open.{AreOpen}
 use Rattle.recovery.specs.declared.fault.RecoverFault.{RecoverFault}
 use Rattle.recovery.specs.declared.fault.RecoverFault.TheVariants.{DiskFailed}
 use Rattle.recovery.specs.declared.journals.OpenSlot.{OpenSlot}
-use Rattle.recovery.specs.Freed.{is_unlinked, free_part, without_unlinked, AreFreed, RecoversTo}
+use Rattle.recovery.specs.Freed.{is_unlinked, free_part, AreUnlinkedFree, RecoversTo}
 use Rattle.recovery.specs.Recovered.{ShowsTheSame, IsRecoveredFrom}
 use Rattle.recovery.specs.Recovering.{AreNewestOf, SettlesAs, settled_parts, IsReadyToSettle}
 use Rattle.recovery.proofs.BegunFrom.{settled_again, stands_settled}
-use Rattle.recovery.proofs.FreedShown.{AreFaultless, freed_shows_the_same}
+use Rattle.recovery.proofs.FreedShown.{freed_shows_the_same}
 use Rattle.recovery.proofs.JudgedImage.{readable, are_faultless, image_stands}
 use Rattle.recovery.proofs.SlotsClosed.{nothing_given}
-use Rattle.recovery.proofs.ShownAlike.{IsReadable, settling_is_readable, settling_parts, settling_shows_the_same}
+use Rattle.recovery.proofs.ShownAlike.{settling_is_readable, settling_parts, settling_shows_the_same}
 
 -- what was calm stays so where nothing is written
 pub calm_stays : (old new : View) → Unwritten old new → IsCalm old → IsCalm new
@@ -61,16 +61,13 @@ module _ (image : List ℕ) (layout : Layout) (records : List (List ℕ)) (settl
     same = settled_again layout (transaction_in layout image) (table_parts layout image);
   }
 
-  parts_are : (i : ℕ) → i < layout.inodes → parts_of layout image i ≡ parts i
-  parts_are i low = settling_parts layout parts image image_settles i low
-
-  freed_of : (freed : ℕ → Part) → AreFreed layout parts freed → AreFreed layout (parts_of layout image) freed
-  freed_of freed without i low = without i low ∙ ap (λ (p : Part). cond (is_unlinked p.raw) free_part p) (sym (parts_are i low))
+  freed_of : (freed : ℕ → Part) → AreUnlinkedFree layout parts freed → AreUnlinkedFree layout (parts_of layout image) freed
+  freed_of freed without i low = without i low ∙ ap (λ (p : Part). cond (is_unlinked p.raw) free_part p) (sym (settling_parts layout parts image image_settles i low))
 
   pub settled_shows : (now : List ℕ) → SettlesAs layout parts now → ShowsTheSame now image
   settled_shows now is = settling_shows_the_same layout parts now image is image_settles
 
-  pub freed_shows : (freed : ℕ → Part) → AreFreed layout parts freed → (now : List ℕ) → SettlesAs layout freed now → ShowsTheSame now image
+  pub freed_shows : (freed : ℕ → Part) → AreUnlinkedFree layout parts freed → (now : List ℕ) → SettlesAs layout freed now → ShowsTheSame now image
   freed_shows freed without now is =
       freed_shows_the_same layout (parts_of layout image) (are_faultless image layout records settles some none) freed (freed_of freed without) now image
       (settling_is_readable layout freed now is) (readable image layout records settles some none) (λ i low. settling_parts layout freed now is i low) (λ i low. refl) none

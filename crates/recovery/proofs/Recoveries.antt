@@ -1,5 +1,5 @@
 -- A disk that was settled, and whose orphans are freed.
-use Rattle.std.proofs.Common.{◌≡◌, ◌⊎◌, ℕ, ◌+◌, ◌<◌, ◌≤◌, Bool, true, false, cond, List, [], ◌∷◌, length, map, get_or, slice_index_or, Option, None, Some, Result, Ok, Err, OnOk, refl, sym, ◌∙◌, ap, subst, arith, inl, inr}
+use Rattle.std.proofs.Common.{◌≡◌, ◌⊎◌, ℕ, ◌<◌, Bool, cond, List, [], length, map, get_or, slice_index_or, Result, refl, sym, ◌∙◌, ap, subst, arith, inl, inr}
 use Rattle.std.specs.Prelude.{All}
 use Rattle.std.specs.List.{range_with_len, filter}
 use Rattle.std.specs.Result.{IsErr}
@@ -8,27 +8,20 @@ use Rattle.std.proofs.lemmas.List.{length-map, get_or-map}
 use Rattle.std.proofs.lemmas.List.FromFn.{length-range_with_len, get_or-range_with_len}
 use Rattle.std.proofs.lemmas.List.Elements.{All-filter, All-get_or, All-from_get_or}
 use Rattle.sfs_base.proofs.BasicNumbers.{zero_plus}
-use Rattle.sfs_image.specs.ImageOf.{IsImageOf}
 use Rattle.sfs_image.specs.Journal.{Entry}
 use Rattle.sfs_image.specs.Part.{Part}
 use Rattle.sfs_image.specs.Settled.{slot_count}
 use Rattle.sfs_image.specs.Super.{Layout}
 use Rattle.sfs_dev.specs.Disk.{View}
 use Rattle.sfs_dev.specs.Run.{Advances}
-use Rattle.journal_one.specs.Known.{EachLeft}
+use Rattle.sfs_dev.proofs.ReadRuns.{answered}
 use Rattle.journal_one.specs.Packed.{Contents}
-use Rattle.commit_one.specs.Carried.{LaterLeaves}
-use Rattle.commit_one.specs.Change.{nothing_open}
 use Rattle.commit_one.proofs.Moments.{later_trans, later_more}
-use Rattle.recovery.specs.Freed.{is_unlinked, unlinked_below, free_part, free_entry, freeing, without_unlinked, AreFreed, freed_by, FreesUnlinked, RecoversTo}
+use Rattle.recovery.specs.Freed.{is_unlinked, unlinked_below, free_part, free_entry, freeing, without_unlinked, AreUnlinkedFree, freed_by, FreesUnlinked, RecoversTo}
 use Rattle.recovery.specs.Recovering.{SettlesAs, ClosesAll}
 use Rattle.recovery.proofs.BegunFrom.{passing_is_there}
 use Rattle.recovery.proofs.ClosedOnDisk.{no_answer}
 use Rattle.recovery.proofs.FreePart.{freed_by_slot}
-
--- an answer, with its types
-abbrev pub ok_value : (V E : Type 0) → V → Result V E
-ok_value V E value = Ok value
 
 -- the inodes that are unlinked are those that pass the test
 pub unlinked_is : (records : List (List ℕ)) (n : ℕ) → unlinked_below records n ≡ filter (λ i. is_unlinked (slice_index_or records i [])) (range_with_len 0 n)
@@ -39,9 +32,9 @@ unlinked_is records n = refl
 pub frees_below : (records : List (List ℕ)) (n : ℕ) (packed : Contents) → packed ≡ freeing (unlinked_below records n) → All (λ (entry : Entry). entry.inode < n) packed.entries
 frees_below records n packed is = subst (λ (c : Contents). All (λ (entry : Entry). entry.inode < n) c.entries) (sym is)
     (All-from_get_or (λ (entry : Entry). entry.inode < n) (map free_entry (unlinked_below records n)) (free_entry 0) (λ k low.
-        let within : k < length (unlinked_below records n) = subst (λ m. k < m) (length-map (unlinked_below records n) free_entry) low in
-        subst (λ (entry : Entry). entry.inode < n) (sym (get_or-map free_entry (unlinked_below records n) k 0 (free_entry 0) within))
-        (All-get_or (λ i. i < n) (unlinked_below records n) k 0 within below)))
+    let within : k < length (unlinked_below records n) = subst (λ m. k < m) (length-map (unlinked_below records n) free_entry) low in
+    subst (λ (entry : Entry). entry.inode < n) (sym (get_or-map free_entry (unlinked_below records n) k 0 (free_entry 0) within))
+    (All-get_or (λ i. i < n) (unlinked_below records n) k 0 within below)))
   where
     below : All (λ i. i < n) (unlinked_below records n)
     below = subst (All (λ i. i < n)) (sym (unlinked_is records n)) (All-filter (λ i. is_unlinked (slice_index_or records i [])) (λ i. i < n) (range_with_len 0 n)
@@ -60,10 +53,10 @@ module _ (layout : Layout) (parts : ℕ → Part) (records : List (List ℕ)) (c
   tested : (i : ℕ) → i < layout.inodes → cond (test i) free_part (parts i) ≡ without_unlinked parts i
   tested i low = ap (λ (raw : List ℕ). cond (is_unlinked raw) free_part (parts i)) (each i low)
 
-  freed_without : 0 < slot_count layout → AreFreed layout parts freed
+  freed_without : 0 < slot_count layout → AreUnlinkedFree layout parts freed
   freed_without some i low = freed_by_slot layout 0 1 (length records) test parts i some (subst (λ n. i < n) (sym count) low) ∙ tested i low
 
-  none_freed : unlinked_below records (length records) ≡ [] → AreFreed layout parts parts
+  none_freed : unlinked_below records (length records) ≡ [] → AreUnlinkedFree layout parts parts
   none_freed none i low = elim (cases_Bool (test i)) [
     | inr linked ↦ sym (ap (λ b. cond b free_part (parts i)) linked) ∙ tested i low
     | inl unlinked ↦ absurd (
@@ -85,7 +78,7 @@ module _ (layout : Layout) (parts : ℕ → Part) (records : List (List ℕ)) (c
     }
 
     -- there is no orphan
-    pub nothing_to_free : {V E : Type 0} (value : V) → unlinked_below records (length records) ≡ [] → ClosesAll layout parts old mid (ok_value V E value) → RecoversTo layout parts old mid (ok_value V E value)
+    pub nothing_to_free : {V E : Type 0} (value : V) → unlinked_below records (length records) ≡ [] → ClosesAll layout parts old mid (answered {V = V} {F = E} value) → RecoversTo layout parts old mid (answered {V = V} {F = E} value)
     nothing_to_free value none closes = record {
       freed = parts;
       without = none_freed none;
@@ -94,7 +87,7 @@ module _ (layout : Layout) (parts : ℕ → Part) (records : List (List ℕ)) (c
     }
 
     -- orphans are freed
-    pub then_freed : {V E W F : Type 0} (value : V) (new : View) (answer : Result W F) → 0 < slot_count layout → Advances mid new → ClosesAll layout parts old mid (ok_value V E value)
+    pub then_freed : {V E W F : Type 0} (value : V) (new : View) (answer : Result W F) → 0 < slot_count layout → Advances mid new → ClosesAll layout parts old mid (answered {V = V} {F = E} value)
         → FreesUnlinked layout parts freed mid new answer → RecoversTo layout parts old new answer
     then_freed value new answer some goes closes frees = record {
       freed = freed;

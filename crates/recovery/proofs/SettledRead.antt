@@ -1,13 +1,13 @@
 -- What reads of the open slots and of the inode table settle.
-use Rattle.std.proofs.Common.{◌≡◌, ℕ, zero, suc, ◌+◌, ◌*◌, ◌-◌, ◌/◌, ◌<◌, ◌≤◌, Bool, true, false, cond, List, [], ◌∷◌, ◌++◌, length, map, drop, Option, None, Some, slice_index, slice_index_or, refl, sym, ap, ap₂, subst, ◌∙◌, arith, get_or, drop-cons}
+use Rattle.std.proofs.Common.{◌≡◌, ℕ, zero, suc, ◌+◌, ◌*◌, ◌/◌, ◌<◌, ◌≤◌, true, false, cond, List, [], ◌∷◌, ◌++◌, length, map, drop, None, slice_index, slice_index_or, refl, sym, ap, ap₂, subst, ◌∙◌, arith, get_or, drop-cons}
 use Rattle.sfs_base.proofs.BasicNumbers.{none_below, less_lower}
 use Rattle.std.specs.List.{range_with_len, filter, flat_map, AllByRecursion}
 use Rattle.std.proofs.lemmas.List.FromFn.{length-range_with_len, get_or-range_with_len}
 use Rattle.std.proofs.Math.Seq.{drop-length}
 use Rattle.sfs_image.specs.Bytes.{part}
-use Rattle.sfs_image.specs.Journal.{Entry, entries_of, numbers_of, record_byte}
+use Rattle.sfs_image.specs.Journal.{Entry, record_byte}
 use Rattle.sfs_image.specs.Laws.{IsDivided}
-use Rattle.sfs_image.specs.Settled.{Body, Stamped, body_in, open_body, open_bodies, journal_slot, slot_byte, slot_count, table_byte, table_record, settled}
+use Rattle.sfs_image.specs.Settled.{Body, body_in, open_body, open_bodies, journal_slot, slot_byte, slot_count, table_byte, table_record, settled}
 use Rattle.sfs_image.specs.Super.{Layout, IsLayout, slot_blocks, number_blocks, record_blocks, table_start}
 use Rattle.sfs_image.proofs.Basics.{map_same}
 use Rattle.sfs_image.proofs.FrameLaws.{part-part}
@@ -15,7 +15,7 @@ use Rattle.sfs_image.proofs.LayoutLaws.{divided}
 use Rattle.recovery.specs.declared.journals.OpenSlot.{OpenSlot}
 use Rattle.recovery.specs.declared.newest.Newest.{Newest}
 use Rattle.recovery.specs.Open.{is_slot_open, IsOpenSlot, IsGoodSlot, AreOpen}
-use Rattle.recovery.specs.Settling.{AreSettled, best_of, with_body, packed_body, body_read, bodies_read, packed_entry, packed_entries, WereRead}
+use Rattle.recovery.specs.Settling.{AreSettled, best_of, with_body, packed_body, body_read, bodies_read, packed_entries, WereRead}
 use Rattle.recovery.specs.declared.settled.Journals.{Journals}
 
 -- a record lies within as many as there are

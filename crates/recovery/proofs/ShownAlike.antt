@@ -1,16 +1,15 @@
 -- Images that settle as the same parts show the same.
-use Rattle.std.proofs.Common.{◌≡◌, ℕ, ◌<◌, Bool, cond, List, length, Option, None, Some, refl, sym, ◌∙◌, ap, subst}
+use Rattle.std.proofs.Common.{◌≡◌, ℕ, ◌<◌, cond, List, Option, None, Some, sym, ◌∙◌, ap}
 use Rattle.std.specs.Option.{is_none}
 use Rattle.std.specs.Prelude.{replicate}
 use Rattle.sfs_tree.specs.Tree.{TreeState}
-use Rattle.sfs_image.specs.ImageOf.{with_opened, IsImageOf}
 use Rattle.sfs_image.specs.Part.{Part, seen_of}
 use Rattle.sfs_image.specs.Settled.{SlotFault, super_fault_of, journal_fault_of, layout_of, parts_of}
 use Rattle.sfs_image.specs.Super.{Layout}
 use Rattle.sfs_image.proofs.ImageOfLaws.{read_as}
-use Rattle.image_tree.specs.Image.{ImageFault, inodes_shown, first_of_faults, image_inodes, breaks_bytes_of, fault_of, making_at_mount, tree_of}
+use Rattle.image_tree.specs.Image.{ImageFault, inodes_shown, first_of_faults, image_inodes, breaks_bytes_of, fault_of, making_at_mount}
 use Rattle.image_tree.specs.ImageTree.{Making, image_tree}
-use Rattle.image_tree.specs.Rules.{TreeFault, tree_fault}
+use Rattle.image_tree.specs.Rules.{tree_fault}
 use Rattle.image_tree.proofs.Alike.{tree_alike}
 use Rattle.disk_tree.specs.Judged.{fault_of_parts}
 use Rattle.disk_tree.proofs.ToldRead.{fault_alike}

@@ -1,17 +1,17 @@
 -- What closing one open slot after another makes of an image.
-use Rattle.std.proofs.Common.{◌≡◌, ◌≢◌, ◌⊎◌, ℕ, ◌+◌, ◌-◌, ◌*◌, ◌<◌, ◌≤◌, Bool, true, false, eqb, ltb, List, [], ◌∷◌, length, slice_index_or, Option, None, Some, refl, sym, ◌∙◌, ap, subst, arith, inl, inr}
+use Rattle.std.proofs.Common.{◌≡◌, ◌≢◌, ℕ, ◌<◌, ◌≤◌, true, false, List, length, Option, None, Some, refl, sym, ◌∙◌, ap, subst, arith, inl, inr}
 use Rattle.std.proofs.Math.Path.{fun_ext}
 use Rattle.std.specs.Prelude.{option_map, unwrap_or}
-use Rattle.std.proofs.lemmas.Bool.{cases_eq, cases_lt}
+use Rattle.std.proofs.lemmas.Bool.{cases_eq}
 use Rattle.std.proofs.lemmas.Bool.Decides.{nat_tests}
 use Rattle.sfs_base.proofs.BasicTruth.{not_both}
 use Rattle.sfs_base.proofs.BasicOptions.{some_same}
 use Rattle.sfs_image.specs.Bytes.{part}
 use Rattle.sfs_image.specs.ImageOf.{Transaction, part_given, given, with_opened, with_slot, IsSlotOf, IsImageOf, PointsToData}
-use Rattle.sfs_image.specs.ImageWrites.{AgreesOutside, IsFullTable, IsOldest, LeavesGate, ShutsGate}
+use Rattle.sfs_image.specs.ImageWrites.{AgreesOutside, IsFullTable, IsOldest, ShutsGate}
 use Rattle.sfs_image.specs.Journal.{head_of}
 use Rattle.sfs_image.specs.Part.{Part, IsGathered}
-use Rattle.sfs_image.specs.Settled.{Stamped, image_block, journal_slot, slot_byte, slot_count, table_record}
+use Rattle.sfs_image.specs.Settled.{Stamped, image_block, journal_slot, slot_byte, slot_count}
 use Rattle.sfs_image.specs.Super.{Layout}
 use Rattle.sfs_image.proofs.GateLaws.{gate_shuts, oldest_may_shut, tables_stay_full}
 use Rattle.sfs_image.proofs.GivenLaws.{with_slot-same, with_slot-other}
@@ -19,7 +19,7 @@ use Rattle.sfs_image.proofs.NewestLaws.{none_newest}
 use Rattle.sfs_image.proofs.WrittenLaws.{gate_written}
 use Rattle.sfs_dev.specs.Ranges.{SameOutside}
 use Rattle.commit_one.specs.Change.{nothing_open}
-use Rattle.recovery.specs.Recovering.{is_above, IsAt, IsOldestAbove, HasNoneAbove, IsFoundAt, AreOpenAbove, SettlesAs, IsToBeClosed}
+use Rattle.recovery.specs.Recovering.{is_above, IsOldestAbove, HasNoneAbove, IsFoundAt, AreOpenAbove, SettlesAs, IsToBeClosed}
 use Rattle.recovery.specs.declared.journals.OpenSlot.{OpenSlot}
 
 -- a greater stamp than a greater one is greater
@@ -89,10 +89,11 @@ module _ (layout : Layout) (parts : ℕ → Part) (found : List OpenSlot) (last 
         let stamp : other.stamp ≡ slot.stamp = ap (λ (t : Transaction). t.stamp) (sym (some_same transaction)) ∙ found_at.stamp in
         let le = oldest.least there.0 slot there.2.within there.2 there.4 in
         let distinct : one.stamp ≡ slot.stamp → ⊥ =
-            apart_by_number slot (subst (λ n. n < slot_count layout) (sym number) low) found_at (λ e. apart (sym number ∙ e)) in
+        apart_by_number slot (subst (λ n. n < slot_count layout) (sym number) low) found_at (λ e. apart (sym number ∙ e)) in
         let less : one.stamp < slot.stamp = less_of one.stamp slot.stamp le distinct in
         subst (λ n. n < other.stamp) (sym own.stamp) (subst (λ n. one.stamp < n) (sym stamp) less)
   ]
+
   agrees : AgreesOutside (slot_byte layout one.number) 1 was image
   agrees = record { before = same.before; behind = same.after; size = same.size }
 
@@ -142,9 +143,9 @@ module _ (layout : Layout) (parts : ℕ → Part) (found : List OpenSlot) (last 
       still = λ k other at above.
           let there = to.still_open.still k other at (above_again last one.stamp other.stamp oldest.above above) in
           let apart : other.number ≢ one.number = λ e.
-              let t : Some there.transaction ≡ Some own.transaction = sym there.is_open ∙ ap opened e ∙ own.is_open in
-              let stamps : other.stamp ≡ one.stamp = sym there.stamp ∙ ap (λ (t : Transaction). t.stamp) (some_same t) ∙ own.stamp in
-              not_less_itself one.stamp (subst (λ n. one.stamp < n) stamps (above_less one.stamp other.stamp above)) in
+          let t : Some there.transaction ≡ Some own.transaction = sym there.is_open ∙ ap opened e ∙ own.is_open in
+          let stamps : other.stamp ≡ one.stamp = sym there.stamp ∙ ap (λ (t : Transaction). t.stamp) (some_same t) ∙ own.stamp in
+          not_less_itself one.stamp (subst (λ n. one.stamp < n) stamps (above_less one.stamp other.stamp above)) in
           record {
             transaction = there.transaction;
             is_open = with_slot-other opened one.number None other.number apart ∙ there.is_open;
@@ -153,15 +154,15 @@ module _ (layout : Layout) (parts : ℕ → Part) (found : List OpenSlot) (last 
       others = λ j low. elim (cases_eq j one.number) [
         | inl here ↦ inl (ap others_open here ∙ with_slot-same opened one.number None)
         | inr apart ↦ elim (to.still_open.others j low) [
-            | inl none ↦ inl (with_slot-other opened one.number None j apart ∙ none)
-            | inr there ↦
-                let slot = there.1 in
-                let found_at = to.still_open.still there.0 slot there.2 there.4 in
-                let number : slot.number ≡ j = there.3 in
-                let distinct : one.stamp ≡ slot.stamp → ⊥ =
-                    apart_by_number slot (subst (λ n. n < slot_count layout) (sym number) low) found_at (λ e. apart (sym number ∙ e)) in
-                inr (there.0, slot, there.2, number, less_above one.stamp slot.stamp (oldest.least there.0 slot there.2.within there.2 there.4) distinct)
-          ]
+          | inl none ↦ inl (with_slot-other opened one.number None j apart ∙ none)
+          | inr there ↦
+              let slot = there.1 in
+              let found_at = to.still_open.still there.0 slot there.2 there.4 in
+              let number : slot.number ≡ j = there.3 in
+              let distinct : one.stamp ≡ slot.stamp → ⊥ =
+              apart_by_number slot (subst (λ n. n < slot_count layout) (sym number) low) found_at (λ e. apart (sym number ∙ e)) in
+              inr (there.0, slot, there.2, number, less_above one.stamp slot.stamp (oldest.least there.0 slot there.2.within there.2 there.4) distinct)
+        ]
       ];
     }
       where

@@ -1,14 +1,13 @@
 -- How the stages of settling a disk follow one another.
-use Rattle.std.proofs.Common.{◌≡◌, ◌⊎◌, ℕ, ◌+◌, ◌<◌, ◌≤◌, Bool, true, false, List, [], length, slice_index_or, Option, None, Some, Result, Ok, Err, OnOk, refl, sym, ◌∙◌, ap, subst, arith, inl, inr}
+use Rattle.std.proofs.Common.{◌≡◌, ℕ, ◌<◌, List, [], length, Option, None, Some, Result, sym, ◌∙◌, subst, arith, inl, inr}
 use Rattle.std.specs.Result.{IsErr}
 use Rattle.sfs_base.proofs.BasicOptions.{some_same}
-use Rattle.sfs_image.specs.ImageOf.{with_opened, transaction_in, table_parts, IsImageOf}
-use Rattle.sfs_image.specs.ImageWrites.{IsFullTable}
+use Rattle.sfs_image.specs.ImageOf.{transaction_in, table_parts, IsImageOf}
 use Rattle.sfs_image.specs.Part.{Part}
-use Rattle.sfs_image.specs.Settled.{slot_count}
 use Rattle.sfs_image.specs.Super.{Layout}
-use Rattle.sfs_dev.specs.Disk.{View, images}
+use Rattle.sfs_dev.specs.Disk.{View}
 use Rattle.sfs_dev.specs.Run.{Advances}
+use Rattle.sfs_dev.proofs.ReadRuns.{answered}
 use Rattle.journal_one.specs.Calls.{IsCalm}
 use Rattle.journal_one.specs.Known.{EachLeft}
 use Rattle.journal_one.proofs.Kept.{leaves_from_reads}
@@ -20,10 +19,6 @@ use Rattle.recovery.specs.declared.journals.OpenSlot.{OpenSlot}
 use Rattle.recovery.proofs.BegunFrom.{settled_again, stands_settled, all_are_open, begins_closing}
 use Rattle.recovery.proofs.ClosedOnDisk.{no_answer}
 use Rattle.recovery.proofs.SlotsClosed.{stands_closed}
-
--- an answer, with its types
-abbrev pub ok_result : (V E : Type 0) → V → Result V E
-ok_result V E value = Ok value
 
 -- nothing is pending: each image is what a read gives
 each_is_read : (disk : View) (image : List ℕ) (P : List ℕ → Type 0) → disk.content ≡ Some image → IsCalm disk → P image → EachLeft disk P
@@ -42,7 +37,7 @@ module _ (layout : Layout) (found : List OpenSlot) (stamps : List (Option ℕ)) 
   }
 
   -- with no slot open there is nothing to do
-  pub none_to_settle : {V E : Type 0} (value : V) → found ≡ [] → ClosesAll layout parts old old (ok_result V E value)
+  pub none_to_settle : {V E : Type 0} (value : V) → found ≡ [] → ClosesAll layout parts old old (answered {V = V} {F = E} value)
   none_to_settle value none = record {
     told = λ content told. (content, told);
     later = λ content told counts k image from up left. absurd (omega arith);
@@ -75,7 +70,7 @@ module _ (layout : Layout) (found : List OpenSlot) (stamps : List (Option ℕ)) 
       closed = no_answer _ answer failed;
     }
 
-    module _ {V E : Type 0} (value : V) (home : BringsHome layout (transaction_in layout image) (table_parts layout image) old mid (ok_result V E value)) where
+    module _ {V E : Type 0} (value : V) (home : BringsHome layout (transaction_in layout image) (table_parts layout image) old mid (answered {V = V} {F = E} value)) where
       pub to_be_closed : EachLeft mid (IsToBeClosed layout parts found None)
       to_be_closed content told now left =
           begins_closing layout image now found ready.open_slots (home.keeps.now content told now left) (home.full content told now left)
@@ -84,6 +79,6 @@ module _ (layout : Layout) (found : List OpenSlot) (stamps : List (Option ℕ)) 
       pub closed_after : {W F : Type 0} (new : View) (result : Result W F) → Advances mid new → ClosesAll layout parts mid new result → ClosesAll layout parts old new result
       closed_after new result goes closes = record {
         told = telling_trans old mid new home.keeps.told closes.told;
-        later = later_trans (λ _ now. SettlesAs layout parts now) old mid new home.keeps.told goes (home_later (ok_result V E value) home) closes.later;
+        later = later_trans (λ _ now. SettlesAs layout parts now) old mid new home.keeps.told goes (home_later (answered {V = V} {F = E} value) home) closes.later;
         closed = closes.closed;
       }

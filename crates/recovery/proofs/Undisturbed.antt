@@ -1,11 +1,10 @@
 -- Device calls in a row, one after another.
-use Rattle.std.proofs.Common.{◌≡◌, ℕ, ◌^◌, ◌<◌, ◌≤◌, Result, Ok, Err, refl, subst, ◌∙◌}
+use Rattle.std.proofs.Common.{ℕ, ◌^◌, ◌<◌, ◌≤◌, Result, Ok, Err, refl, subst, ◌∙◌}
 use Rattle.std.specs.Result.{IsErr}
 use Rattle.sfs_base.specs.Ends.{HasRisen, HasCause}
 use Rattle.sfs_base.proofs.BasicTruth.{false_not_true}
 use Rattle.sfs_base.specs.declared.fault.Failed.{Failed}
 use Rattle.sfs_dev.specs.Disk.{View, IsDeviceCall}
-use Rattle.sfs_dev.specs.Run.{Advances}
 use Rattle.sfs_dev.proofs.Runs.{GoesOn-refl, GoesOn-trans, call_advances}
 use Rattle.recovery.specs.Cause.{Ran, Undisturbed}
 

@@ -59,8 +59,8 @@ abbrev pub without_unlinked : (ℕ → Part) → ℕ → Part
 without_unlinked parts i = if is_unlinked (parts i).raw then free_part else parts i
 
 -- These are the parts once the unlinked ones of the first inodes are freed.
-abbrev pub AreFreed : Layout → (ℕ → Part) → (ℕ → Part) → Type 0
-AreFreed layout parts freed = (i : ℕ) → i < layout.inodes → freed i ≡ without_unlinked parts i
+abbrev pub AreUnlinkedFree : Layout → (ℕ → Part) → (ℕ → Part) → Type 0
+AreUnlinkedFree layout parts freed = (i : ℕ) → i < layout.inodes → freed i ≡ without_unlinked parts i
 
 -- the parts once the first slot has freed those of the first n inodes that pass a test
 abbrev pub freed_by : Layout → (ℕ → Bool) → ℕ → (ℕ → Part) → ℕ → Part
@@ -77,6 +77,6 @@ pub record FreesUnlinked {V E : Type 0} (layout : Layout) (parts freed : ℕ →
 -- latter, with no slot open.
 pub record RecoversTo {V E : Type 0} (layout : Layout) (parts : ℕ → Part) (old new : View) (result : Result V E) : Type 0 where
   pub freed : ℕ → Part
-  pub without : AreFreed layout parts freed
+  pub without : AreUnlinkedFree layout parts freed
   pub later : LaterLeaves (λ _ image. SettlesAs layout parts image ⊎ SettlesAs layout freed image) old new
   pub ended : OnOk result (EachLeft new (IsImageOf layout nothing_open freed))

@@ -1,10 +1,9 @@
 -- What is read of a disk before anything is written to it: what its journals settle, and the tree that this shows.
-use Rattle.std.specs.Prelude.{◌≡◌, ℕ, List, length, Option, None, Some}
+use Rattle.std.specs.Prelude.{◌≡◌, ℕ, List, length, None, Some}
 use Rattle.std.specs.List.{AllByRecursion}
 use Rattle.sfs_image.specs.ImageOf.{IsImageOf, transaction_in, table_parts}
 use Rattle.sfs_image.specs.Settled.{slot_count}
-use Rattle.sfs_image.specs.Super.{Layout}
-use Rattle.image_tree.specs.Image.{ImageFault, Super, Journal, Tree as TreeFaultOf, fault_of}
+use Rattle.image_tree.specs.Image.{Super, Journal, Tree as TreeFaultOf, fault_of}
 use Rattle.disk_tree.specs.Told.{SettlesRecords, IsFoundOf}
 use Rattle.recovery.specs.Open.{AreOpen, IsGoodSlot}
 use Rattle.recovery.specs.Recovering.{AreNewestOf}

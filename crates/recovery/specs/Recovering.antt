@@ -1,5 +1,5 @@
 -- What recovery knows of a disk while it brings the records of open slots home and closes the slots.
-use Rattle.std.specs.Prelude.{◌≡◌, ◌≢◌, ◌⊎◌, ℕ, ◌+◌, ◌-◌, ◌^◌, ◌<◌, ◌≤◌, nat_lt, Bool, true, false, List, [], length, slice_index_or, Option, None, Some, Result, OnOk}
+use Rattle.std.specs.Prelude.{◌≡◌, ◌≢◌, ◌⊎◌, ℕ, ◌<◌, ◌≤◌, nat_lt, Bool, true, false, List, [], length, slice_index_or, Option, None, Some, Result, OnOk}
 use Rattle.sfs_image.specs.ImageOf.{Transaction, with_opened, given, IsImageOf, transaction_in, table_parts}
 use Rattle.sfs_image.specs.ImageWrites.{IsFullTable}
 use Rattle.sfs_image.specs.Part.{Part}

@@ -1,5 +1,5 @@
 -- How the records of an image settle: of each inode the record under the greatest commit stamp.
-use Rattle.std.specs.Prelude.{◌≡◌, ℕ, ◌+◌, ◌*◌, ◌<◌, ◌==◌, List, [], length, map, slice_index, slice_index_or, Option, None, Some, option_map, unwrap_or, if◌then◌else◌, Bool, true, nat_le}
+use Rattle.std.specs.Prelude.{◌≡◌, ℕ, ◌*◌, ◌<◌, ◌==◌, List, [], length, map, slice_index, slice_index_or, Option, None, Some, option_map, unwrap_or, if◌then◌else◌, Bool, true, nat_le}
 use Rattle.std.specs.List.{range_with_len}
 use Rattle.sfs_image.specs.Bytes.{part}
 use Rattle.sfs_image.specs.Journal.{Entry}

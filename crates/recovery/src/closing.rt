@@ -19,11 +19,7 @@ use sfs_dev::{Disk, write_and_sync};
 
 /// Closes these open slots, ascending by commit stamp: for each a write of one byte and a sync. The table
 /// has the newest records of all inodes before.
-pub fn close_slots<D: Disk>(
-    disk: &mut D,
-    layout: &Layout,
-    found: &[OpenSlot],
-) -> Result<(), Failed>
+pub fn close_slots<D: Disk>(disk: &mut D, layout: &Layout, found: &[OpenSlot]) -> Result<(), Failed>
     requires layout { IsLayout (D.view disk.old).size layout.now }
     requires good { AllByRecursion (IsGoodSlot layout.now) found.now }
     ensures ran { Ran (D.view disk.old) (D.view disk.new) result }

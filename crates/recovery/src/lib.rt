@@ -10,12 +10,11 @@ mod making;
 mod newest;
 mod orphans;
 mod places;
-
 mod settled;
 mod settling;
 mod whole;
 
 pub use fault::{MkfsFault, RecoverFault};
 pub use making::mkfs;
-pub use whole::{Report, recover};
 pub use settled::{Settled, read_settled};
+pub use whole::{Report, recover};

@@ -85,11 +85,7 @@ fn free_records(alloc: Global, inodes: &[u32]) -> Result<Vec<TxRecord>, NoMemory
 
 /// Commits a transaction that frees inodes, through the first slot of core 0, on a disk whose slots are
 /// all closed.
-pub fn free_unlinked<D: Disk>(
-    disk: &mut D,
-    layout: &Layout,
-    packed: Packed,
-) -> Result<(), Failed>
+pub fn free_unlinked<D: Disk>(disk: &mut D, layout: &Layout, packed: Packed) -> Result<(), Failed>
     requires layout { IsLayout (D.view disk.old).size layout.now }
     requires below { All (λ (entry : Entry). entry.inode < layout.now.inodes) packed.entries }
     requires fresh { packed.fresh ≡ [] }

@@ -1,5 +1,5 @@
 -- A slot is closed by its byte.
-use Rattle.std.proofs.Common.{◌≡◌, ℕ, [], ◌∷◌, OnOk, subst}
+use Rattle.std.proofs.Common.{ℕ, [], ◌∷◌, subst}
 use Rattle.sfs_dev.specs.Steps.{Puts, TearsOnly}
 use Rattle.journal_one.proofs.Kept.{IsLawful}
 use Rattle.recovery.proofs.ClosedOnDisk.{slot_closes, no_answer}

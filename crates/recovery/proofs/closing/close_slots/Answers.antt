@@ -1,5 +1,5 @@
 -- The slots are closed one after another, the oldest first.
-use Rattle.std.proofs.Common.{◌≡◌, ℕ, Some, sym, subst}
+use Rattle.std.proofs.Common.{ℕ, Some, sym, subst}
 use Rattle.recovery.specs.Recovering.{ClosesSoFar}
 use Rattle.recovery.proofs.ClosedOnDisk.{one_more_closed, closing_failed, closings_end}
 use Rattle.recovery.proofs.Undisturbed.{undisturbed-ran}

@@ -1,10 +1,9 @@
-use Rattle.std.proofs.Common.{◌≡◌, ℕ, List, Option, None}
+use Rattle.std.proofs.Common.{ℕ, None}
 use Rattle.sfs_image.specs.Part.{Part}
 use Rattle.journal_one.specs.Calls.{IsCalm}
 use Rattle.journal_one.specs.Known.{EachLeft}
-use Rattle.commit_one.specs.Carried.{GoesOnTelling, LaterLeaves}
 use Rattle.recovery.specs.Cause.{Undisturbed}
-use Rattle.recovery.specs.Recovering.{SettlesAs, IsToBeClosed, ClosesSoFar}
+use Rattle.recovery.specs.Recovering.{IsToBeClosed, ClosesSoFar}
 use Rattle.recovery.proofs.ClosedOnDisk.{stamps_left}
 use Rattle.recovery.proofs.closing.close_slots.Given as goal
 

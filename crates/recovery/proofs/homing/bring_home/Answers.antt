@@ -1,8 +1,8 @@
 -- The newest records come home one after another.
-use Rattle.std.proofs.Common.{◌≡◌, ℕ, ◌<◌, ◌≤◌, length, List, Result, Ok, Err, OnOk, refl, sym, ◌∙◌, subst, arith}
+use Rattle.std.proofs.Common.{◌≤◌, subst}
 use Rattle.sfs_image.specs.ImageOf.{IsImageOf}
 use Rattle.journal_one.proofs.Kept.{IsLawful}
-use Rattle.commit_one.proofs.Moments.{keeps_none, keeps_trans, sync_keeps}
+use Rattle.commit_one.proofs.Moments.{keeps_trans}
 use Rattle.recovery.proofs.ClosedOnDisk.{no_answer}
 use Rattle.recovery.proofs.RecordsHome.{all_home}
 use Rattle.recovery.proofs.Undisturbed.{undisturbed-ran}

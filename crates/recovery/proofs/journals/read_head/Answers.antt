@@ -1,5 +1,5 @@
 -- The head of a slot stands in its first block.
-use Rattle.std.proofs.Common.{◌≡◌, ◌∙◌, ap}
+use Rattle.std.proofs.Common.{◌∙◌, ap}
 use Rattle.sfs_image.specs.Bytes.{part}
 use Rattle.recovery.proofs.OpenRead.{head_read, block_given}
 use Rattle.sfs_dev.proofs.Runs.{none_read}

@@ -1,5 +1,5 @@
 -- The superblock of a disk is judged by its bytes; a disk of no blocks has none.
-use Rattle.std.proofs.Common.{◌≡◌, ◌∙◌, ℕ, List, refl, sym, ap}
+use Rattle.std.proofs.Common.{◌∙◌, refl, sym, ap}
 use Rattle.sfs_image.specs.Super.{super_of, super_fault}
 use Rattle.recovery.proofs.OpenRead.{super_read, no_super, block_given}
 use Rattle.sfs_dev.proofs.Runs.{none_read}

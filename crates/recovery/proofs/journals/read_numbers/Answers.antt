@@ -1,7 +1,7 @@
 -- Each number is that of its four bytes.
-use Rattle.std.proofs.Common.{◌≡◌, ◌*◌, ◌+◌, ◌<◌, ℕ, List, drop, take, length, ap, sym, ◌∙◌, arith}
+use Rattle.std.proofs.Common.{◌≡◌, ◌*◌, ℕ, List, drop, length, ap, ◌∙◌}
 use Rattle.std.proofs.lemmas.List.{with_items_is}
-use Rattle.sfs_image.specs.Bytes.{part, u32s_at, number_from}
+use Rattle.sfs_image.specs.Bytes.{u32s_at, number_from}
 use Rattle.sfs_image.proofs.PiecesLaws.{u32s_read}
 use Rattle.recovery.proofs.journals.read_numbers.Goals as goal
 

@@ -1,7 +1,6 @@
 -- Slot after slot: what was found are the open ones, and the first wrong one is refused.
-use Rattle.std.proofs.Common.{◌≡◌, ◌+◌, ◌∙◌, ◌++◌, ◌<◌, ℕ, List, Option, map, option_map, ap, arith, sym, subst}
+use Rattle.std.proofs.Common.{◌≡◌, ◌+◌, ◌∙◌, ◌<◌, List, map, ap, arith, sym, subst}
 use Rattle.std.specs.List.{AllByRecursion}
-use Rattle.std.specs.Option.{option_to_list}
 use Rattle.sfs_image.specs.Settled.{slot_count}
 use Rattle.sfs_image.specs.Super.{IsLayout}
 use Rattle.recovery.specs.declared.journals.OpenSlot.{OpenSlot}

@@ -1,5 +1,5 @@
 -- A slot is judged by its head and then by its numbers.
-use Rattle.std.proofs.Common.{◌≡◌, ◌∙◌, ◌+◌, ap, refl, sym}
+use Rattle.std.proofs.Common.{◌∙◌, ◌+◌, ap, refl, sym}
 use Rattle.sfs_image.specs.Bytes.{u32s_at}
 use Rattle.sfs_image.specs.Journal.{Head, numbers_fault}
 use Rattle.sfs_image.specs.Super.{Layout}

@@ -1,5 +1,5 @@
 -- What was read and judged is the image's.
-use Rattle.std.proofs.Common.{◌≡◌, ◌∙◌, ℕ, List, Option, Some, ap, sym, subst}
+use Rattle.std.proofs.Common.{◌∙◌, ℕ, List, Option, ap, sym, subst}
 use Rattle.sfs_base.specs.Lists.{Roomy}
 use Rattle.disk_tree.specs.Found.{IsFoundIn}
 use Rattle.disk_tree.specs.Judged.{Refused}
@@ -46,7 +46,7 @@ returns-clause-ok g c = λ image told.
     } in
     let mid = c.in_ok-journals.ensures.reads.unwritten.content ∙ told in
     let found = found_is_the_images image layout records c.in_ok-found.found settles
-        (subst (λ (o : Option (List ℕ)). IsFoundIn o layout records c.in_ok-found.found) mid c.in_ok-found.ensures.ok) in
+    (subst (λ (o : Option (List ℕ)). IsFoundIn o layout records c.in_ok-found.found) mid c.in_ok-found.ensures.ok) in
     record {
       faultless = has_no_fault image 0 c.in_ok-found.found.tree found.tree;
       settles = settles;

@@ -1,5 +1,5 @@
 -- A gate is closed by its byte, and the gates before it stay closed.
-use Rattle.std.proofs.Common.{◌≡◌, ◌+◌, ◌<◌, ℕ, List, suc, subst, sym, arith, ◌∙◌, ap, add-one, ◌≤◌, Some, length, ◌∷◌, []}
+use Rattle.std.proofs.Common.{◌≡◌, ◌+◌, ◌<◌, ℕ, List, subst, sym, ◌∙◌, ap, add-one, ◌≤◌, Some, length, ◌∷◌, []}
 use Rattle.sfs_dev.specs.Ranges.{put}
 use Rattle.sfs_image.specs.Super.{IsLayout}
 use Rattle.sfs_image.specs.ImageOf.{IsShut}

@@ -1,9 +1,8 @@
 -- The table and the superblock are put into a disk whose gates are closed.
-use Rattle.std.proofs.Common.{◌≡◌, ◌≤◌, ◌+◌, ◌*◌, ℕ, List, Some, length, refl, sym, ap, subst, ◌∙◌}
+use Rattle.std.proofs.Common.{ℕ, List, sym, ap, subst, ◌∙◌}
 use Rattle.sfs_dev.specs.Ranges.{put}
 use Rattle.sfs_image.specs.ImageOf.{IsJustMade}
 use Rattle.sfs_image.specs.Super.{IsLayout}
-use Rattle.recovery.specs.Cause.{Undisturbed}
 use Rattle.recovery.proofs.JustMade.{table_within, table_some, made_by_puts, told_put}
 use Rattle.recovery.proofs.Undisturbed.{undisturbed-refl, undisturbed-call, undisturbed-ran, failed-call, ran-done}
 use Rattle.recovery.proofs.making.write_image.Goals as goal

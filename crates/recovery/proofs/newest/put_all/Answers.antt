@@ -1,6 +1,5 @@
 -- One record more, and in the end all of them.
-use Rattle.std.proofs.Common.{◌≡◌, ◌<◌, ◌*◌, ℕ, List, length, ap, sym, subst, arith, ◌∙◌, slice_index}
-use Rattle.sfs_image.specs.Bytes.{part}
+use Rattle.std.proofs.Common.{◌<◌, ◌*◌, ℕ, List, length, sym, subst, arith, ◌∙◌, slice_index}
 use Rattle.sfs_image.proofs.BytesLaws.{part-between}
 use Rattle.recovery.specs.Settling.{AreSettled, with_record, with_body, packed_entries}
 use Rattle.recovery.proofs.Newests.{number_small, record_more, settled_same}

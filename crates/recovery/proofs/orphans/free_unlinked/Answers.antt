@@ -1,5 +1,5 @@
 -- A commit frees inodes.
-use Rattle.std.proofs.Common.{◌≡◌, ℕ, ◌+◌, ◌*◌, ◌∙◌, arith}
+use Rattle.std.proofs.Common.{◌≡◌, ℕ, ◌+◌, ◌*◌, arith}
 use Rattle.recovery.proofs.OrphansFreed.{commit_frees}
 use Rattle.recovery.proofs.orphans.free_unlinked.Goals as goal
 

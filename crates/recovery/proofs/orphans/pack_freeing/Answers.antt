@@ -1,12 +1,11 @@
 -- A transaction that frees inodes ascends as these do.
-use Rattle.std.proofs.Common.{◌≡◌, ◌<◌, ℕ, suc, false, nat_eq, List, [], ◌∷◌, map, length, refl, sym, ap, subst, ◌∙◌, arith}
+use Rattle.std.proofs.Common.{◌≡◌, ◌<◌, ℕ, false, nat_eq, List, [], ◌∷◌, map, length, sym, ap, subst, ◌∙◌, arith}
 use Rattle.std.specs.List.Sorted.{IsStrictlyIncreasing}
 use Rattle.sfs_base.proofs.BasicTruth.{false_not_true}
 use Rattle.sfs_base.specs.Lists.{Roomy}
 use Rattle.fmt_journal.specs.declared.tx.TxBlock.{TxBlock}
 use Rattle.fmt_journal.specs.declared.tx.TxRecord.{TxRecord}
 use Rattle.journal_one.specs.Packed.{record_entry, block_of}
-use Rattle.recovery.specs.Freed.{free_record, freeing}
 use Rattle.recovery.proofs.Unlinked.{free_numbers, free_entries, none_ascend}
 use Rattle.recovery.proofs.orphans.pack_freeing.Goals as goal
 

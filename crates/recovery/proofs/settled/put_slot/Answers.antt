@@ -1,7 +1,7 @@
 -- The records that are read are those of the slot's body.
-use Rattle.std.proofs.Common.{◌≡◌, ◌*◌, ◌+◌, ◌∙◌, List, Option, ℕ, length, vec_len, ap, refl, sym, subst, arith}
+use Rattle.std.proofs.Common.{◌≡◌, ◌*◌, ◌+◌, ◌∙◌, List, ℕ, length, ap, sym, subst, arith}
 use Rattle.sfs_image.specs.Bytes.{part}
-use Rattle.sfs_image.specs.Settled.{Body, Stamped}
+use Rattle.sfs_image.specs.Settled.{Body}
 use Rattle.sfs_image.specs.Super.{Layout}
 use Rattle.recovery.specs.Settling.{AreSettled, with_body, packed_body}
 use Rattle.recovery.proofs.SettledRead.{records_within, records_lie, body_same}

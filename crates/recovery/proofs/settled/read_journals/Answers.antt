@@ -1,5 +1,5 @@
 -- Reads one after another of a disk that stays as it is.
-use Rattle.std.proofs.Common.{◌≡◌, ◌∙◌, ap, sym, subst, refl, List}
+use Rattle.std.proofs.Common.{◌∙◌, ap, sym, subst, List}
 use Rattle.std.specs.List.{AllByRecursion}
 use Rattle.sfs_image.specs.Settled.{Body, table_record}
 use Rattle.recovery.specs.declared.journals.OpenSlot.{OpenSlot}

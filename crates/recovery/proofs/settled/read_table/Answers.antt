@@ -1,5 +1,5 @@
 -- Each record of the table is 512 of the bytes that were read.
-use Rattle.std.proofs.Common.{◌≡◌, ◌<◌, ◌*◌, ◌∙◌, ℕ, length, ◌≤◌, ap, ap₂, arith}
+use Rattle.std.proofs.Common.{◌≡◌, ◌<◌, ◌*◌, ◌∙◌, ℕ, ◌≤◌, ap, ap₂, arith}
 use Rattle.sfs_image.specs.Super.{Layout}
 use Rattle.sfs_image.specs.Bytes.{part}
 use Rattle.recovery.proofs.SettledRead.{table_settled}

@@ -1,11 +1,9 @@
 -- The slots are gone through from the last one on: what was put before comes behind.
-use Rattle.std.proofs.Common.{◌≡◌, ◌-◌, ◌<◌, ◌≤◌, ◌∙◌, ℕ, suc, length, refl, sym, arith}
+use Rattle.std.proofs.Common.{◌-◌, ◌<◌, ◌≤◌, ◌∙◌, ℕ, length, arith}
 use Rattle.sfs_base.proofs.BasicNumbers.{suc_again}
-use Rattle.recovery.specs.Open.{IsOpenSlot, IsGoodSlot}
-use Rattle.recovery.specs.Settling.{best_of, bodies_read}
-use Rattle.sfs_dev.proofs.Runs.{none_read}
+use Rattle.recovery.specs.Open.{IsOpenSlot}
 use Rattle.sfs_dev.proofs.ReadRuns.{read_more}
-use Rattle.recovery.proofs.SettledRead.{slot_settled, none_settled, found_has}
+use Rattle.recovery.proofs.SettledRead.{slot_settled, found_has}
 use Rattle.recovery.proofs.settled.settle.Goals as goal
 
 pub loop-left-preserved : goal.loop-left-preserved

@@ -1,4 +1,4 @@
-use Rattle.std.proofs.Common.{◌≡◌, ◌≤◌, None, drop, length}
+use Rattle.std.proofs.Common.{◌≤◌, None, drop, length}
 use Rattle.std.specs.List.{AllByRecursion}
 use Rattle.sfs_dev.specs.Steps.{IfTold}
 use Rattle.sfs_image.specs.Settled.{table_record}

@@ -1,5 +1,5 @@
 -- The slots are settled, and then orphans are freed.
-use Rattle.std.proofs.Common.{◌≡◌, ℕ, ◌+◌, ◌*◌, ◌<◌, ◌≤◌, List, [], length, slice_index_or, Option, None, Some, All, sym, ap, subst, ◌∙◌, arith}
+use Rattle.std.proofs.Common.{◌≡◌, ℕ, ◌*◌, ◌<◌, ◌≤◌, List, length, Option, Some, All, ap, subst, ◌∙◌, arith}
 use Rattle.sfs_image.specs.Journal.{Entry}
 use Rattle.sfs_image.specs.Settled.{slot_count}
 use Rattle.sfs_image.specs.Super.{Layout, IsLayout}

@@ -1,5 +1,5 @@
 -- The slots are settled, where some are open.
-use Rattle.std.proofs.Common.{◌≡◌, ℕ, suc, true, false, nat_eq, List, [], ◌∷◌, length, refl, sym, arith}
+use Rattle.std.proofs.Common.{◌≡◌, true, nat_eq, List, [], ◌∷◌, length, refl, sym, arith}
 use Rattle.std.proofs.lemmas.Bool.{eqb-true}
 use Rattle.recovery.specs.declared.journals.OpenSlot.{OpenSlot}
 use Rattle.sfs_image.specs.ImageOf.{transaction_in, table_parts}
@@ -29,7 +29,7 @@ returns-clause-settles g c image told calm ready =
     let old = g.D.Disk.view c.args.disk.now in
     let mid = g.D.Disk.view c.bring_home.new.disk in
     let home = c.in_ok-bring_home.ensures.home (transaction_in layout image) (table_parts layout image) ready.newest
-        (first_leaves layout c.args.found.now c.args.stamps.now c.args.records.now image ready old told calm) in
+    (first_leaves layout c.args.found.now c.args.stamps.now c.args.records.now image ready old told calm) in
     closed_after layout c.args.found.now c.args.stamps.now c.args.records.now image ready old told calm mid c.in_ok-bring_home.field-0 home (g.D.Disk.view c.close_slots.new.disk) c.close_slots.result
     c.close_slots.ensures.ran.advances
     (c.close_slots.ensures.closed (settled_parts layout image)

@@ -1,5 +1,5 @@
 -- A recovery reads, judges and settles.
-use Rattle.std.proofs.Common.{◌≡◌, ℕ, ◌<◌, ◌≤◌, List, Option, Some, sym, ap, subst, ◌∙◌, arith}
+use Rattle.std.proofs.Common.{ℕ, ◌<◌, ◌≤◌, sym, subst, ◌∙◌, arith}
 use Rattle.std.specs.List.Sorted.{IsStrictlyIncreasing}
 use Rattle.sfs_base.specs.Ends.{HasRisen}
 use Rattle.sfs_dev.proofs.Runs.{GoesOn-trans}
@@ -36,7 +36,7 @@ returns-in_err-settle_disk-clause-moments g c image told calm counts =
     let mid_told = c.in_ok-layout.ensures.reads.unwritten.content ∙ told in
     let calm_mid = calm_stays (view c.args.disk.now) (view c.judge.new.disk) c.in_ok-layout.ensures.reads.unwritten calm in
     let ready = ready_by image judged.layout judged.open_slots.items c.deref-2.result.now judged.stamps.items c.deref-3.result.now judged.records.items c.as_slice-2.result.now
-        c.deref-2.ensures.value c.deref-3.ensures.value c.as_slice-2.ensures stands own.open_slots (own.newest stands) in
+    c.deref-2.ensures.value c.deref-3.ensures.value c.as_slice-2.ensures stands own.open_slots (own.newest stands) in
     all_moments image judged.layout judged.records.items own.settles some own.faultless (view c.args.disk.now) (view c.judge.new.disk) (view c.settle_disk.new.disk) c.settle_disk.result
     told mid_told calm c.in_ok-layout.ensures.reads.unwritten counts c.settle_disk.ensures.ran.advances (c.settle_disk.ensures.settles image mid_told calm_mid ready)
 
@@ -67,7 +67,7 @@ returns-clause-moments g c image told calm counts =
     let mid_told = c.in_ok-layout.ensures.reads.unwritten.content ∙ told in
     let calm_mid = calm_stays (view c.args.disk.now) (view c.judge.new.disk) c.in_ok-layout.ensures.reads.unwritten calm in
     let ready = ready_by image judged.layout judged.open_slots.items c.deref-2.result.now judged.stamps.items c.deref-3.result.now judged.records.items c.as_slice-2.result.now
-        c.deref-2.ensures.value c.deref-3.ensures.value c.as_slice-2.ensures stands own.open_slots (own.newest stands) in
+    c.deref-2.ensures.value c.deref-3.ensures.value c.as_slice-2.ensures stands own.open_slots (own.newest stands) in
     all_moments image judged.layout judged.records.items own.settles some own.faultless (view c.args.disk.now) (view c.judge.new.disk) (view c.settle_disk.new.disk) c.settle_disk.result
     told mid_told calm c.in_ok-layout.ensures.reads.unwritten counts c.settle_disk.ensures.ran.advances (c.settle_disk.ensures.settles image mid_told calm_mid ready)
 
@@ -81,7 +81,7 @@ returns-clause-ended g c image told calm =
     let mid_told = c.in_ok-layout.ensures.reads.unwritten.content ∙ told in
     let calm_mid = calm_stays (view c.args.disk.now) (view c.judge.new.disk) c.in_ok-layout.ensures.reads.unwritten calm in
     let ready = ready_by image judged.layout judged.open_slots.items c.deref-2.result.now judged.stamps.items c.deref-3.result.now judged.records.items c.as_slice-2.result.now
-        c.deref-2.ensures.value c.deref-3.ensures.value c.as_slice-2.ensures stands own.open_slots (own.newest stands) in
+    c.deref-2.ensures.value c.deref-3.ensures.value c.as_slice-2.ensures stands own.open_slots (own.newest stands) in
     all_ended image judged.layout judged.records.items own.settles some own.faultless (view c.judge.new.disk) (view c.settle_disk.new.disk) _
     (c.in_ok-settle_disk.ensures.settles image mid_told calm_mid ready)
 
