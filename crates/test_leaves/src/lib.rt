@@ -27,6 +27,8 @@ mod names;
 #[cfg(test)]
 mod reading;
 #[cfg(test)]
+mod recovering;
+#[cfg(test)]
 mod slots;
 #[cfg(test)]
 mod space;
