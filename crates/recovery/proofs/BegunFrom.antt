@@ -16,7 +16,7 @@ use Rattle.sfs_image.specs.Settled.{Stamped, image_block, body_in, open_bodies, 
 use Rattle.sfs_image.specs.Super.{Layout}
 use Rattle.sfs_image.proofs.BytesLaws.{None-option_map}
 use Rattle.sfs_image.proofs.ImageOfLaws.{held_given, settled_is, parts_instead}
-use Rattle.recovery.specs.Open.{AreOpen, IsOpenSlot, is_slot_open}
+use Rattle.recovery.specs.Open.{AreOpen, IsOpenSlot, is_slot_open, open_slots_of}
 use Rattle.recovery.specs.Recovering.{AreNewestOf, is_above, IsAt, IsFoundAt, AreOpenAbove, IsToBeClosed}
 use Rattle.recovery.specs.Settling.{AreSettled, best_of}
 use Rattle.recovery.specs.declared.journals.OpenSlot.{OpenSlot}
@@ -103,9 +103,9 @@ module _ (layout : Layout) (image : List ℕ) (found : List OpenSlot) (are : Are
   opened = transaction_in layout image
 
   abbrev open_numbers : List ℕ
-  open_numbers = filter (is_slot_open layout image) (range_with_len 0 (slot_count layout))
+  open_numbers = open_slots_of layout image
 
-  as_many : length found ≡ length open_numbers
+  pub as_many : length found ≡ length open_numbers
   as_many = sym (length-map found (λ (one : OpenSlot). one.number)) ∙ ap length are.numbers
 
   number_is : (k : ℕ) (one : OpenSlot) → IsAt found k one → one.number ≡ get_or open_numbers k 0

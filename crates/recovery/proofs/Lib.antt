@@ -4,6 +4,7 @@ pub mod FreePart
 pub mod FreedShown
 pub mod JudgedImage
 pub mod JustMade
+pub mod KeptLinked
 pub mod Newests
 pub mod OpenRead
 pub mod ReadRuns
@@ -11,6 +12,7 @@ pub mod OrphansFreed
 pub mod RecordsHome
 pub mod Recoveries
 pub mod RecoverMoments
+pub mod RootAlone
 pub mod SettledRead
 pub mod ShownAlike
 pub mod SlotsClosed

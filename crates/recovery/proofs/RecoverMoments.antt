@@ -85,6 +85,7 @@ module _ (image : List ℕ) (layout : Layout) (records : List (List ℕ)) (settl
   pub all_ended : {V E : Type 0} (mid new : View) (result : Result V E) → RecoversTo layout parts mid new result → OnOk result (EachLeft new (IsRecoveredFrom image))
   all_ended mid new result to = on_ok_weaker result (λ ended content told now left. record {
     parts = to.freed;
+    without = subst (λ (l : Layout). AreUnlinkedFree l (parts_of l image) to.freed) settles.layout_is (freed_of to.freed to.without);
     stands = subst (λ (l : Layout). IsImageOf l nothing_open to.freed now) settles.layout_is (ended content told now left);
     same = freed_shows to.freed to.without now (record { opened = nothing_open; stands = ended content told now left; same = nothing_given layout to.freed });
   }) to.ended

@@ -1,5 +1,5 @@
 -- Orphans and how they are freed: files of link count 0, whose inodes no row names.
-use Rattle.std.specs.Prelude.{◌≡◌, ◌⊎◌, ℕ, ◌==◌, ◌&&◌, ◌<◌, Bool, List, [], length, map, replicate, slice_index_or, Option, None, Some, Result, OnOk, if◌then◌else◌}
+use Rattle.std.specs.Prelude.{◌≡◌, ◌⊎◌, ℕ, ◌==◌, ◌&&◌, ◌<◌, Bool, not, List, [], length, map, replicate, slice_index_or, Option, None, Some, Result, OnOk, if◌then◌else◌}
 use Rattle.std.specs.List.{range_with_len, filter}
 use Rattle.sfs_base.specs.declared.numbers.Kind.TheVariants.{File}
 use Rattle.fmt_journal.specs.declared.tx.TxRecord.{TxRecord}
@@ -8,6 +8,7 @@ use Rattle.sfs_image.specs.ImageOf.{InodePart, with_opened, with_slot, IsImageOf
 use Rattle.sfs_image.specs.Inode.{inode_of}
 use Rattle.sfs_image.specs.Journal.{Entry}
 use Rattle.sfs_image.specs.Part.{Part, part_of}
+use Rattle.sfs_image.specs.Settled.{settled}
 use Rattle.sfs_image.specs.Slot.{kind_byte}
 use Rattle.sfs_image.specs.Super.{Layout}
 use Rattle.sfs_dev.specs.Disk.{View}
@@ -15,6 +16,7 @@ use Rattle.journal_one.specs.Known.{EachLeft}
 use Rattle.journal_one.specs.Packed.{Contents}
 use Rattle.commit_one.specs.Carried.{LaterLeaves}
 use Rattle.commit_one.specs.Change.{nothing_open}
+use Rattle.disk_tree.specs.KeptParts.{NumberedKept}
 use Rattle.recovery.specs.Recovering.{SettlesAs}
 
 -- whether a record is that of a file of link count 0
@@ -28,6 +30,14 @@ unlinked_below records n = filter (λ i. is_unlinked (slice_index_or records i [
 -- all of them
 abbrev pub unlinked_in : List (List ℕ) → List ℕ
 unlinked_in records = unlinked_below records (length records)
+
+-- the orphans of an image: the inodes whose settled records are so, ascending
+unfoldable pub orphans_of : Layout → List ℕ → List ℕ
+orphans_of layout image = filter (λ i. is_unlinked (settled layout image i)) (range_with_len 0 layout.inodes)
+
+-- whether what is kept of an inode is that of a file or directory that has a link
+abbrev pub is_linked_kept : NumberedKept → Bool
+is_linked_kept one = not (one.kept.inode.kind == kind_byte File && one.kept.inode.links == 0)
 
 -- the part of a free inode
 unfoldable pub free_part : Part

@@ -1,5 +1,5 @@
 -- What is read of a disk before anything is written to it: what its journals settle, and the tree that this shows.
-use Rattle.std.specs.Prelude.{◌≡◌, ℕ, List, length, None, Some}
+use Rattle.std.specs.Prelude.{◌≡◌, ℕ, ◌≤◌, List, length, None, Some}
 use Rattle.std.specs.List.{AllByRecursion}
 use Rattle.sfs_image.specs.ImageOf.{IsImageOf, transaction_in, table_parts}
 use Rattle.sfs_image.specs.Settled.{slot_count}
@@ -27,11 +27,12 @@ IsTreeRefusal P (BadJournal core slot at) = ⊥
 IsTreeRefusal P DiskFailed = Unit {0}
 IsTreeRefusal P NoMemory = Unit {0}
 
--- What was read fits together: there is a commit stamp and a record for each inode, and the open slots are good.
+-- What was read fits together: there is a commit stamp and a record for each inode, and the open slots are good and not too many.
 pub record IsFit (judged : Judged) : Type 0 where
   pub stamps : length judged.stamps.items ≡ judged.layout.inodes
   pub records : length judged.records.items ≡ judged.layout.inodes
   pub good : AllByRecursion (IsGoodSlot judged.layout) judged.open_slots.items
+  pub few : length judged.open_slots.items ≤ slot_count judged.layout
 
 -- What was read is an image's: nothing is wrong in it, its open slots and newest records are those that were read, and the tree is its own.
 pub record IsJudgedOn (image : List ℕ) (judged : Judged) : Type 0 where

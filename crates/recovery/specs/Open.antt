@@ -13,6 +13,10 @@ use Rattle.recovery.specs.declared.fault.RecoverFault.TheVariants.{DiskFailed, B
 abbrev pub is_slot_open : Layout → List ℕ → ℕ → Bool
 is_slot_open layout image k = (head_of (part 0 4096 (journal_slot layout image k))).gate
 
+-- the open slots of an image by their numbers, ascending
+abbrev pub open_slots_of : Layout → List ℕ → List ℕ
+open_slots_of layout image = filter (is_slot_open layout image) (range_with_len 0 (slot_count layout))
+
 -- What holds of an open slot that was read, whatever the disk tells: it is one of the disk's, and its inode numbers ascend below the
 -- number of inodes.
 pub record IsGoodSlot (layout : Layout) (one : OpenSlot) : Type 0 where

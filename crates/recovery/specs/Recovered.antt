@@ -1,16 +1,22 @@
 -- What a recovery answers, and what each crash during it leaves.
-use Rattle.std.specs.Prelude.{◌≡◌, ℕ, List, Some, Result}
+use Rattle.std.specs.Prelude.{◌≡◌, ℕ, List, length, None, Some, Result}
 use Rattle.sfs_image.specs.ImageOf.{IsImageOf}
 use Rattle.sfs_image.specs.Part.{Part}
-use Rattle.sfs_image.specs.Settled.{layout_of}
+use Rattle.sfs_image.specs.Settled.{layout_of, parts_of}
 use Rattle.sfs_image.specs.Super.{IsLayout}
 use Rattle.sfs_dev.specs.Disk.{View}
 use Rattle.sfs_dev.specs.Run.{Advances, Unwritten, HasReadCause}
 use Rattle.sfs_tree.specs.Laws.{IsSoundTree}
 use Rattle.sfs_tree.specs.Sound.{IsWithinLimits}
 use Rattle.commit_one.specs.Change.{nothing_open}
-use Rattle.image_tree.specs.Image.{fault_of, tree_of}
+use Rattle.image_tree.specs.Image.{fault_of, tree_of, inodes_shown}
+use Rattle.image_tree.specs.ImageTree.{image_tree}
+use Rattle.disk_tree.specs.Found.{making_when_read}
+use Rattle.disk_tree.specs.Judged.{fault_of_parts}
+use Rattle.disk_tree.specs.KeptParts.{kept_in_use}
 use Rattle.recovery.specs.Cause.{is_recover_disk_fault}
+use Rattle.recovery.specs.Freed.{without_unlinked, orphans_of, AreUnlinkedFree}
+use Rattle.recovery.specs.Open.{open_slots_of}
 use Rattle.recovery.specs.declared.fault.RecoverFault.{RecoverFault}
 use Rattle.recovery.specs.declared.fault.RecoverFault.TheVariants.{DiskFailed, BadSuper, BadJournal, BadImage, NoMemory}
 use Rattle.recovery.specs.declared.whole.Report.{Report}
@@ -28,20 +34,30 @@ LeavesRefused old new (BadImage inode rule) = Unwritten old new
 LeavesRefused old new DiskFailed = Unit {0}
 LeavesRefused old new NoMemory = Unit {0}
 
--- What a recovery reports of an image: its layout and its tree.
+-- What a recovery reports of an image: its layout and its tree, what is kept of its inodes in use without orphans, how many slots were
+-- open, and how many orphans there were.
 pub record IsReportOf (image : List ℕ) (report : Report) : Type 0 where
   pub layout_is : report.layout ≡ layout_of image
   pub tree : tree_of image 0 ≡ Some report.tree
+  pub kept : report.parts.items ≡ kept_in_use report.layout.inodes (without_unlinked (parts_of report.layout image))
+  pub closed : report.closed ≡ length (open_slots_of report.layout image)
+  pub freed : report.freed ≡ length (orphans_of report.layout image)
 
--- What a recovery reports of any disk: a layout that the disk can have, and a sound tree within its limits.
+-- What a recovery reports of any disk: a layout that the disk can have, and a sound tree within its limits. There are parts without fault
+-- that show this tree, and of those in use, without orphans, there is what is kept.
 pub record IsSoundReport (size : ℕ) (report : Report) : Type 0 where
   pub fits : IsLayout size report.layout
   pub sound : IsSoundTree report.tree
   pub limits : IsWithinLimits report.tree
+  pub parts : ℕ → Part
+  pub faultless : fault_of_parts report.layout parts ≡ None
+  pub shown : report.tree ≡ image_tree (inodes_shown report.layout parts) (making_when_read report.layout)
+  pub kept : report.parts.items ≡ kept_in_use report.layout.inodes (without_unlinked parts)
 
--- A recovered image: it stands for parts with no slot open, and shows what the image did that was recovered.
+-- A recovered image: it stands for the parts of the image that was recovered without orphans, with no slot open, and shows what that did.
 pub record IsRecoveredFrom (image now : List ℕ) : Type 0 where
   pub parts : ℕ → Part
+  pub without : AreUnlinkedFree (layout_of image) (parts_of (layout_of image) image) parts
   pub stands : IsImageOf (layout_of image) nothing_open parts now
   pub same : ShowsTheSame now image
 

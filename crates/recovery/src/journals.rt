@@ -1,5 +1,5 @@
 // The superblock and the journals of a disk: which slots are open, and what stands in them.
-ghost use Rattle.std.specs.Prelude.{◌≡◌, ◌+◌, ◌*◌, ◌<◌, ◌≤◌, ◌++◌, option_map, None, vec_len, IfOk, IfErr, OnOk};
+ghost use Rattle.std.specs.Prelude.{◌≡◌, ◌+◌, ◌*◌, ◌<◌, ◌≤◌, ◌++◌, option_map, None, length, vec_len, IfOk, IfErr, OnOk};
 ghost use Rattle.std.specs.List.{AllByRecursion};
 ghost use Rattle.std.specs.Option.{option_to_list};
 ghost use Rattle.sfs_dev.specs.Steps.{IfTold};
@@ -56,6 +56,7 @@ pub fn read_open<D: Disk>(
     requires layout { IsLayout (D.view disk.old).size layout.now }
     ensures ok { IfTold (D.view disk.old).content (λ image. IfOk result (λ found. AreOpen layout.now image (slot_count layout.now) found.items)) }
     ensures good { IfOk result (λ found. AllByRecursion (IsGoodSlot layout.now) found.items) }
+    ensures few { IfOk result (λ found. length found.items ≤ slot_count layout.now) }
     ensures err { IfTold (D.view disk.old).content (λ image. IfErr result (IsJournalRefusal layout.now image)) }
     ensures reads { OnlyReads is_recover_disk_fault (D.view disk.old) (D.view disk.new) result }
 {

@@ -6,6 +6,8 @@ mod fault;
 mod homing;
 mod journals;
 mod judged;
+pub mod laws;
+mod linked;
 mod making;
 mod newest;
 mod orphans;

@@ -2,7 +2,7 @@
 ghost use Rattle.std.specs.Prelude.{◌≡◌, ◌+◌, ◌*◌, ◌<◌, ◌≤◌, ℕ, List, Option, None, length, slice_index_or, IfOk, IfErr, OnOk};
 ghost use Rattle.std.specs.List.{AllByRecursion};
 ghost use Rattle.sfs_dev.specs.Steps.{IfTold};
-ghost use Rattle.sfs_image.specs.Settled.{Stamped, table_record};
+ghost use Rattle.sfs_image.specs.Settled.{Stamped, slot_count, table_record};
 ghost use Rattle.sfs_image.specs.Super.{IsLayout};
 ghost use Rattle.sfs_dev.specs.Run.{OnlyReads};
 ghost use Rattle.recovery.specs.Cause.{is_recover_disk_fault};
@@ -59,6 +59,7 @@ pub fn read_settled<D: Disk>(alloc: Global, disk: &mut D) -> Result<Settled, Rec
 pub fn read_journals<D: Disk>(alloc: Global, disk: &mut D) -> Result<Journals, RecoverFault>
     ensures fits { IfOk result (λ read. IsLayout (D.view disk.old).size read.layout) }
     ensures good { IfOk result (λ read. AllByRecursion (IsGoodSlot read.layout) read.open.items) }
+    ensures few { IfOk result (λ read. length read.open.items ≤ slot_count read.layout) }
     ensures counts { IfOk result (λ read. HaveCounts read.layout.inodes read.newest) }
     ensures ok { IfTold (D.view disk.old).content (λ image. IfOk result (WereRead image)) }
     ensures err { IfTold (D.view disk.old).content (λ image. IfErr result (IsSettledRefusal image)) }

@@ -1,6 +1,6 @@
 // Recovery: the superblock and the open slots are read and checked, then the image that they settle. Only
 // then is anything written: the newest records into the table, the gates, and a commit that frees orphans.
-ghost use Rattle.std.specs.Prelude.{◌≡◌, ℕ, IfOk, IfErr, OnOk};
+ghost use Rattle.std.specs.Prelude.{◌≡◌, ℕ, ◌<◌, ◌^◌, length, IfOk, IfErr, OnOk};
 ghost use Rattle.sfs_dev.specs.Run.{CountsOn, EachMoment};
 ghost use Rattle.sfs_dev.specs.Steps.{IfTold};
 ghost use Rattle.journal_one.specs.Calls.{IsCalm};
@@ -10,8 +10,10 @@ ghost use Rattle.recovery.specs.Recovered.{ShowsTheSame, LeavesRefused, IsReport
 
 use crate::fault::RecoverFault;
 use crate::judged::{Judged, judge};
+use crate::linked::linked_parts;
 use crate::orphans::{pack_freeing, unlinked_in};
 use crate::settling::settle_disk;
+use disk_tree::{Found, PartList};
 use fmt_super::Layout;
 use sfs_dev::Disk;
 use sfs_tree::Tree;
@@ -23,10 +25,12 @@ pub struct Report {
     pub layout: Layout,
     /// The tree, each node under its inode's number; no core may make a node yet.
     pub tree: Tree,
+    /// What is kept of the inodes in use, ascending by inode, once orphans are freed.
+    pub parts: PartList,
     /// How many journal slots were open and are closed.
-    pub closed: usize,
+    pub closed: u32,
     /// How many orphans were freed.
-    pub freed: usize,
+    pub freed: u32,
 }
 
 /// Recovers a disk: it reads and checks its image, brings what open slots have into the inode table, closes
@@ -51,6 +55,8 @@ pub fn recover<D: Disk>(alloc: Global, disk: &mut D) -> Result<Report, RecoverFa
         records,
         found,
     } = judge(alloc, disk)?;
+    let Found { tree, parts } = found;
+    let parts = linked_parts(alloc, parts)?;
     let unlinked = unlinked_in(alloc, records.as_slice())?;
     let packed = pack_freeing(alloc, &unlinked)?;
     settle_disk(
@@ -63,8 +69,17 @@ pub fn recover<D: Disk>(alloc: Global, disk: &mut D) -> Result<Report, RecoverFa
     )?;
     Ok(Report {
         layout,
-        tree: found.tree,
-        closed: open_slots.len(),
-        freed: unlinked.len(),
+        tree,
+        parts,
+        closed: count_of(&open_slots),
+        freed: count_of(&unlinked),
     })
+}
+
+// How many items there are.
+fn count_of<T>(items: &[T]) -> u32
+    requires few { length items.now < 2 ^ 32 }
+    ensures { result ≡ length items.now }
+{
+    items.len() as u32
 }

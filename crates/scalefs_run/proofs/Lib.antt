@@ -3,6 +3,7 @@ pub mod Called
 pub mod Crashes
 pub mod Dated
 pub mod FirstSound
+pub mod Images
 pub mod Making
 pub mod Opened
 pub mod Pushed

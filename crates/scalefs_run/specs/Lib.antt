@@ -1,8 +1,10 @@
 pub mod WithoutCore
 pub mod Calls
 pub mod Crash
+pub mod Commands
 pub mod First
 pub mod Flushed
+pub mod Image
 pub mod Made
 pub mod Outcome
 pub mod Replies

@@ -14,10 +14,12 @@ use Rattle.script.specs.Lines.{lines}
 use Rattle.script.specs.Phases.{phases_of}
 use Rattle.script.specs.Faults.{MOST_BYTES, MOST_LINES, IsShort}
 use Rattle.script.specs.Texts.{history_text}
+use Rattle.scalefs_run.specs.declared.outcome.ImageFault.{ImageFault}
+use Rattle.scalefs_run.specs.declared.outcome.ImageFault.TheVariants.{Super, Journal, Tree}
 use Rattle.scalefs_run.specs.declared.outcome.Status.{Status}
-use Rattle.scalefs_run.specs.declared.outcome.Status.TheVariants.{Done, BadWords, BadScript, ReadFault, WriteFault, DiskFault, NoMemory, TooManyWorkers, TooLong}
+use Rattle.scalefs_run.specs.declared.outcome.Status.TheVariants.{Done, BadWords, BadScript, ReadFault, WriteFault, DiskFault, BadImage, NoMemory, TooManyWorkers, TooLong, TooSmall}
 use Rattle.scalefs_run.specs.WithoutCore.{worker_without_core}
-use Rattle.scalefs_run.specs.Words.{nodes_of, CORES}
+use Rattle.scalefs_run.specs.Words.{CORES}
 
 -- these are the bytes that were told, where they were
 abbrev pub IsOf : Option (List ℕ) → List ℕ → Type 0
@@ -34,42 +36,40 @@ abbrev pub script_status : Result (List (List Line)) ℕ → Status
 script_status (Ok phases) = workers_status (worker_without_core CORES phases)
 script_status (Err line) = BadScript line
 
--- the status of words that are no command
-abbrev pub words_status : Result ℕ ℕ → Status → Status
-words_status (Ok nodes) status = status
-words_status (Err place) status = BadWords place
-
--- the status that is due where nothing fails: the words come first, then the length of the script, then its lines, then its workers
-abbrev pub due : List (List ℕ) → List ℕ → Status
-due words script =
-    words_status (nodes_of words) (
+-- the status that is due to a script where nothing fails: its length comes first, then its lines, then its workers
+abbrev pub due : List ℕ → Status
+due script =
     if nat_lt MOST_BYTES (length script) then TooLong Bytes else
     if nat_lt MOST_LINES (length (lines script)) then TooLong Lines else
-    script_status (phases_of script))
+    script_status (phases_of script)
 
 -- the words were a command
 abbrev pub IsCommand : Status → Type 0
 IsCommand (BadWords place) = ⊥
 IsCommand _ = Unit {0}
 
--- the script is in the grammar and the limits
-abbrev pub IsRead : Status → Type 0
-IsRead Done = Unit {0}
-IsRead (TooManyWorkers asked have) = Unit {0}
-IsRead _ = ⊥
+-- the disk is come to: the words are a command, the script, if there is one, is in the grammar and the limits, and a disk that is made is
+-- large enough
+abbrev pub ComesToDisk : Status → Type 0
+ComesToDisk Done = Unit {0}
+ComesToDisk (TooManyWorkers asked have) = Unit {0}
+ComesToDisk (BadImage fault) = Unit {0}
+ComesToDisk _ = ⊥
 
--- Why a run ends so, from the status that is due, and from whether the source's, the sink's or the disk's faults have risen:
--- with the status that is due; or a failure of the source, or of the disk or the sink once the script was read; or want of memory.
+-- Why a call ends so, from the status that is due, and from whether the source's, the sink's or the disk's faults have risen:
+-- with the status that is due; or a failure of the source, or of the disk once it is come to, or of the sink at the end; or want of memory.
 abbrev pub HasStatus : Status → Type 0 → Type 0 → Type 0 → Status → Type 0
 HasStatus due source sink disk Done = due ≡ Done
 HasStatus due source sink disk (BadWords place) = due ≡ BadWords place
 HasStatus due source sink disk (BadScript line) = due ≡ BadScript line
 HasStatus due source sink disk ReadFault = source × IsCommand due
 HasStatus due source sink disk WriteFault = sink × (due ≡ Done)
-HasStatus due source sink disk DiskFault = disk × IsRead due
+HasStatus due source sink disk DiskFault = disk × ComesToDisk due
+HasStatus due source sink disk (BadImage fault) = due ≡ BadImage fault
 HasStatus due source sink disk NoMemory = IsCommand due
 HasStatus due source sink disk (TooManyWorkers asked have) = due ≡ TooManyWorkers asked have
 HasStatus due source sink disk (TooLong measure) = due ≡ TooLong measure
+HasStatus due source sink disk (TooSmall need have) = due ≡ TooSmall need have
 
 -- the status of a run whose source could not be read
 abbrev pub status_of_source : ReadAllFault → Status
@@ -115,17 +115,18 @@ HasHistory phases history WriteFault = Follows phases history
 HasHistory phases history NoMemory = FollowsSoFar phases history
 HasHistory phases history _ = history ≡ []
 
--- What is written with a status: the whole text of the history, the front of it, or nothing.
-abbrev pub HasText : List Entry → Option (List ℕ) → Option (List ℕ) → Status → Type 0
-HasText history before after Done = Appends before after (history_text history)
-HasText history before after WriteFault = (n : ℕ) × (n ≤ length (history_text history)) × Appends before after (take n (history_text history))
-HasText history before after _ = after ≡ before
+-- What is written with a status: the whole text, the front of it, or nothing.
+abbrev pub HasText : List ℕ → Option (List ℕ) → Option (List ℕ) → Status → Type 0
+HasText text before after Done = Appends before after text
+HasText text before after WriteFault = (n : ℕ) × (n ≤ length text) × Appends before after (take n text)
+HasText text before after _ = after ≡ before
 
--- whether a run with this status came to the disk
+-- whether a call with this status came to the disk
 abbrev pub reaches_disk : Status → Bool
 reaches_disk Done = true
 reaches_disk WriteFault = true
 reaches_disk DiskFault = true
+reaches_disk (BadImage fault) = true
 reaches_disk NoMemory = true
 reaches_disk (TooManyWorkers asked have) = true
 reaches_disk _ = false
@@ -138,9 +139,17 @@ status_number (BadScript line) = 3
 status_number ReadFault = 4
 status_number WriteFault = 5
 status_number DiskFault = 6
+status_number (BadImage fault) = 7
 status_number NoMemory = 8
 status_number (TooManyWorkers asked have) = 9
 status_number (TooLong measure) = 10
+status_number (TooSmall need have) = 11
+
+-- what is wrong in an image: a byte of the superblock or of a journal slot, or an inode and the rule that it breaks
+abbrev pub fault_text : ImageFault → List ℕ
+fault_text (Super at) = codes "superblock byte " ++ decimal at
+fault_text (Journal core slot at) = (codes "journal " ++ decimal core) ++ ((codes " slot " ++ decimal slot) ++ (codes " byte " ++ decimal at))
+fault_text (Tree inode rule) = (codes "inode " ++ decimal inode) ++ (codes " rule " ++ decimal rule)
 
 -- the line that the program writes on standard error
 abbrev pub status_text : Status → List ℕ
@@ -150,6 +159,8 @@ status_text (BadScript line) = codes "bad script at line " ++ decimal line
 status_text ReadFault = codes "cannot read the script"
 status_text WriteFault = codes "cannot write the answer"
 status_text DiskFault = codes "the disk failed"
+status_text (BadImage fault) = codes "bad image: " ++ fault_text fault
 status_text NoMemory = codes "out of memory"
 status_text (TooManyWorkers asked have) = (codes "worker " ++ decimal asked) ++ (codes " of " ++ decimal have)
 status_text (TooLong measure) = codes "script too long"
+status_text (TooSmall need have) = (codes "too small: need " ++ decimal need) ++ (codes " blocks, have " ++ decimal have)

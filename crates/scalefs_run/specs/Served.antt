@@ -9,13 +9,13 @@ use Rattle.sfs_dev.specs.Steps.{IfTold}
 use Rattle.area_pair.specs.Rows.{rows_of}
 use Rattle.script.specs.declared.commands.Line.{Line}
 use Rattle.script.specs.Phases.{phases_of}
+use Rattle.script.specs.Texts.{history_text}
 use Rattle.scalefs_run.specs.declared.outcome.Status.{Status}
 use Rattle.scalefs_run.specs.declared.outcome.Status.TheVariants.{Done, WriteFault, NoMemory}
 use Rattle.scalefs_run.specs.First.{first_tree}
 use Rattle.scalefs_run.specs.Outcome.{IsOf, due, phases_in, HasStatus, HasHistory, HasText}
 use Rattle.scalefs_run.specs.Replies.{AreAnswered, has_failed}
 use Rattle.scalefs_run.specs.Shown.{shown, shown_at, last_flush}
-use Rattle.scalefs_run.specs.Words.{share_of}
 
 -- whether calls were made: memory may have been refused before the first
 abbrev pub has_run : Status → List Entry → Bool
@@ -40,7 +40,7 @@ pub record Served (due : Status) (share : ℕ) (phases : List (List Line)) (Sour
   -- it holds each worker's calls, each once, in their order, phase by phase
   pub calls : HasHistory phases history status
   -- its text was written
-  pub text : HasText history before after status
+  pub text : HasText (history_text history) before after status
   -- each fsync is answered as it is for its cause, and one that the disk failed, because the disk did
   pub answers : AreAnswered false new.faults (first_tree share opened) history
   pub failed : has_failed history ≡ true → HasRisen old.faults new.faults
@@ -48,6 +48,6 @@ pub record Served (due : Status) (share : ℕ) (phases : List (List Line)) (Sour
   pub read : has_run status history ≡ true → has_failed history ≡ false → IfTold new.content (λ content. shown (rows_of content) ≡ shown_at (first_tree share opened) history (last_flush history))
 
 -- the same of the script that the source gave
-abbrev pub ServedScript : List (List ℕ) → Option (List ℕ) → Type 0 → Type 0 → Option (List ℕ) → Option (List ℕ) → View → View → Status → List Entry → Type 0
-ServedScript words left Source Sink before after old new status history =
-    (script : List ℕ) × IsOf left script × Served (due words script) (share_of words) (phases_in (phases_of script)) Source Sink before after old new status history
+abbrev pub ServedScript : ℕ → Option (List ℕ) → Type 0 → Type 0 → Option (List ℕ) → Option (List ℕ) → View → View → Status → List Entry → Type 0
+ServedScript share left Source Sink before after old new status history =
+    (script : List ℕ) × IsOf left script × Served (due script) share (phases_in (phases_of script)) Source Sink before after old new status history

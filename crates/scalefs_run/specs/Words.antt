@@ -1,7 +1,10 @@
 -- The words of the command line.
-use Rattle.std.specs.Prelude.{ℕ, ◌/◌, ◌==◌, Bool, false, List, [], ◌∷◌, codes, bytes_eq, nat_le, Option, Some, None, Result, Ok, Err, if◌then◌else◌}
+use Rattle.std.specs.Prelude.{ℕ, ◌/◌, ◌≤◌, ◌==◌, Bool, List, [], ◌∷◌, codes, bytes_eq, nat_le, Option, Some, None, Result, Ok, Err, if◌then◌else◌, false}
 use Rattle.std.specs.List.{list_any}
 use Rattle.script.specs.Words.{number_up_to}
+use Rattle.sfs_image.specs.Super.{Layout}
+use Rattle.scalefs_run.specs.declared.words.Command.{Command}
+use Rattle.scalefs_run.specs.declared.words.Command.TheVariants.{Mkfs, Show, Run}
 
 -- whether a word begins with `-`
 abbrev pub begins_with_dash : List ℕ → Bool
@@ -16,22 +19,72 @@ NODES = 4096
 abbrev pub MOST_NODES : ℕ
 MOST_NODES = 65536
 
--- a number of new nodes: 1 to 65,536; else the word is the first number that is out of its range
-abbrev pub nodes_in : Option ℕ → Result ℕ ℕ
-nodes_in None = Err 1
-nodes_in (Some nodes) = if nat_le 1 nodes then Ok nodes else Err 1
+-- how many blocks, inodes and cores an image has at least and at most
+abbrev pub LEAST_BLOCKS : ℕ
+LEAST_BLOCKS = 8
 
--- the words `run` and `run NODES`; no others are a command
-abbrev pub command_in : List (List ℕ) → Result ℕ ℕ
-command_in (word ∷ []) = if bytes_eq word (codes "run") then Ok NODES else Err 0
-command_in (word ∷ number ∷ []) = if bytes_eq word (codes "run") then nodes_in (number_up_to MOST_NODES number) else Err 0
+abbrev pub MOST_BLOCKS : ℕ
+MOST_BLOCKS = 262144
+
+abbrev pub LEAST_INODES : ℕ
+LEAST_INODES = 16
+
+abbrev pub MOST_INODES : ℕ
+MOST_INODES = 16384
+
+abbrev pub MOST_CORES : ℕ
+MOST_CORES = 16
+
+-- a number that is none is bad at its place, and so is one that is too small
+abbrev pub from_least : ℕ → ℕ → Option ℕ → Result ℕ ℕ
+from_least place least None = Err place
+from_least place least (Some number) = if nat_le least number then Ok number else Err place
+
+-- the number that a word spells, where it is in its range; else the word is bad at this place
+abbrev pub number_in : ℕ → ℕ → ℕ → List ℕ → Result ℕ ℕ
+number_in place least most word = from_least place least (number_up_to most word)
+
+-- `run`, with this number of new nodes
+abbrev pub run_of : Result ℕ ℕ → Result Command ℕ
+run_of (Ok nodes) = Ok (Run nodes)
+run_of (Err place) = Err place
+
+-- `mkfs`, with these numbers; the first that is bad is named
+abbrev pub mkfs_of : Result ℕ ℕ → Result ℕ ℕ → Result ℕ ℕ → Result Command ℕ
+mkfs_of (Err place) inodes cores = Err place
+mkfs_of (Ok blocks) (Err place) cores = Err place
+mkfs_of (Ok blocks) (Ok inodes) (Err place) = Err place
+mkfs_of (Ok blocks) (Ok inodes) (Ok cores) = Ok (Mkfs blocks inodes cores)
+
+-- the words `run`, `run NODES`, `show` and `mkfs BLOCKS INODES CORES`; no others are a command
+abbrev pub command_in : List (List ℕ) → Result Command ℕ
+command_in (word ∷ []) = if bytes_eq word (codes "run") then Ok (Run NODES) else if bytes_eq word (codes "show") then Ok Show else Err 0
+command_in (word ∷ nodes ∷ []) = if bytes_eq word (codes "run") then run_of (number_in 1 1 MOST_NODES nodes) else Err 0
+command_in (word ∷ blocks ∷ inodes ∷ cores ∷ []) =
+    if bytes_eq word (codes "mkfs")
+    then mkfs_of (number_in 1 LEAST_BLOCKS MOST_BLOCKS blocks) (number_in 2 LEAST_INODES MOST_INODES inodes) (number_in 3 1 MOST_CORES cores) else Err 0
 command_in _ = Err 0
 
--- How many new nodes the words allow, or the place at which they are bad: 0 where one begins with `-` or they are no command.
-abbrev pub nodes_of : List (List ℕ) → Result ℕ ℕ
-nodes_of words = if list_any begins_with_dash words then Err 0 else command_in words
+-- What the words ask for, or the place at which they are bad: 0 where one begins with `-` or they are no command.
+abbrev pub command_of : List (List ℕ) → Result Command ℕ
+command_of words = if list_any begins_with_dash words then Err 0 else command_in words
 
--- how many cores there are
+-- a number is from one bound to the other
+pub record IsFromTo (least most number : ℕ) : Type 0 where
+  pub low : least ≤ number
+  pub high : number ≤ most
+
+-- a command's numbers are in their ranges
+abbrev pub IsInRange : Command → Type 0
+IsInRange (Mkfs blocks inodes cores) = IsFromTo LEAST_BLOCKS MOST_BLOCKS blocks × IsFromTo LEAST_INODES MOST_INODES inodes × IsFromTo 1 MOST_CORES cores
+IsInRange Show = Unit {0}
+IsInRange (Run nodes) = nodes ≤ MOST_NODES
+
+-- the layout that the words of `mkfs` ask for: one journal slot for each core
+abbrev pub layout_asked : ℕ → ℕ → ℕ → Layout
+layout_asked blocks inodes cores = record { blocks = blocks; inodes = inodes; cores = cores; slots = 1 }
+
+-- how many cores a run of a script has
 abbrev pub CORES : ℕ
 CORES = 2
 
@@ -40,9 +93,5 @@ abbrev pub MOST_SHARE : ℕ
 MOST_SHARE = 32768
 
 -- how many nodes each core may make
-abbrev pub share_in : Result ℕ ℕ → ℕ
-share_in (Ok nodes) = nodes / CORES
-share_in (Err place) = 0
-
-abbrev pub share_of : List (List ℕ) → ℕ
-share_of words = share_in (nodes_of words)
+abbrev pub share_of : ℕ → ℕ
+share_of nodes = nodes / CORES

@@ -1,13 +1,14 @@
-//! The top call: it reads a script, runs it on a tree that is read from a disk, and writes the history.
+//! The top call: it makes an image, shows one, or runs a script and writes its history.
 #![tactic(auto)]
 
 mod engine;
 mod first;
 mod flush;
+mod image;
 mod outcome;
 mod top;
 mod without_core;
 mod words;
 
-pub use outcome::{Outcome, Status, status_line};
+pub use outcome::{ImageFault, Outcome, Status, status_line};
 pub use top::run;

@@ -1,14 +1,26 @@
 ghost use Rattle.std.specs.Prelude.{◌≡◌, string_bytes, IfOk};
 ghost use Rattle.scalefs_run.specs.Outcome.{status_text};
+ghost use Rattle.scalefs_run.specs.declared.outcome.Status.TheVariants.{BadImage};
 
 use sfs_base::{Measure, NoMemory};
 use sfs_tree::{History, Turns};
 use std::alloc::Global;
 
-/// How a run ended.
+/// What is wrong in an image.
+#[derive(Clone, Copy, Debug, PartialEq, Eq)]
+pub enum ImageFault {
+    /// A byte of the superblock.
+    Super { at: u32 },
+    /// A byte of an open journal slot of a core.
+    Journal { core: u8, slot: u8, at: u32 },
+    /// An inode that breaks a rule.
+    Tree { inode: u32, rule: u8 },
+}
+
+/// How a call ended.
 #[derive(Clone, Copy, Debug, PartialEq, Eq)]
 pub enum Status {
-    /// The whole script was run, and the whole text was written.
+    /// All was done, and the whole text was written.
     Done,
     /// A word begins with `-` or the words are no command (place 0), or the number in this place,
     /// from 1, is none of its range.
@@ -19,14 +31,18 @@ pub enum Status {
     ReadFault,
     /// The sink failed.
     WriteFault,
-    /// The disk failed before the first call.
+    /// The disk failed, of a script before its first call.
     DiskFault,
+    /// The image is refused, for its first fault.
+    BadImage { fault: ImageFault },
     /// Memory was refused.
     NoMemory,
     /// The first line whose worker has no core: the worker, and how many cores there are.
     TooManyWorkers { asked: u32, have: u32 },
     /// The script has too many bytes, or too many lines.
     TooLong { measure: Measure },
+    /// An image of so many blocks has no room for its parts, or the disk has none for so many.
+    TooSmall { need: u32, have: u32 },
 }
 
 impl Status {
@@ -43,9 +59,11 @@ impl Status {
             Status::ReadFault => 4,
             Status::WriteFault => 5,
             Status::DiskFault => 6,
+            Status::BadImage { fault: _ } => 7,
             Status::NoMemory => 8,
             Status::TooManyWorkers { asked: _, have: _ } => 9,
             Status::TooLong { measure: _ } => 10,
+            Status::TooSmall { need: _, have: _ } => 11,
         }
     }
 }
@@ -61,15 +79,34 @@ pub fn status_line(alloc: Global, status: &Status) -> Result<String, NoMemory>
         Status::ReadFault => Ok(String::from_str(alloc, "cannot read the script")?),
         Status::WriteFault => Ok(String::from_str(alloc, "cannot write the answer")?),
         Status::DiskFault => Ok(String::from_str(alloc, "the disk failed")?),
+        Status::BadImage { fault } => fault_line(alloc, fault),
         Status::NoMemory => Ok(String::from_str(alloc, "out of memory")?),
         Status::TooManyWorkers { asked, have } => Ok(format!(in alloc;
             "worker {asked} of {have}"
         )?),
         Status::TooLong { measure: _ } => Ok(String::from_str(alloc, "script too long")?),
+        Status::TooSmall { need, have } => Ok(format!(in alloc;
+            "too small: need {need} blocks, have {have}"
+        )?),
     }
 }
 
-/// What a run leaves: its status, the calls with their replies, the turns of its commits, and the disk.
+// The line of a refused image.
+fn fault_line(alloc: Global, fault: ImageFault) -> Result<String, NoMemory>
+    ensures { IfOk result (λ line. string_bytes line ≡ status_text (BadImage fault)) }
+{
+    match fault {
+        ImageFault::Super { at } => Ok(format!(in alloc; "bad image: superblock byte {at}")?),
+        ImageFault::Journal { core, slot, at } => Ok(format!(in alloc;
+            "bad image: journal {core} slot {slot} byte {at}"
+        )?),
+        ImageFault::Tree { inode, rule } => Ok(format!(in alloc;
+            "bad image: inode {inode} rule {rule}"
+        )?),
+    }
+}
+
+/// What a call leaves: its status, the calls of its script with their replies, the turns of its commits, and the disk.
 #[derive(Drop)]
 pub struct Outcome<D> {
     pub status: Status,

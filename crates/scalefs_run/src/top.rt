@@ -1,34 +1,39 @@
-ghost use Rattle.std.specs.Prelude.{◌≡◌, ◌≤◌, ◌/◌, ℕ, List, [], true, false, length, map, string_bytes, IfOk, IfErr, Ok};
+ghost use Rattle.std.specs.Prelude.{◌≡◌, ◌≤◌, ◌<◌, ◌/◌, ℕ, List, [], true, false, length, map, string_bytes, IfOk, IfErr, Ok};
 ghost use Rattle.std.specs.List.{All};
 ghost use Rattle.sfs_base.specs.Ends.{HasRisen};
 ghost use Rattle.sfs_dev.specs.Run.{Advances};
 ghost use Rattle.script.specs.Phases.{phases_of};
+ghost use Rattle.script.specs.Texts.{history_text};
 ghost use Rattle.script.specs.Faults.{IsShort};
 ghost use Rattle.script.specs.Ready.{LinesMayRun};
-ghost use Rattle.scalefs_run.specs.declared.outcome.Status.TheVariants.{Done as Fine};
+ghost use Rattle.scalefs_run.specs.Commands.{ServedWords, ServedCommand, SurvivesWords, SurvivesCommand, HasAreasFor, HasAreas};
 ghost use Rattle.scalefs_run.specs.Outcome.{IsOf, HasText, IsWriteStatus, HasReadFault, status_of_source, status_of_script, workers_status, reaches_disk};
-ghost use Rattle.scalefs_run.specs.Words.{CORES as CORE_COUNT, MOST_SHARE, nodes_of, share_of};
+ghost use Rattle.scalefs_run.specs.Words.{CORES as CORE_COUNT, MOST_SHARE, MOST_NODES, IsInRange, command_of, share_of};
 ghost use Rattle.scalefs_run.specs.WithoutCore.{worker_without_core, HaveCores};
 ghost use Rattle.scalefs_run.specs.Served.{Served, ServedScript};
 ghost use Rattle.scalefs_run.specs.Crash.{AcksRise, Survives};
 
 use crate::engine::{mount, serve};
 use crate::first::CORES;
+use crate::image::{make_image, show_image, write_text};
 use crate::without_core::first_worker_without_core;
-use crate::words::nodes_of;
+use crate::words::{Command, command_of};
 use crate::{Outcome, Status};
 use area_pair::OpenFault;
+use fmt_super::Layout;
 use script::{LONGEST_SCRIPT, Script, ScriptFault};
-use sfs_base::{Gate, Measure, ReadAllFault, Sink, Source, read_all, write_all};
+use sfs_base::{Gate, Measure, ReadAllFault, Sink, Source, read_all};
 use sfs_dev::Disk;
 use sfs_tree::{History, Turns};
 use std::alloc::Global;
 use std::sync::Wait;
 use std::thread::Threads;
 
-/// Runs a script: the words are `run` or `run NODES`, the number of new nodes, the source gives the script, the sink takes the text of
-/// the history, and the disk keeps what was flushed. Nothing reaches the disk before the whole
-/// script is in the grammar. No thread is started yet, and the gate is not asked.
+/// Does what the words say. `mkfs BLOCKS INODES CORES` makes an empty image on the disk and writes its
+/// numbers. `show` recovers the image of the disk and writes the text of its tree. `run` or `run NODES`, the
+/// number of new nodes, runs a script: the source gives it, the sink takes the text of the history, and the
+/// disk, which is none of `mkfs`, keeps what was flushed of the root. Nothing reaches the disk before the
+/// whole script is in the grammar. No thread is started yet, and the gate is not asked.
 pub fn run<R: Threads + Wait + Sync, S: Source, K: Sink, D: Disk, G: Gate>(
     _rt: &R,
     alloc: Global,
@@ -38,13 +43,13 @@ pub fn run<R: Threads + Wait + Sync, S: Source, K: Sink, D: Disk, G: Gate>(
     mut disk: D,
     _gate: &G,
 ) -> Outcome<D>
-    requires { 4 ≤ (D.view disk).size }
+    requires large { HasAreasFor (command_of (map string_bytes words.now)) (D.view disk).size }
 
-    ensures served { ServedScript (map string_bytes words.now) (S.left source.old) (HasRisen (S.faults source.old) (S.faults source.new)) (HasRisen (K.faults sink.old) (K.faults sink.new))
+    ensures served { ServedWords (command_of (map string_bytes words.now)) (S.left source.old) (HasRisen (S.faults source.old) (S.faults source.new)) (HasRisen (K.faults sink.old) (K.faults sink.new))
         (K.written sink.old) (K.written sink.new) (D.view disk) (D.view result.disk) result.status result.history }
 
-    // A crash at any moment of the call leaves the root as it was at a stamp, with each fsync that was acknowledged by then.
-    ensures survives { Survives (share_of (map string_bytes words.now)) (D.view disk) (D.view result.disk) result.history }
+    // A crash at any moment of a run leaves the root as it was at a stamp, with each fsync that was acknowledged by then.
+    ensures survives { SurvivesWords (command_of (map string_bytes words.now)) (D.view disk) (D.view result.disk) result.history }
     ensures acks { AcksRise (D.view disk).now result.history (D.view result.disk).now }
 
     ensures untouched { reaches_disk result.status ≡ false → result.disk ≡ disk }
@@ -60,7 +65,7 @@ pub fn run<R: Threads + Wait + Sync, S: Source, K: Sink, D: Disk, G: Gate>(
     }
 }
 
-// The status and the history of a run.
+// The status and the history of a call.
 fn serve_words<S: Source, K: Sink, D: Disk>(
     alloc: Global,
     words: &[String],
@@ -68,21 +73,82 @@ fn serve_words<S: Source, K: Sink, D: Disk>(
     sink: &mut K,
     disk: &mut D,
 ) -> (Status, History)
-    requires { 4 ≤ (D.view disk.old).size }
-    ensures served { ServedScript (map string_bytes words.now) (S.left source.old) (HasRisen (S.faults source.old) (S.faults source.new)) (HasRisen (K.faults sink.old) (K.faults sink.new))
+    requires large { HasAreasFor (command_of (map string_bytes words.now)) (D.view disk.old).size }
+    ensures served { ServedWords (command_of (map string_bytes words.now)) (S.left source.old) (HasRisen (S.faults source.old) (S.faults source.new)) (HasRisen (K.faults sink.old) (K.faults sink.new))
         (K.written sink.old) (K.written sink.new) (D.view disk.old) (D.view disk.new) result.0 result.1 }
-    ensures survives { Survives (share_of (map string_bytes words.now)) (D.view disk.old) (D.view disk.new) result.1 }
+    ensures survives { SurvivesWords (command_of (map string_bytes words.now)) (D.view disk.old) (D.view disk.new) result.1 }
     ensures acks { AcksRise (D.view disk.old).now result.1 (D.view disk.new).now }
     ensures untouched { reaches_disk result.0 ≡ false → disk.new ≡ disk.old }
     ensures advances { Advances (D.view disk.old) (D.view disk.new) }
 {
-    let nodes = match nodes_of(words) {
-        Ok(nodes) => nodes,
-        Err(place) => return (Status::BadWords { place }, History::new(alloc)),
-    };
+    match command_of(words) {
+        Ok(command) => serve_command(alloc, command, source, sink, disk),
+        Err(place) => (Status::BadWords { place }, History::new(alloc)),
+    }
+}
+
+// The same of a command.
+fn serve_command<S: Source, K: Sink, D: Disk>(
+    alloc: Global,
+    command: Command,
+    source: &mut S,
+    sink: &mut K,
+    disk: &mut D,
+) -> (Status, History)
+    requires ranges { IsInRange command }
+    requires large { HasAreas command (D.view disk.old).size }
+    ensures served { ServedCommand command (S.left source.old) (HasRisen (S.faults source.old) (S.faults source.new)) (HasRisen (K.faults sink.old) (K.faults sink.new))
+        (K.written sink.old) (K.written sink.new) (D.view disk.old) (D.view disk.new) result.0 result.1 }
+    ensures survives { SurvivesCommand command (D.view disk.old) (D.view disk.new) result.1 }
+    ensures acks { AcksRise (D.view disk.old).now result.1 (D.view disk.new).now }
+    ensures untouched { reaches_disk result.0 ≡ false → disk.new ≡ disk.old }
+    ensures advances { Advances (D.view disk.old) (D.view disk.new) }
+{
+    match command {
+        Command::Mkfs {
+            blocks,
+            inodes,
+            cores,
+        } => {
+            let layout = Layout {
+                blocks,
+                inodes,
+                cores,
+                slots: 1,
+            };
+            let status = make_image(alloc, &layout, sink, disk);
+            (status, History::new(alloc))
+        }
+        Command::Show => {
+            let status = show_image(alloc, sink, disk);
+            (status, History::new(alloc))
+        }
+        Command::Run { nodes } => {
+            serve_source(alloc, nodes / u32::from(CORES), source, sink, disk)
+        }
+    }
+}
+
+// Runs the script that the source gives, in which each core may make so many nodes.
+fn serve_source<S: Source, K: Sink, D: Disk>(
+    alloc: Global,
+    share: u32,
+    source: &mut S,
+    sink: &mut K,
+    disk: &mut D,
+) -> (Status, History)
+    requires share { share ≤ MOST_SHARE }
+    requires large { 4 ≤ (D.view disk.old).size }
+    ensures served { ServedScript share (S.left source.old) (HasRisen (S.faults source.old) (S.faults source.new)) (HasRisen (K.faults sink.old) (K.faults sink.new))
+        (K.written sink.old) (K.written sink.new) (D.view disk.old) (D.view disk.new) result.0 result.1 }
+    ensures survives { Survives share (D.view disk.old) (D.view disk.new) result.1 }
+    ensures acks { AcksRise (D.view disk.old).now result.1 (D.view disk.new).now }
+    ensures untouched { reaches_disk result.0 ≡ false → disk.new ≡ disk.old }
+    ensures advances { Advances (D.view disk.old) (D.view disk.new) }
+{
     match read_script(alloc, source) {
         Err(status) => (status, History::new(alloc)),
-        Ok(script) => serve_script(alloc, nodes / u32::from(CORES), &script, sink, disk),
+        Ok(script) => serve_script(alloc, share, &script, sink, disk),
     }
 }
 
@@ -167,13 +233,10 @@ fn serve_script<K: Sink, D: Disk>(
 // Writes the text of a history.
 fn write_history<K: Sink>(alloc: Global, history: &History, sink: &mut K) -> Status
     ensures status { IsWriteStatus (HasRisen (K.faults sink.old) (K.faults sink.new)) result }
-    ensures text { HasText history.now (K.written sink.old) (K.written sink.new) result }
+    ensures text { HasText (history_text history.now) (K.written sink.old) (K.written sink.new) result }
 {
     let Ok(text) = script::text(alloc, history) else {
         return Status::NoMemory;
     };
-    match write_all(sink, &text) {
-        Ok(()) => Status::Done,
-        Err(_) => Status::WriteFault,
-    }
+    write_text(sink, &text)
 }

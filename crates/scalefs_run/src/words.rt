@@ -1,6 +1,7 @@
-ghost use Rattle.std.specs.Prelude.{◌≡◌, ◌≤◌, map, string_bytes, IfOk};
+ghost use Rattle.std.specs.Prelude.{◌≡◌, ◌∷◌, [], map, string_bytes, IfOk};
 ghost use Rattle.std.specs.List.{list_any};
-ghost use Rattle.scalefs_run.specs.Words.{MOST_NODES as MOST, nodes_of, command_in, nodes_in, begins_with_dash};
+ghost use Rattle.scalefs_run.specs.Words.{command_of, command_in, number_in, begins_with_dash, IsInRange, IsFromTo, run_of, mkfs_of};
+ghost use Rattle.scalefs_run.specs.Words.{LEAST_BLOCKS as BLOCKS_LOW, MOST_BLOCKS as BLOCKS_HIGH, LEAST_INODES as INODES_LOW, MOST_INODES as INODES_HIGH, MOST_CORES as CORES_HIGH, MOST_NODES as NODES_HIGH};
 
 use script::number_up_to;
 
@@ -8,12 +9,40 @@ use script::number_up_to;
 const NODES: u32 = 4096;
 
 /// How many they may be at most.
-const MOST_NODES: u64 = 65_536;
+const MOST_NODES: u32 = 65_536;
 
-/// How many new nodes the words allow, or the place at which they are bad.
-pub fn nodes_of(words: &[String]) -> Result<u32, u32>
-    ensures nodes { result ≡ nodes_of (map string_bytes words.now) }
-    ensures within { IfOk result (λ nodes. nodes ≤ MOST) }
+/// How many blocks, inodes and cores an image has.
+const LEAST_BLOCKS: u32 = 8;
+
+const MOST_BLOCKS: u32 = 262_144;
+
+const LEAST_INODES: u32 = 16;
+
+const MOST_INODES: u32 = 16_384;
+
+const MOST_CORES: u32 = 16;
+
+/// What the words ask for.
+#[derive(Clone, Copy)]
+pub enum Command {
+    /// An empty image of so many blocks, inodes and cores.
+    Mkfs {
+        blocks: u32,
+        inodes: u32,
+        cores: u32,
+    },
+    /// The tree of an image.
+    Show,
+    /// A script, in which so many nodes may be made.
+    Run {
+        nodes: u32,
+    },
+}
+
+/// What the words ask for, or the place at which they are bad.
+pub fn command_of(words: &[String]) -> Result<Command, u32>
+    ensures command { result ≡ command_of (map string_bytes words.now) }
+    ensures ranges { IfOk result IsInRange }
 {
     if has_dash(words) {
         return Err(0);
@@ -43,21 +72,22 @@ fn begins_with_dash(word: &String) -> bool
 }
 
 // The same of words that don't begin with `-`.
-fn command_in(words: &[String]) -> Result<u32, u32>
-    ensures nodes { result ≡ command_in (map string_bytes words.now) }
-    ensures within { IfOk result (λ nodes. nodes ≤ MOST) }
+fn command_in(words: &[String]) -> Result<Command, u32>
+    ensures command { result ≡ command_in (map string_bytes words.now) }
+    ensures ranges { IfOk result IsInRange }
 {
     match words {
-        [word] => {
+        [word] => command_alone(word),
+        [word, nodes] => {
             if word.as_str() == "run" {
-                Ok(NODES)
+                run_of(nodes)
             } else {
                 Err(0)
             }
         }
-        [word, number] => {
-            if word.as_str() == "run" {
-                nodes_in(number.as_bytes())
+        [word, blocks, inodes, cores] => {
+            if word.as_str() == "mkfs" {
+                mkfs_of(blocks, inodes, cores)
             } else {
                 Err(0)
             }
@@ -66,15 +96,58 @@ fn command_in(words: &[String]) -> Result<u32, u32>
     }
 }
 
-// The number of new nodes that a word spells, 1 to 65,536.
-fn nodes_in(number: &[u8]) -> Result<u32, u32>
-    ensures nodes { result ≡ nodes_in (number_up_to 65536 number.now) }
-    ensures within { IfOk result (λ nodes. nodes ≤ MOST) }
+// A word that is a command by itself.
+fn command_alone(word: &String) -> Result<Command, u32>
+    ensures command { result ≡ command_in (string_bytes word.now ∷ []) }
+    ensures ranges { IfOk result IsInRange }
 {
-    match number_up_to(MOST_NODES, number) {
-        Some(nodes) => { if nodes >= 1 { Ok(nodes as u32) } else { Err(1) } }
-        None => Err(1),
+    if word.as_str() == "run" {
+        return Ok(Command::Run { nodes: NODES });
     }
+    if word.as_str() == "show" {
+        return Ok(Command::Show);
+    }
+    Err(0)
 }
 
-ghost use Rattle.script.specs.Words.{number_up_to};
+// A run with so many new nodes.
+fn run_of(nodes: &String) -> Result<Command, u32>
+    ensures command { result ≡ run_of (number_in 1 1 NODES_HIGH (string_bytes nodes.now)) }
+    ensures ranges { IfOk result IsInRange }
+{
+    let nodes = number_in(1, 1, MOST_NODES, nodes)?;
+    Ok(Command::Run { nodes })
+}
+
+// An image of so many blocks, inodes and cores.
+fn mkfs_of(blocks: &String, inodes: &String, cores: &String) -> Result<Command, u32>
+    ensures command { result ≡ mkfs_of (number_in 1 BLOCKS_LOW BLOCKS_HIGH (string_bytes blocks.now)) (number_in 2 INODES_LOW INODES_HIGH (string_bytes inodes.now))
+        (number_in 3 1 CORES_HIGH (string_bytes cores.now)) }
+    ensures ranges { IfOk result IsInRange }
+{
+    let blocks = number_in(1, LEAST_BLOCKS, MOST_BLOCKS, blocks)?;
+    let inodes = number_in(2, LEAST_INODES, MOST_INODES, inodes)?;
+    let cores = number_in(3, 1, MOST_CORES, cores)?;
+    Ok(Command::Mkfs {
+        blocks,
+        inodes,
+        cores,
+    })
+}
+
+// The number that a word spells, where it is in its range; else the word is bad at this place.
+fn number_in(place: u32, least: u32, most: u32, word: &String) -> Result<u32, u32>
+    ensures number { result ≡ number_in place least most (string_bytes word.now) }
+    ensures range { IfOk result (IsFromTo least most) }
+{
+    match number_up_to(u64::from(most), word.as_bytes()) {
+        Some(number) => {
+            if number >= u64::from(least) {
+                Ok(number as u32)
+            } else {
+                Err(place)
+            }
+        }
+        None => Err(place),
+    }
+}

@@ -1,4 +1,4 @@
-use Rattle.std.proofs.Common.{◌≡◌, map}
+use Rattle.std.proofs.Common.{◌≡◌, ◌≤◌, length, map}
 use Rattle.std.specs.List.{AllByRecursion}
 use Rattle.sfs_dev.specs.Steps.{IfTold}
 use Rattle.sfs_image.specs.Settled.{slot_count}
@@ -13,5 +13,6 @@ invariant-loop-number g l = let view = g.D.Disk.view in record {
   run : ReadSoFar (view l.fn.disk) (view l.disk);
   stamps : l.stamps.items ≡ map (λ (one : OpenSlot). one.stamp) l.found.items;
   good : AllByRecursion (IsGoodSlot l.layout) l.found.items;
+  few : length l.found.items ≤ l.number;
   found : IfTold (view l.fn.disk).content (λ image. AreOpen l.layout image l.number l.found.items);
 }

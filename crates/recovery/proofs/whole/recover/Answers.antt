@@ -1,11 +1,16 @@
 -- A recovery reads, judges and settles.
-use Rattle.std.proofs.Common.{ℕ, ◌<◌, ◌≤◌, sym, subst, ◌∙◌, arith}
+use Rattle.std.proofs.Common.{ℕ, ◌<◌, ◌≤◌, length, sym, ap, subst, ◌∙◌, arith}
 use Rattle.std.specs.List.Sorted.{IsStrictlyIncreasing}
 use Rattle.sfs_base.specs.Ends.{HasRisen}
 use Rattle.sfs_dev.proofs.Runs.{GoesOn-trans}
+use Rattle.recovery.proofs.BegunFrom.{as_many}
 use Rattle.recovery.proofs.JudgedImage.{image_stands}
+use Rattle.recovery.proofs.KeptLinked.{kept_linked, orphans_are_those, unlinked_few, slots_few}
 use Rattle.recovery.proofs.RecoverMoments.{calm_stays, read_moments, all_moments, all_ended, ready_by, failed_for}
 use Rattle.recovery.proofs.Unlinked.{unlinked_ascend}
+use Rattle.recovery.specs.Freed.{unlinked_in, is_linked_kept}
+use Rattle.sfs_image.specs.Settled.{parts_of}
+use Rattle.std.specs.List.{filter}
 use Rattle.recovery.proofs.whole.recover.Goals as goal
 
 some_inode : (inodes : ℕ) → 16 ≤ inodes → 0 < inodes
@@ -13,6 +18,10 @@ some_inode inodes low = omega (arith, low)
 
 pub returns-in_err-layout-clause-moments : goal.returns-in_err-layout-clause-moments
 returns-in_err-layout-clause-moments g c image told calm counts =
+    read_moments (g.D.Disk.view c.args.disk.now) (g.D.Disk.view c.judge.new.disk) image told calm c.judge.ensures.reads.unwritten counts
+
+pub returns-in_err-parts-clause-moments : goal.returns-in_err-parts-clause-moments
+returns-in_err-parts-clause-moments g c image told calm counts =
     read_moments (g.D.Disk.view c.args.disk.now) (g.D.Disk.view c.judge.new.disk) image told calm c.judge.ensures.reads.unwritten counts
 
 pub returns-in_err-unlinked-clause-moments : goal.returns-in_err-unlinked-clause-moments
@@ -55,7 +64,46 @@ returns-in_err-settle_disk-clause-runs g c =
 pub returns-clause-ok : goal.returns-clause-ok
 returns-clause-ok g c image told =
     let own = c.in_ok-layout.ensures.ok image told in
-    record { layout_is = own.settles.layout_is; tree = own.found.tree }
+    let judged = c.in_ok-layout.field-0 in
+    record {
+      layout_is = own.settles.layout_is;
+      tree = own.found.tree;
+      kept = c.in_ok-parts.ensures ∙ ap (filter is_linked_kept) own.found.kept ∙ kept_linked judged.layout.inodes (parts_of judged.layout image);
+      closed = c.count_of.ensures ∙ ap length c.deref-4.ensures.value ∙ as_many judged.layout image judged.open_slots.items own.open_slots;
+      freed = c.count_of-2.ensures ∙ ap length (c.deref-5.ensures.value ∙ c.in_ok-unlinked.ensures ∙ ap unlinked_in c.as_slice.ensures
+          ∙ orphans_are_those judged.layout image judged.records.items c.in_ok-layout.ensures.fit.records own.settles.each);
+    }
+
+pub returns-clause-sound : goal.returns-clause-sound
+returns-clause-sound g c =
+    let judged = c.in_ok-layout.field-0 in
+    let found = c.in_ok-layout.ensures.found in
+    record {
+      fits = c.in_ok-layout.ensures.fits;
+      sound = found.sound;
+      limits = found.limits;
+      parts = found.parts;
+      faultless = found.faultless;
+      shown = found.tree;
+      kept = c.in_ok-parts.ensures ∙ ap (filter is_linked_kept) found.kept ∙ kept_linked judged.layout.inodes found.parts;
+    }
+
+pub count_of-requires : goal.count_of-requires
+count_of-requires g c =
+    let judged = c.in_ok-layout.field-0 in
+    let few = c.in_ok-layout.ensures.fit.few in
+    let most = slots_few judged.layout c.in_ok-layout.ensures.fits.ranges in
+    let same = ap length c.deref-4.ensures.value in
+    omega (arith, few, most, same)
+
+pub count_of-requires-2 : goal.count_of-requires-2
+count_of-requires-2 g c =
+    let judged = c.in_ok-layout.field-0 in
+    let few = unlinked_few judged.records.items in
+    let most = c.in_ok-layout.ensures.fits.ranges.inodes_high in
+    let count = c.in_ok-layout.ensures.fit.records in
+    let same = ap length (c.deref-5.ensures.value ∙ c.in_ok-unlinked.ensures ∙ ap unlinked_in c.as_slice.ensures) in
+    omega (arith, few, most, count, same)
 
 pub returns-clause-moments : goal.returns-clause-moments
 returns-clause-moments g c image told calm counts =

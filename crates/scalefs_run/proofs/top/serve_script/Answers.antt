@@ -12,6 +12,7 @@ use Rattle.std.specs.List.{All}
 use Rattle.scalefs_run.specs.WithoutCore.{worker_without_core, HaveCores}
 use Rattle.scalefs_run.proofs.Within.{all_within}
 use Rattle.scalefs_run.specs.Outcome.{HasText, workers_status}
+use Rattle.script.specs.Texts.{history_text}
 use Rattle.scalefs_run.specs.Crash.{AcksRise, Survives}
 use Rattle.scalefs_run.specs.Served.{Served}
 use Rattle.scalefs_run.proofs.Serving.{served_none, served_run, write_status, write_history, workers_read, workers_command, none_so_far}
@@ -70,7 +71,7 @@ returns-clause-served g c =
           let last = w.write_history-status.new.sink in
           let served = served_run share phases (HasRisen (faults was) (faults last)) (written was) (written last) c.in-Ok.engine engine old mid new given begins still
           (write_status _ _ given ended.status) (write_history _ phases history given ended.status (subst (λ (p : List (List Line)). Follows p history) c.phases-2.ensures w.in-Ok-served.ensures.ok))
-          (subst (λ (h : List Entry). HasText h (written was) (written last) given) c.from_entries-history.ensures ended.text) in
+          (subst (λ (h : List Entry). HasText (history_text h) (written was) (written last) given) c.from_entries-history.ensures ended.text) in
           subst (λ (s : Status). Served Done share phases ⊥ (HasRisen (faults was) (faults is)) (written was) (written is) old new s history) (sym w.status-is)
           (subst (λ k. Served Done share phases ⊥ (HasRisen (faults was) (faults k)) (written was) (written k) old new given history) (sym w.sink-is) served)
     ]))

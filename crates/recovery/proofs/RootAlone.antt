@@ -1,0 +1,165 @@
+-- An image that is just made shows the root alone.
+use Rattle.std.proofs.Common.{◌≡◌, ◌⊎◌, ℕ, ◌+◌, ◌*◌, ◌/◌, ◌<◌, ◌≤◌, true, false, cond, eqb, List, [], length, take, filter_map, flat_map, count_by, Option, None, Some, refl, sym, ap, subst, ◌∙◌, arith, inl, inr}
+use Rattle.std.specs.Option.{option_map, option_map_or}
+use Rattle.std.specs.Ordering.{nat_cmp}
+use Rattle.std.specs.FinMap.{get, empty, entries, len, get-empty, len-empty, len-entries}
+use Rattle.std.proofs.lemmas.Bool.{cases_eq, eq-eqb, eqb-true, ne_eqb}
+use Rattle.std.proofs.lemmas.List.{nil_from_length}
+use Rattle.sfs_base.proofs.BasicOptions.{none_some, some_same}
+use Rattle.sfs_base.specs.Name.{bucket}
+use Rattle.sfs_base.specs.declared.numbers.Kind.TheVariants.{File, Directory}
+use Rattle.sfs_image.specs.Bytes.{zeros}
+use Rattle.sfs_image.specs.ImageOf.{IsJustMade, empty_directory}
+use Rattle.sfs_image.specs.Inode.{Inode, inode_of}
+use Rattle.sfs_image.specs.Laws.{ShowsRootAlone}
+use Rattle.sfs_image.specs.Part.{Part, part_of, pointer_at, seen_of, tabulate, file_byte, shown_bytes, shown_slots}
+use Rattle.sfs_image.specs.Settled.{image_block, parts_of, table_record, journal_fault_of}
+use Rattle.sfs_image.specs.Slot.{Row, kind_byte}
+use Rattle.sfs_image.specs.SlotBlock.{slots_of}
+use Rattle.sfs_image.specs.Super.{Layout}
+use Rattle.sfs_image.proofs.BytesLaws.{length-zeros, zeros-byte}
+use Rattle.sfs_image.proofs.JustMadeLaws.{just_made_shows}
+use Rattle.sfs_image.proofs.PartLaws.{free_has_none, holes_have_none}
+use Rattle.sfs_image.proofs.AcceptedLaws.{raw_of}
+use Rattle.sfs_tree.specs.Build.{root_alone}
+use Rattle.sfs_tree.specs.Order.{Key, key_cmp}
+use Rattle.sfs_tree.specs.Tree.{BUCKET_ROWS, Node, TreeState, bucket_rows, count_of, holds_directory, name_row, kind_of, bytes_of, links_of, is_directory, is_directory_kind}
+use Rattle.sfs_tree.proofs.Names.{entries-names_where}
+use Rattle.sfs_tree.proofs.KeepsNodes.{node_cases}
+use Rattle.sfs_tree.proofs.SoundTrees.{root_alone_is_sound}
+use Rattle.image_tree.specs.Image.{HasGoodBytes, HaveGoodBytes, inodes_shown, IsReadAsTree}
+use Rattle.image_tree.specs.Renamed.{Numbering, IsMet}
+use Rattle.image_tree.specs.Renamed.IsMet.{root as met_root}
+use Rattle.image_tree.specs.Slots.{BLOCK_SLOTS, looked_up, name_count}
+use Rattle.image_tree.specs.Stands.{BLOCK_BYTES, row_on, ShowsNode, StandsForSoundTree}
+use Rattle.image_tree.proofs.WholeImages.{standing_images_are_read}
+use Rattle.recovery.specs.Mkfs.{JustMadeHasRootAlone}
+use Rattle.recovery.proofs.FreePart.{zeros_are_sound}
+
+-- the root has its own number, and no other node has one
+abbrev root_numbered : Numbering
+root_numbered node = cond (eqb node 0) (Some 0) None
+
+only_root : (node i : ℕ) → root_numbered node ≡ Some i → (node ≡ 0) × (i ≡ 0)
+only_root node i has = elim (cases_eq node 0) [
+  | inl here ↦ (here, sym (some_same (sym (ap (λ b. cond b (Some 0) None) (eq-eqb node 0 here)) ∙ has)))
+  | inr other ↦ absurd (none_some (sym (ap (λ b. cond b (Some 0) None) (ne_eqb node 0 other)) ∙ has))
+]
+
+module _ (layout : Layout) (image : List ℕ) (is : IsJustMade layout image) (share : ℕ) where
+  abbrev shows : ShowsRootAlone layout image
+  shows = just_made_shows layout image is
+
+  abbrev tree : TreeState
+  tree = root_alone layout.inodes share layout.cores
+
+  abbrev part : ℕ → Part
+  part i = parts_of layout image i
+
+  -- the root's node
+  abbrev root_node : Node
+  root_node = record { kind = Directory; bytes = [] }
+
+  node_at : (node : ℕ) → ((node ≡ 0) × (get tree.nodes node ≡ Some root_node)) ⊎ (get tree.nodes node ≡ None)
+  node_at node = elim (node_cases empty 0 root_node node) [
+    | inl here ↦ inl here
+    | inr other ↦ inr (other.1 ∙ get-empty nat_cmp node)
+  ]
+
+  root_there : get tree.nodes 0 ≡ Some root_node
+  root_there = elim (node_cases empty 0 root_node 0) [
+    | inl here ↦ here.1
+    | inr other ↦ absurd (other.0 refl)
+  ]
+
+  no_bytes : (node : ℕ) → bytes_of tree node ≡ []
+  no_bytes node = elim (node_at node) [
+    | inl here ↦ ap (λ (o : Option Node). option_map_or (λ n. n.bytes) o []) here.1
+    | inr none ↦ ap (λ (o : Option Node). option_map_or (λ n. n.bytes) o []) none
+  ]
+
+  no_slots : shown_slots (part 0) ≡ []
+  no_slots = ap (λ (inode : Inode). cond (eqb inode.kind 2) (flat_map slots_of (take (inode.size / 4096) (part 0).blocks)) []) shows.root
+
+  bytes_none : shown_bytes (part 0) ≡ []
+  bytes_none = ap (λ (inode : Inode). cond (eqb inode.kind 1) (tabulate inode.size (file_byte (part 0))) []) shows.root
+
+  root_kind : kind_of tree 0 ≡ Directory
+  root_kind = ap (λ (o : Option Node). option_map_or (λ n. n.kind) o File) root_there
+
+  no_rows : entries tree.rows ≡ []
+  no_rows = nil_from_length (entries tree.rows) (sym (len-entries tree.rows) ∙ len-empty key_cmp ℕ)
+
+  is_root_directory : is_directory tree 0 ≡ true
+  is_root_directory = ap (λ (o : Option Node). option_map_or (λ n. is_directory_kind n.kind) o false) root_there
+
+  root_links : 2 ≡ links_of tree 0
+  root_links =
+      sym (ap (λ b. cond b (2 + count_by (holds_directory tree 0) (entries tree.rows)) (count_of tree.rows 0)) is_root_directory
+      ∙ ap (λ (rows : List (Key × ℕ)). 2 + count_by (holds_directory tree 0) rows) no_rows)
+
+  few_rows : (directory number : ℕ) → len (bucket_rows directory number tree.rows) ≤ BUCKET_ROWS
+  few_rows directory number =
+      let none : len (bucket_rows directory number tree.rows) ≡ 0 = len-entries (bucket_rows directory number tree.rows) ∙ ap length (entries-names_where directory (λ name. eqb (bucket name) number) tree.rows
+      ∙ ap (filter_map (name_row directory (λ name. eqb (bucket name) number))) no_rows) in
+      omega (arith, none)
+
+  root_shown : ShowsNode root_numbered tree 0 (seen_of (part 0))
+  root_shown = record {
+    kind = ap (λ (inode : Inode). inode.kind) shows.root ∙ sym (ap kind_byte root_kind);
+    links = ap (λ (inode : Inode). inode.links) shows.root ∙ root_links;
+    size = ap (λ (inode : Inode). inode.size) shows.root
+        ∙ sym (ap (λ (inode : Inode). cond (eqb inode.kind 2) (BLOCK_BYTES * (length (shown_slots (part 0)) / BLOCK_SLOTS)) (length (shown_bytes (part 0)))) shows.root ∙ ap (λ (l : List (Option Row)). BLOCK_BYTES * (length l / BLOCK_SLOTS)) no_slots);
+    bytes = bytes_none ∙ sym (no_bytes 0);
+    slots = λ name. ap (looked_up name) no_slots ∙ sym (ap (option_map (row_on root_numbered tree name)) (get-empty key_cmp (0, name)));
+    once = λ name. subst (λ (l : List (Option Row)). name_count name l ≤ 1) (sym no_slots) (omega arith);
+  }
+
+  has_none : (i : ℕ) → i < layout.inodes → (place : ℕ) → pointer_at (part i) place ≡ 0
+  has_none i low place = elim (cases_eq i 0) [
+    | inl here ↦ ap (λ (j : ℕ). pointer_at (part j) place) here ∙ ap (λ (raw : List ℕ). pointer_at (part_of (image_block image) raw) place) (shows.settles 0)
+        ∙ holes_have_none (image_block image) (table_record layout image 0) (ap (λ (inode : Inode). inode.direct) root_inode) (ap (λ (inode : Inode). inode.indirect) root_inode) place
+    | inr other ↦ ap (λ (raw : List ℕ). pointer_at (part_of (image_block image) raw) place) (shows.settles i ∙ is.free i low other)
+        ∙ free_has_none (image_block image) (zeros 512) (length-zeros 512) zeros_are_sound (zeros-byte 512 0) place
+  ]
+    where
+      root_inode : inode_of (table_record layout image 0) ≡ empty_directory
+      root_inode = ap inode_of (sym (ap (λ (raw : List ℕ). (part_of (image_block image) raw).raw) (shows.settles 0) ∙ raw_of (image_block image) (table_record layout image 0))) ∙ shows.root
+
+  stands : StandsForSoundTree root_numbered tree (inodes_shown layout part)
+  stands = record {
+    sound = (root_alone_is_sound layout.inodes share layout.cores (let l = is.fits.ranges.inodes_low in omega (arith, l))).sound;
+    storable = record {
+      placed = λ node i has directory. subst (IsMet tree) (sym (only_root node i has).0) met_root;
+      limits = record { buckets = few_rows; plain = λ node directory. no_bytes node };
+    };
+    stands = record {
+      root = refl;
+      once = λ node twin i has other. (only_root node i has).0 ∙ sym (only_root twin i other).0;
+      within = λ node i has. subst (λ j. j < layout.inodes) (sym (only_root node i has).1) (let l = is.fits.ranges.inodes_low in omega (arith, l));
+      named = λ directory name child row. absurd (none_some (sym (get-empty key_cmp (directory, name)) ∙ row));
+      each = λ node i has. subst (λ j. ShowsNode root_numbered tree j (seen_of (part i))) (sym (only_root node i has).0)
+          (subst (λ j. ShowsNode root_numbered tree 0 (seen_of (part j))) (sym (only_root node i has).1) root_shown);
+      rest = λ i low. elim (cases_eq i 0) [
+        | inl here ↦ inl (0, sym (ap (λ (j : ℕ). Some j) here))
+        | inr other ↦ inr (record { kind = eqb-true _ 0 (shows.free i low other); blocks = λ place within. has_none i low place })
+      ];
+      apart = λ i place j other low inside within there held same. absurd (held (has_none i low place));
+    };
+  }
+
+  good_bytes : HasGoodBytes image
+  good_bytes = record {
+    super = shows.accepted.super;
+    journals = subst (λ (l : Layout). journal_fault_of l image ≡ None) (sym shows.accepted.divided) shows.accepted.journals;
+    parts = subst (λ (l : Layout). HaveGoodBytes l (parts_of l image)) (sym shows.accepted.divided) (λ rule i least most other apart low. shows.rules rule i low);
+  }
+
+  pub is_read : IsReadAsTree image share tree
+  is_read = standing_images_are_read image share root_numbered tree good_bytes (subst (λ (l : Layout). StandsForSoundTree root_numbered tree (inodes_shown l (parts_of l image))) (sym shows.accepted.divided) stands)
+
+pub just_made_has_root_alone : JustMadeHasRootAlone
+just_made_has_root_alone layout image is = record {
+  layout_is = (just_made_shows layout image is).accepted.divided;
+  read = is_read layout image is;
+}
