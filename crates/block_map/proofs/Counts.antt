@@ -1,20 +1,22 @@
 -- How many fresh blocks stand before a place, counted along the list of rewritten blocks.
 use Rattle.std.proofs.Common.{◌≡◌, ℕ, zero, suc, ◌+◌, ◌-◌, ◌<◌, ◌≤◌, Bool, true, false, cond, not, ◌&&◌, List, [], ◌∷◌, length, get_or, take, Option, Some, is_some, inl, inr, refl, sym, ap, ◌∙◌, arith, count_by, nat_lt, nat_eq}
-use Rattle.std.specs.List.{range_with_len}
 use Rattle.std.specs.Option.{option_map_or}
 use Rattle.std.proofs.lemmas.Bool.{cond-true, cond-false, cases_Bool, lt-ltb, le-ltb, eqb-true}
 use Rattle.std.proofs.lemmas.Bool.Decides.{nat_tests}
-use Rattle.sfs_base.proofs.BasicNumbers.{not_same, from_plus_zero, zero_plus, plus_zero}
+use Rattle.sfs_base.proofs.BasicNumbers.{not_same, zero_plus, plus_zero}
 use Rattle.sfs_tree.proofs.Joined.{count-cons}
 use Rattle.sfs_image.specs.Inode.{Inode, Table}
+use Rattle.sfs_image.specs.Part.{tabulate}
 use Rattle.sfs_image.specs.Seen.{FILE_BLOCKS}
+use Rattle.sfs_image.proofs.Basics.{get_or-tabulate}
 use Rattle.image_tree.specs.Need.{Rewrite, takes_table, takes_place, rank, rewrites_table, table_has_pointer}
 use Rattle.block_map.specs.declared.changed.ChangedBlock.{ChangedBlock}
 use Rattle.block_map.specs.Changed.{change_of, AscendByBlock}
 use Rattle.block_map.specs.Remap.{rewrite_of, takes_fresh, fresh_by_fate, table_fate}
+use Rattle.block_map.specs.declared.rewrite.TableFate.{TableFate}
 use Rattle.block_map.specs.declared.rewrite.TableFate.TheVariants.{Stays, Goes, IsWritten}
 use Rattle.block_map.proofs.Changes.{ascends_behind, first_is_least}
-use Rattle.image_tree.proofs.Ranks.{rank_more, rank_up}
+use Rattle.image_tree.proofs.Ranks.{rank_more}
 use Rattle.sfs_base.proofs.BasicTruth.{and_false, and_true}
 
 module _ (takes : ℕ → Bool) where
@@ -72,27 +74,24 @@ none_below_zero : (changed : List ChangedBlock) → count_by (takes_below 0) cha
 none_below_zero changed = count_none (takes_below 0) changed (λ k d within. ap (λ b. not (get_or changed k d).is_zero && b) (le-ltb (get_or changed k d).block 0 (omega arith)) ∙ and_false (not (get_or changed k d).is_zero))
 
 module _ (inode : Inode) (tables : List Table) (changed : List ChangedBlock) (up : AscendByBlock changed) where
-  abbrev takes : ℕ → Bool
-  takes = takes_place (rewrite_of inode tables changed)
-
-  takes_block : (p : ℕ) → p < FILE_BLOCKS → takes p ≡ taken_by (change_of changed p)
+  takes_block : (p : ℕ) → p < FILE_BLOCKS → takes_place (rewrite_of inode tables changed) p ≡ taken_by (change_of changed p)
   takes_block p below = cond-true (nat_lt p FILE_BLOCKS) _ _ (lt-ltb p FILE_BLOCKS below)
 
   -- the rank of a block counts the rewritten ones below it that take a fresh block
-  pub rank_counts : (p : ℕ) → p ≤ FILE_BLOCKS → rank takes p ≡ count_by (takes_below p) changed
-  rank_counts zero le = rank_first takes ∙ sym (none_below_zero changed)
+  pub rank_counts : (p : ℕ) → p ≤ FILE_BLOCKS → rank (takes_place (rewrite_of inode tables changed)) p ≡ count_by (takes_below p) changed
+  rank_counts zero le = rank_first (takes_place (rewrite_of inode tables changed)) ∙ sym (none_below_zero changed)
   rank_counts (suc p) le =
-      let own : cond {A = ℕ} (takes p) 1 0 ≡ cond {A = ℕ} (taken_by (change_of changed p)) 1 0 = ap (λ b. cond {A = ℕ} b 1 0) (takes_block p (omega arith)) in
-      omega (arith, rank_more takes p, rank_counts p (omega arith), count_below_more changed p, count_at changed up p)
+      let own : cond {A = ℕ} (takes_place (rewrite_of inode tables changed) p) 1 0 ≡ cond {A = ℕ} (taken_by (change_of changed p)) 1 0 = ap (λ b. cond {A = ℕ} b 1 0) (takes_block p (omega arith)) in
+      omega (arith, rank_more (takes_place (rewrite_of inode tables changed)) p, rank_counts p (omega arith), count_below_more changed p, count_at changed up p)
 
   -- all of them take as many as the ranks of the indirect blocks begin with
-  pub rank_of_tables : rank takes FILE_BLOCKS ≡ count_by takes_fresh changed
+  pub rank_of_tables : rank (takes_place (rewrite_of inode tables changed)) FILE_BLOCKS ≡ count_by takes_fresh changed
   rank_of_tables = rank_counts FILE_BLOCKS (omega arith)
 
 -- no more are taken than there are blocks
 pub fresh_within : (changed : List ChangedBlock) → AscendByBlock changed → count_by takes_fresh changed ≤ FILE_BLOCKS
 fresh_within changed up =
-    let within = rank_within (takes NO_INODE [] changed up) FILE_BLOCKS in
+    let within = rank_within (takes_place (rewrite_of NO_INODE [] changed)) FILE_BLOCKS in
     let same = rank_of_tables NO_INODE [] changed up in
     omega arith
   where
@@ -143,3 +142,9 @@ rank_next_table rewrite k =
     by_tests true true = refl
     by_tests true false = refl
     by_tests false some = refl
+
+-- the fate of one indirect block more, counted from the fates of all of them
+pub next_fate_counts : (rewrite : Rewrite) (fates : List TableFate) (d : TableFate) (k taken more : ℕ) → fates ≡ tabulate 16 (table_fate rewrite) → k < 16
+    → taken ≡ rank (takes_place rewrite) (FILE_BLOCKS + k) → more ≡ fresh_by_fate (get_or fates k d) → taken + more ≡ rank (takes_place rewrite) (FILE_BLOCKS + (k + 1))
+next_fate_counts rewrite fates d k taken more all within before one =
+    (λ i. before i + (one ∙ ap fresh_by_fate (ap (λ those. get_or those k d) all ∙ get_or-tabulate 16 (table_fate rewrite) k d within)) i) ∙ sym (rank_next_table rewrite k)

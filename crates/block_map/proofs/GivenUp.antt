@@ -59,6 +59,10 @@ in_one f (x ∷ xs) block has = elim (Contains-append_cases (f x) (flat_map f xs
 abbrev pub ONE : ChangedBlock
 ONE = record { block = 0; is_zero = false }
 
+-- the block of an indirect block, where it is given up
+abbrev pub of_table : Rewrite → Inode → ℕ → List ℕ
+of_table rewrite inode k = there (table_left (table_fate rewrite k) (slice_index inode.indirect k))
+
 module _ (inode : Inode) (tables : List Table) (changed : List ChangedBlock) (up : AscendByBlock changed) where
   abbrev pub rewrite : Rewrite
   rewrite = rewrite_of inode tables changed
@@ -66,11 +70,8 @@ module _ (inode : Inode) (tables : List Table) (changed : List ChangedBlock) (up
   abbrev pub of_data : ChangedBlock → List ℕ
   of_data one = there (data_left (pointer_kept inode tables) one)
 
-  abbrev pub of_table : ℕ → List ℕ
-  of_table k = there (table_left (table_fate rewrite k) (slice_index inode.indirect k))
-
   abbrev pub all_left : List ℕ
-  all_left = flat_map of_data changed ++ flat_map of_table (range_with_len 0 16)
+  all_left = flat_map of_data changed ++ flat_map (of_table rewrite inode) (range_with_len 0 16)
 
   -- one more rewritten block gives up what it has
   pub data_more : (i : ℕ) (d : ChangedBlock) (freed new : List ℕ) (left : ℕ) → i < length changed → freed ≡ flat_map of_data (take i changed) → left ≡ data_left (pointer_kept inode tables) (get_or changed i d)
@@ -80,12 +81,12 @@ module _ (inode : Inode) (tables : List Table) (changed : List ChangedBlock) (up
       ∙ sym (flat_map-append of_data (take i changed) (get_or changed i d ∷ [])) ∙ ap (flat_map of_data) (sym (take_more changed i d within))
 
   -- and one more indirect block
-  pub table_more : (k : ℕ) (freed new : List ℕ) (left : ℕ) → freed ≡ flat_map of_data changed ++ flat_map of_table (range_with_len 0 k)
-      → left ≡ table_left (table_fate rewrite k) (slice_index inode.indirect k) → new ≡ freed ++ there left → new ≡ flat_map of_data changed ++ flat_map of_table (range_with_len 0 (k + 1))
+  pub table_more : (k : ℕ) (freed new : List ℕ) (left : ℕ) → freed ≡ flat_map of_data changed ++ flat_map (of_table rewrite inode) (range_with_len 0 k)
+      → left ≡ table_left (table_fate rewrite k) (slice_index inode.indirect k) → new ≡ freed ++ there left → new ≡ flat_map of_data changed ++ flat_map (of_table rewrite inode) (range_with_len 0 (k + 1))
   table_more k freed new left before is after =
-      after ∙ (λ j. before j ++ there (is j)) ∙ append_assoc (flat_map of_data changed) (flat_map of_table (range_with_len 0 k)) (of_table k)
-      ∙ ap (λ rest. flat_map of_data changed ++ rest) (ap (λ rest. flat_map of_table (range_with_len 0 k) ++ rest) (sym (append-nil (of_table k)))
-      ∙ sym (flat_map-append of_table (range_with_len 0 k) (k ∷ [])) ∙ ap (flat_map of_table) (sym (range_more 0 k ∙ ap (λ m. range_with_len 0 k ++ m ∷ []) (zero_plus k))))
+      after ∙ (λ j. before j ++ there (is j)) ∙ append_assoc (flat_map of_data changed) (flat_map (of_table rewrite inode) (range_with_len 0 k)) (of_table rewrite inode k)
+      ∙ ap (λ rest. flat_map of_data changed ++ rest) (ap (λ rest. flat_map (of_table rewrite inode) (range_with_len 0 k) ++ rest) (sym (append-nil (of_table rewrite inode k)))
+      ∙ sym (flat_map-append (of_table rewrite inode) (range_with_len 0 k) (k ∷ [])) ∙ ap (flat_map (of_table rewrite inode)) (sym (range_more 0 k ∙ ap (λ m. range_with_len 0 k ++ m ∷ []) (zero_plus k))))
 
   left_by_tests : (rewritten some : Bool) (block : ℕ) → table_left (cond rewritten (cond some IsWritten Goes) Stays) block ≡ cond rewritten block 0
   left_by_tests true true block = refl
@@ -113,9 +114,9 @@ module _ (inode : Inode) (tables : List Table) (changed : List ChangedBlock) (up
       ]
 
   -- an indirect block that is rewritten gives up its own
-  from_tables : (block : ℕ) → Contains (flat_map of_table (range_with_len 0 16)) block → (place : ℕ) × IsGivenUp rewrite block place
+  from_tables : (block : ℕ) → Contains (flat_map (of_table rewrite inode) (range_with_len 0 16)) block → (place : ℕ) × IsGivenUp rewrite block place
   from_tables block has =
-      let found = in_one of_table (range_with_len 0 16) block has in
+      let found = in_one (of_table rewrite inode) (range_with_len 0 16) block has in
       let k : ℕ = get_or (range_with_len 0 16) found.0 0 in
       let within : k < 16 = omega (arith, get_or-range_with_len 0 16 found.0 0 (omega (arith, found.1, length-range_with_len 0 16)), found.1, length-range_with_len 0 16) in
       let left = in_there (table_left (table_fate rewrite k) (slice_index inode.indirect k)) block (found.2 0) in
@@ -166,13 +167,13 @@ module _ (inode : Inode) (tables : List Table) (changed : List ChangedBlock) (up
           ap (λ b. cond (nat_lt b FILE_BLOCKS) (pointer_kept inode tables b) 0) found.2 ∙ cond-true (nat_lt place FILE_BLOCKS) (pointer_kept inode tables place) 0 (lt-ltb place FILE_BLOCKS below) ∙ is.stands in
           in_all of_data changed found.0 one block found.1 (subst (λ o. Contains (of_data o) block) (sym (found.3 one)) (subst (λ b. Contains (there b) block) (sym left) (is_there block some)))
 
-      at_table : (k : ℕ) → k < 16 → place ≡ FILE_BLOCKS + k → rewrites_table rewrite k ≡ true → Contains (flat_map of_table (range_with_len 0 16)) block
+      at_table : (k : ℕ) → k < 16 → place ≡ FILE_BLOCKS + k → rewrites_table rewrite k ≡ true → Contains (flat_map (of_table rewrite inode) (range_with_len 0 16)) block
       at_table k within here t =
           let left : table_left (table_fate rewrite k) (slice_index inode.indirect k) ≡ block =
           left_by_tests (rewrites_table rewrite k) (table_has_pointer rewrite k) (slice_index inode.indirect k) ∙ cond-true (rewrites_table rewrite k) (slice_index inode.indirect k) 0 t
           ∙ sym (own_place inode tables k) ∙ ap (pointer_kept inode tables) (sym here) ∙ is.stands in
           let listed : get_or (range_with_len 0 16) k 0 ≡ k = get_or-range_with_len 0 16 k 0 within ∙ zero_plus k in
-          in_all of_table (range_with_len 0 16) k 0 block (omega (arith, length-range_with_len 0 16)) (subst (λ j. Contains (of_table j) block) (sym listed) (subst (λ b. Contains (there b) block) (sym left) (is_there block some)))
+          in_all (of_table rewrite inode) (range_with_len 0 16) k 0 block (omega (arith, length-range_with_len 0 16)) (subst (λ j. Contains (of_table rewrite inode j) block) (sym listed) (subst (λ b. Contains (there b) block) (sym left) (is_there block some)))
 
   -- sorted, and each once, they are the freed blocks
   pub are_freed : (left sorted freed : List ℕ) → left ≡ all_left → IsPermutation left sorted → IsSorted nat_cmp sorted → freed ≡ dedup eqb sorted → AreFreed rewrite freed
@@ -185,7 +186,7 @@ module _ (inode : Inode) (tables : List Table) (changed : List ChangedBlock) (up
   }
     where
       from_left : (block : ℕ) → Contains all_left block → (place : ℕ) × IsGivenUp rewrite block place
-      from_left block has = elim (Contains-append_cases (flat_map of_data changed) (flat_map of_table (range_with_len 0 16)) block has) [
+      from_left block has = elim (Contains-append_cases (flat_map of_data changed) (flat_map (of_table rewrite inode) (range_with_len 0 16)) block has) [
         | inl data_ ↦ from_data block data_
         | inr table ↦ from_tables block table
       ]

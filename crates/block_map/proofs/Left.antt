@@ -93,11 +93,11 @@ remapped_pointers_stand inode tables changed fresh place within = elim (cases_lt
             sym (cond-true (nat_lt place FILE_BLOCKS) _ _ (lt-ltb place FILE_BLOCKS below) ∙ cond-false (nat_lt place 108) _ _ (le-ltb place 108 indirect))
             ∙ sym (unchanged rewrite fresh place below (all_fail_in_table (changes_pointer rewrite) (table_of place) place (or_first _ _ r) low high))
 
-module _ (rewrite : Rewrite) (fresh : List ℕ) where
-  -- whether a place is rewritten
-  abbrev rewrites : ℕ → Bool
-  rewrites place = cond (nat_lt place FILE_BLOCKS) (rewrite.is_rewritten place) (rewrites_table rewrite (place - FILE_BLOCKS))
+-- whether a place is rewritten
+abbrev rewrites : Rewrite → ℕ → Bool
+rewrites rewrite place = cond (nat_lt place FILE_BLOCKS) (rewrite.is_rewritten place) (rewrites_table rewrite (place - FILE_BLOCKS))
 
+module _ (rewrite : Rewrite) (fresh : List ℕ) where
   -- what a rewritten place has: nothing, or a fresh block that it takes
   abbrev HasFresh : ℕ → Type 0
   HasFresh place = (pointer_remapped rewrite fresh place ≡ 0) ⊎ ((takes_place rewrite place ≡ true) × (pointer_remapped rewrite fresh place ≡ fresh_for rewrite fresh place))
@@ -114,7 +114,7 @@ module _ (rewrite : Rewrite) (fresh : List ℕ) where
   after_table place after block free true false takes is t = inr (refl, inl is)
   after_table place after block free false some takes is t = inl (refl, is)
 
-  afterwards : (place : ℕ) → ((rewrites place ≡ false) × (pointer_remapped rewrite fresh place ≡ rewrite.pointers place)) ⊎ ((rewrites place ≡ true) × HasFresh place)
+  afterwards : (place : ℕ) → ((rewrites rewrite place ≡ false) × (pointer_remapped rewrite fresh place ≡ rewrite.pointers place)) ⊎ ((rewrites rewrite place ≡ true) × HasFresh place)
   afterwards place = elim (cases_lt place FILE_BLOCKS) [
     | inl below ↦
         let t = lt-ltb place FILE_BLOCKS below in
@@ -136,11 +136,11 @@ module _ (rewrite : Rewrite) (fresh : List ℕ) where
     in_fresh place within t = let below = (ranks_serve (takes_place rewrite)).below place PLACES t within in omega (arith, serve.enough)
 
     -- a block that stood at a rewritten place is held no more
-    no_more : (block place other : ℕ) → block ≢ 0 → place < PLACES → other < PLACES → rewrite.pointers place ≡ block → rewrites place ≡ true → pointer_remapped rewrite fresh other ≡ block → ⊥
+    no_more : (block place other : ℕ) → block ≢ 0 → place < PLACES → other < PLACES → rewrite.pointers place ≡ block → rewrites rewrite place ≡ true → pointer_remapped rewrite fresh other ≡ block → ⊥
     no_more block place other some within inside stands r held = elim (afterwards other) [
       | inl same ↦
           let one = serve.apart place other within inside (λ e. some (sym stands ∙ e)) (stands ∙ sym held ∙ same.1) in
-          not_both_of (rewrites other) (sym (ap rewrites one) ∙ r) same.0
+          not_both_of (rewrites rewrite other) (sym (ap (rewrites rewrite) one) ∙ r) same.0
       | inr written ↦ elim (written.1) [
         | inl hole ↦ some (sym held ∙ hole)
         | inr taken ↦ serve.unheld (rank (takes_place rewrite) other) place (in_fresh other inside taken.0) within (sym taken.1 ∙ held ∙ sym stands)
@@ -148,7 +148,7 @@ module _ (rewrite : Rewrite) (fresh : List ℕ) where
     ]
 
     -- and one that is held no more stood at a rewritten place
-    was_rewritten : (block place : ℕ) → block ≢ 0 → place < PLACES → rewrite.pointers place ≡ block → (IsHeld (pointer_remapped rewrite fresh) block → ⊥) → rewrites place ≡ true
+    was_rewritten : (block place : ℕ) → block ≢ 0 → place < PLACES → rewrite.pointers place ≡ block → (IsHeld (pointer_remapped rewrite fresh) block → ⊥) → rewrites rewrite place ≡ true
     was_rewritten block place some within stands lost = elim (afterwards place) [
       | inl same ↦ absurd (lost (record { some = some; place = place; within = within; stands = same.1 ∙ stands }))
       | inr written ↦ written.0
@@ -171,8 +171,8 @@ freed_blocks_are_left rewrite fresh freed serve are block = (
   where
     held_no_more : ((place : ℕ) × IsGivenUp rewrite block place) → IsHeld rewrite.pointers block × (IsHeld (pointer_remapped rewrite fresh) block → ⊥)
     held_no_more (place, is) =
-        let rewritten = and_first (rewrites rewrite fresh place) (not (nat_eq (rewrite.pointers place) 0)) is.given_up in
-        let some : block ≢ 0 = λ e. eqb-false (rewrite.pointers place) 0 (not_true _ (and_second (rewrites rewrite fresh place) (not (nat_eq (rewrite.pointers place) 0)) is.given_up)) (is.stands ∙ e) in (
+        let rewritten = and_first (rewrites rewrite place) (not (nat_eq (rewrite.pointers place) 0)) is.given_up in
+        let some : block ≢ 0 = λ e. eqb-false (rewrite.pointers place) 0 (not_true _ (and_second (rewrites rewrite place) (not (nat_eq (rewrite.pointers place) 0)) is.given_up)) (is.stands ∙ e) in (
           record { some = some; place = place; within = is.within; stands = is.stands },
           λ held. no_more rewrite fresh serve block place held.place some is.within held.within is.stands rewritten held.stands,
         )

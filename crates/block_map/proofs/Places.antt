@@ -5,7 +5,7 @@ use Rattle.std.specs.List.{range_with_len, cons_option, All}
 use Rattle.std.proofs.lemmas.List.{append-nil}
 use Rattle.std.proofs.lemmas.List.Elements.{filter_map-append, All-push}
 use Rattle.sfs_base.proofs.BasicNumbers.{from_plus_zero, zero_plus, suc_moves}
-use Rattle.std.specs.Option.{option_map_or}
+use Rattle.std.specs.Option.{option_map_or, option_to_list}
 use Rattle.std.proofs.lemmas.Bool.{cond-true, cond-false, lt-ltb, le-ltb, eqb-true}
 use Rattle.sfs_base.proofs.BasicOptions.{none_some, some_same}
 use Rattle.sfs_image.specs.Inode.{Inode, Table}
@@ -75,6 +75,11 @@ range_more a n = rw add-one (go a n)
     go : (a n : ℕ) → range_with_len a (suc n) ≡ range_with_len a n ++ (a + n) ∷ []
     go a zero = ap (λ m. m ∷ []) (from_plus_zero a)
     go a (suc n) = ap (λ rest. a ∷ rest) (go (a + 1) n) ∙ ap (λ m. a ∷ (range_with_len (a + 1) n ++ m ∷ [])) (suc_moves a n)
+
+-- what may be there, before nothing
+pub as_list : {X : Type 0} (o : Option X) → cons_option o [] ≡ option_to_list o
+as_list None = refl
+as_list (Some x) = refl
 
 -- what a function gives of one number more comes last
 pub one_more_given : {A : Type 0} (f : ℕ → Option A) (k : ℕ) (x : A) → f k ≡ Some x → filter_map f (range_with_len 0 (k + 1)) ≡ filter_map f (range_with_len 0 k) ++ x ∷ []

@@ -1,18 +1,18 @@
 -- A change with a grant is a commit.
-use Rattle.std.proofs.Common.{◌≡◌, ℕ, zero, suc, ◌+◌, ◌<◌, ◌≤◌, Bool, true, false, cond, ◌&&◌, List, [], ◌∷◌, length, map, drop, Option, Some, None, option_map, inl, inr, refl, sym, ap, subst, ◌∙◌, arith, nat_lt, nat_eq}
+use Rattle.std.proofs.Common.{◌≡◌, ℕ, zero, suc, ◌<◌, true, false, ◌&&◌, List, [], ◌∷◌, length, map, drop, Option, Some, None, option_map, inl, inr, refl, sym, ap, subst, ◌∙◌, arith, nat_lt, nat_eq}
 use Rattle.std.specs.Prelude.{slice_get, ◌⊎◌}
 use Rattle.std.specs.Option.{option_map_or, unwrap_or}
 use Rattle.std.proofs.lemmas.Bool.{cond-true, cond-false, cases_Bool, lt-ltb}
 use Rattle.std.proofs.lemmas.List.{length-map}
-use Rattle.std.proofs.lemmas.Option.{slice_get-map, slice_get_within}
+use Rattle.std.proofs.lemmas.Option.{slice_get-map, slice_get_cases, slice_get_within}
 use borrow.Author.Tests.{eqb-true, ltb-true}
 use Rattle.sfs_base.proofs.BasicNumbers.{same_number}
 use Rattle.sfs_base.proofs.BasicOptions.{none_some, some_not_none, some_same}
 use Rattle.sfs_base.proofs.BasicTruth.{and_first, and_second, false_not_true}
 use Rattle.sfs_tree.specs.Tree.{TreeState, names_of}
-use Rattle.sfs_image.specs.Seen.{Seen, SeenInodes, PLACES}
+use Rattle.sfs_image.specs.Seen.{SeenInodes, PLACES}
 use Rattle.absorb.specs.Net.{IsNet}
-use Rattle.image_tree.specs.Commit.{Commit, TakesBlocks, IsCommit, blank, seen_before}
+use Rattle.image_tree.specs.Commit.{Commit, TakesBlocks, blank, seen_before}
 use Rattle.image_tree.specs.Made.{IsMadeFrom}
 use Rattle.image_tree.specs.Need.{Rewrite, takes_place, takes_in_row, place_in_row, granted_block, pointer_after, GrantServes, IsListed, TakesByRank}
 use Rattle.image_tree.proofs.Made.{made_images_are_commits}
@@ -23,7 +23,7 @@ use Rattle.disk_change.specs.Built.{Built, rewrite_in}
 use Rattle.disk_change.specs.Planned.{Planned, blocks_taken}
 use Rattle.disk_change.specs.Seated.{CommitChanges, Seated}
 use Rattle.commit_laws.specs.Counting.{LeadTo}
-use Rattle.commit_laws.specs.CommitMade.{place_among, StandOnce, inodes_built, seated_nodes, rewrites_seated, takes_of_change, fresh_of_change, rewrite_still, rewrites_of_change, IsCommitOf, ChangesMakeCommits}
+use Rattle.commit_laws.specs.CommitMade.{place_among, StandOnce, inodes_built, seated_nodes, rewrites_seated, takes_of_change, rewrite_still, rewrites_of_change, IsCommitOf, ChangesMakeCommits}
 
 -- what stands at the place of a number is the number
 found_at : (numbers : List ℕ) (i k : ℕ) → place_among numbers i ≡ Some k → slice_get numbers k ≡ Some i
@@ -65,11 +65,6 @@ map_there f [] m y e = absurd (none_some e)
 map_there f (x ∷ xs) zero y e = (x, refl, some_same e)
 map_there f (x ∷ xs) (suc m) y e = map_there f xs m y e
 
-some_there : {X : Type 0} (xs : List X) (m : ℕ) → m < length xs → (x : X) × (slice_get xs m ≡ Some x)
-some_there [] m within = absurd (omega arith)
-some_there (x ∷ xs) zero within = (x, refl)
-some_there (x ∷ xs) (suc m) within = some_there xs m (omega arith)
-
 length_built : (changes : CommitChanges) (numbers : ℕ → Option ℕ) (seats : List Seated) (fresh : List ℕ) → length (nodes_built changes numbers seats fresh) ≡ length seats
 length_built changes numbers [] fresh = refl
 length_built changes numbers (seat ∷ seats) fresh = ap suc (length_built changes numbers seats (drop (blocks_taken seat) fresh))
@@ -86,8 +81,10 @@ module _ (commit : Commit) (change : Planned) (grant : GrantedNumbers) (old new 
   listed_at i m there =
       let long = length-map (nodes_with_grant change grant) (λ (one : Built). one.number) ∙ length_built change.changes (numbers_with change grant.inodes) change.seats grant.blocks in
       let within = slice_get_within inodes m i there in
-      let found = some_there rewrites m (omega (arith, within, long, length-map change.seats rewrite_in)) in
-      (found.0, record { inode = there; rewritten = found.1 })
+      elim (slice_get_cases rewrites m).1 [
+        | inl found ↦ (found.0, record { inode = there; rewritten = found.2 })
+        | inr past ↦ absurd (omega (arith, past.0, within, long, length-map change.seats rewrite_in))
+      ]
 
   takes_at : (i m place : ℕ) (rewrite : Rewrite) → IsListed inodes rewrites i m rewrite → place < PLACES → commit.takes i place ≡ takes_place rewrite place
   takes_at i m place rewrite listed within =

@@ -69,11 +69,8 @@ drop_none (suc n) = refl
 
 -- one dropped first
 left_next : (rows : List Row) (n : ℕ) → drop (1 + n) rows ≡ drop n (drop 1 rows)
-left_next rows n = ap (λ m. drop m rows) (one_suc n) ∙ by_list rows
+left_next rows n = let next : 1 + n ≡ suc n = omega arith in ap (λ m. drop m rows) next ∙ by_list rows
   where
-    one_suc : (n : ℕ) → 1 + n ≡ suc n
-    one_suc n = omega arith
-
     by_list : (rows : List Row) → drop (suc n) rows ≡ drop n (drop 1 rows)
     by_list [] = sym (drop_none n)
     by_list (row ∷ rows) = refl

@@ -1,7 +1,7 @@
 -- The blocks of a directory after a net, block by block.
-use Rattle.std.proofs.Common.{◌≡◌, ℕ, zero, suc, ◌+◌, ◌<◌, true, List, [], ◌∷◌, ◌++◌, length, get_or, take, drop, map, replicate, filter_map, reverse, Option, Some, None, refl, sym, ap, ◌∙◌, arith}
+use Rattle.std.proofs.Common.{◌≡◌, ℕ, zero, suc, ◌+◌, ◌<◌, true, List, [], ◌∷◌, ◌++◌, length, get_or, take, drop, map, replicate, filter_map, reverse, Option, refl, sym, ap, ◌∙◌, arith}
 use Rattle.std.specs.Prelude.{option_to_list}
-use Rattle.std.specs.List.{range_with_len, cons_option}
+use Rattle.std.specs.List.{range_with_len}
 use Rattle.std.proofs.lemmas.List.{take_more, reverse-append, length-append, length-replicate}
 use Rattle.std.proofs.lemmas.List.FromFn.{length-map-range_with_len}
 use Rattle.std.proofs.lemmas.List.Elements.{filter_map-append}
@@ -9,16 +9,12 @@ use Rattle.sfs_image.specs.Slot.{Row}
 use Rattle.absorb.specs.declared.nets.NetRow.{NetRow}
 use Rattle.disk_change.specs.Directory.{block_moved, fill_front, rows_left, block_is_touched, old_blocks_after, rows_behind, blocks_touched, block_added, empty_block, blocks_for, rows_new, slot_blocks_after, directory_touched}
 use Rattle.sfs_base.proofs.BasicNumbers.{from_zero_plus, suc_joins}
+use Rattle.block_map.proofs.Places.{as_list}
 use Rattle.disk_change.proofs.Blocks.{drop_none}
-
--- an item that may be there, alone
-pub alone : {Y : Type 0} (o : Option Y) → cons_option o [] ≡ option_to_list o
-alone None = refl
-alone (Some y) = refl
 
 -- what a function gives of one item more comes last
 pub filter_map_more : {X Y : Type 0} (f : X → Option Y) (xs : List X) (i : ℕ) (d : X) → i < length xs → filter_map f (take (i + 1) xs) ≡ filter_map f (take i xs) ++ option_to_list (f (get_or xs i d))
-filter_map_more f xs i d within = ap (filter_map f) (take_more xs i d within) ∙ filter_map-append f (take i xs) (get_or xs i d ∷ []) ∙ ap (λ rest. filter_map f (take i xs) ++ rest) (alone (f (get_or xs i d)))
+filter_map_more f xs i d within = ap (filter_map f) (take_more xs i d within) ∙ filter_map-append f (take i xs) (get_or xs i d ∷ []) ∙ ap (λ rest. filter_map f (take i xs) ++ rest) (as_list (f (get_or xs i d)))
 
 module _ (directories : List ℕ) (net : List NetRow) where
   -- one block more takes what the others leave

@@ -9,6 +9,7 @@ use Rattle.std.proofs.lemmas.Cmp.{nat_list_cmp_total}
 use Rattle.sfs_base.proofs.BasicTruth.{not_both_of}
 use Rattle.sfs_base.proofs.BasicLists.{bytes_same, same_bytes}
 use Rattle.sfs_tree.specs.Order.{name_cmp}
+use Rattle.sfs_tree.proofs.RowsByName.{less_true}
 use Rattle.absorb.specs.declared.nets.NetRow.{NetRow}
 use Rattle.image_tree.specs.Commit.{row_in_net}
 use Rattle.disk_change.specs.Lists.{NamesAscend}
@@ -24,11 +25,6 @@ not_less_itself name = by_order (name_cmp name name) (nat_list_cmp_total.antisym
         less_is_not e = cc
     by_order Equal e = refl
     by_order Greater e = refl
-
-is_less : (o : Ordering) → is_lt o ≡ true → o ≡ Less
-is_less Less e = refl
-is_less Equal e = cc
-is_less Greater e = cc
 
 -- of two names one of which is less they are not one
 unlike_if_less : (name other : List ℕ) → is_lt (name_cmp other name) ≡ true → bytes_eq name other ≡ false
@@ -53,7 +49,7 @@ module _ (name : List ℕ) where
   -- names before a name stand before all others
   pub parted : (net : List NetRow) → NamesAscend net → IsPartitionedBy is_before net
   parted net up i j d le within less = elim (cases_lt i j) [
-    | inl lt ↦ ap is_lt (nat_list_cmp_total.trans (get_or net i d).name (get_or net j d).name name (up i j d lt within) (is_less _ less))
+    | inl lt ↦ ap is_lt (nat_list_cmp_total.trans (get_or net i d).name (get_or net j d).name name (up i j d lt within) (less_true _ less))
     | inr ge ↦ let same : i ≡ j = omega arith in ap (λ k. is_before (get_or net k d)) same ∙ less
   ]
 

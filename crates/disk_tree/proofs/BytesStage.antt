@@ -16,26 +16,27 @@ use Rattle.disk_tree.specs.Blocks.{breaks_tail_at, breaks_slots_at, AreSlotLists
 use Rattle.disk_tree.specs.Contents.{blocks_of_size, AreReadContents, HoldContents}
 use Rattle.disk_tree.specs.First.{IsFirst, NonePasses}
 use Rattle.disk_tree.specs.Gathered.{tables_at, KeepPointerRules}
-use Rattle.disk_tree.specs.Inodes.{inode_at, KeepRecordRules}
+use Rattle.disk_tree.specs.Inodes.{AreDecoded, inode_at, KeepRecordRules}
 use Rattle.disk_tree.specs.Judged.{Refused, IsRefusal, IsReadRefusal}
 use Rattle.disk_tree.specs.declared.fault.TreeFault.{TreeFault}
 use Rattle.disk_tree.specs.declared.fault.TreeFault.TheVariants.{DiskFailed, BadImage, NoMemory}
 use Rattle.disk_tree.proofs.BytesJudged.{sixth_rule, seventh_rule}
-use Rattle.disk_tree.proofs.ContentsRead.{content_parts, hold_contents}
+use Rattle.disk_tree.proofs.ContentsRead.{hold_contents, own_part}
 use Rattle.disk_tree.proofs.InodesRead.{length_inodes, unread, unread_have}
+use Rattle.disk_tree.proofs.PartsMade.{parts_made}
 use Rattle.disk_tree.proofs.PartsRead.{own_inode, own_pointer, used_of_pointer, fits_at, parts_of_tables, parts_of_tables_read, parts_of_tables_kept}
 use Rattle.disk_tree.proofs.Refusals.{refused_at, byte_rule}
 
 module _ (told : Option (List ℕ)) (layout : Layout) (records : List (List ℕ)) (count : length records ≡ layout.inodes) (inodes : List Inode) (are : inodes ≡ map inode_of records) (fit : All IsInode inodes)
     (tables : List (Roomy Table)) (first : KeepRecordRules layout records) (keep : KeepPointerRules told layout records tables) where
-  abbrev own : (i : ℕ) → i < layout.inodes → inode_at inodes i ≡ inode_of (slice_index_or records i [])
+  abbrev own : AreDecoded layout records inodes
   own = own_inode told layout records count inodes are fit
 
   -- no inode is larger than a file may be
   pub sizes_fit : (i : ℕ) → i < layout.inodes → (inode_at inodes i).size ≤ 4096 * FILE_BLOCKS
   sizes_fit i within =
-      let fits = (sizes_say (unread told layout records i)).0 (first.keep (unread told layout records) (unread_have told layout records) 3 i (omega arith) (omega arith) within) in
-      let same : inode_of (unread told layout records i).raw ≡ inode_at inodes i = ap inode_of (unread_have told layout records i within) ∙ sym (own i within) in
+      let fits = (sizes_say (unread told records i)).0 (first.keep (unread told records) (unread_have told layout records) 3 i (omega arith) (omega arith) within) in
+      let same : inode_of (unread told records i).raw ≡ inode_at inodes i = ap inode_of (unread_have told layout records i within) ∙ sym (own i within) in
       let size = ap (λ (inode : Inode). inode.size) same in
       let kinds = fits_at told layout records count inodes are fit i within in
       let kind = ap (λ (inode : Inode). inode.kind) same in
@@ -57,13 +58,16 @@ module _ (told : Option (List ℕ)) (layout : Layout) (records : List (List ℕ)
   -- each block lies on the disk
   pub blocks_within : (size i n : ℕ) → i < layout.inodes → n < FILE_BLOCKS → 0 < layout.blocks → layout.blocks ≤ size → block_kept (inode_at inodes i) (tables_at tables i) n < size
   blocks_within size i n within inside some le =
-      let same : pointer_at (parts_of_tables told layout records count inodes are fit tables keep.has i) n ≡ block_kept (inode_at inodes i) (tables_at tables i) n =
-      own_pointer told layout records count inodes are fit tables (parts_of_tables told layout records count inodes are fit tables keep.has) (parts_of_tables_read told layout records count inodes are fit tables keep.has) (parts_of_tables_kept told layout records count inodes are fit tables keep.has) i n within ∙ cond-true (ltb n FILE_BLOCKS) _ _ (lt-ltb n FILE_BLOCKS inside) in
-      subst (λ (p : ℕ). p < size) same (elim (cases_Bool (eqb (pointer_at (parts_of_tables told layout records count inodes are fit tables keep.has i) n) 0)) [
+      let parts = parts_of_tables told layout records tables keep.has in
+      let read = parts_of_tables_read told layout records tables keep.has in
+      let kept = parts_of_tables_kept told layout records tables keep.has in
+      let same : pointer_at (parts i) n ≡ block_kept (inode_at inodes i) (tables_at tables i) n =
+      own_pointer told layout records count inodes are fit tables parts read kept i n within ∙ cond-true (ltb n FILE_BLOCKS) _ _ (lt-ltb n FILE_BLOCKS inside) in
+      subst (λ (p : ℕ). p < size) same (elim (cases_Bool (eqb (pointer_at (parts i) n) 0)) [
         | inl hole ↦ (let none = eqb-true _ _ hole in omega arith)
         | inr there ↦ (let some_there = eqb-false _ _ there in
-            let used = used_of_pointer told layout records count inodes are fit tables (parts_of_tables told layout records count inodes are fit tables keep.has) (parts_of_tables_read told layout records count inodes are fit tables keep.has) (parts_of_tables_kept told layout records count inodes are fit tables keep.has) i n within (omega arith) some_there in
-            let h = (good_from_rule layout (parts_of_tables told layout records count inodes are fit tables keep.has i) n (keep.keep (parts_of_tables told layout records count inodes are fit tables keep.has) (parts_of_tables_read told layout records count inodes are fit tables keep.has) (parts_of_tables_kept told layout records count inodes are fit tables keep.has) 4 i (omega arith) (omega arith) within) used (omega arith) some_there).high in
+            let used = used_of_pointer told layout records count inodes are fit tables parts read kept i n within (omega arith) some_there in
+            let h = (good_from_rule layout (parts i) n (keep.keep parts read kept 4 i (omega arith) (omega arith) within) used (omega arith) some_there).high in
             omega arith)
       ])
 
@@ -72,7 +76,7 @@ module _ (told : Option (List ℕ)) (layout : Layout) (records : List (List ℕ)
     few_blocks i within = (let h = sizes_fit i within in let e = ap (λ (inode : Inode). inode.size) (own i within) in omega arith)
 
     abbrev parts : ℕ → Part
-    parts = content_parts told layout records inodes tables contents own keep.has all few_blocks
+    parts = parts_made layout.inodes (own_part told layout records inodes tables contents own keep.has all few_blocks)
 
     abbrev hold : HoldContents told layout records tables contents parts
     hold = hold_contents told layout records inodes tables contents own keep.has all few_blocks

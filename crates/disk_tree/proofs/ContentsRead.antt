@@ -13,8 +13,8 @@ use Rattle.sfs_image.proofs.Basics.{length-tabulate, get_or-tabulate}
 use Rattle.block_map.specs.Kept.{kept_tables, block_kept}
 use Rattle.block_map.proofs.KeptPointers.{HaveHoles, kept_block}
 use Rattle.disk_tree.specs.Contents.{blocks_of_size, bytes_of_inode, AreReadContents, HoldContents}
-use Rattle.disk_tree.specs.Gathered.{tables_at}
-use Rattle.disk_tree.specs.Inodes.{inode_at}
+use Rattle.disk_tree.specs.Gathered.{HaveTables, tables_at}
+use Rattle.disk_tree.specs.Inodes.{AreDecoded, inode_at}
 use Rattle.disk_tree.specs.Judged.{IsReadPart}
 use Rattle.disk_tree.specs.Reading.{IsReadBlock, HasTables, HasContent}
 use Rattle.disk_tree.proofs.PartsMade.{parts_made, made_within}
@@ -87,20 +87,17 @@ module _ (told : Option (List ℕ)) (raw : List ℕ) (own : List Table) (bytes :
   content_part_blocks n inside = get_or-tabulate FILE_BLOCKS block_of n [] (omega arith) ∙ cond-true (ltb n count) _ _ (lt-ltb n count inside)
 
 -- the parts of all inodes
-module _ (told : Option (List ℕ)) (layout : Layout) (records : List (List ℕ)) (inodes : List Inode) (tables : List (Roomy Table)) (contents : List (Roomy ℕ)) (same : (i : ℕ) → i < layout.inodes → inode_at inodes i ≡ inode_of (slice_index_or records i []))
-    (has : (i : ℕ) → i < layout.inodes → HasTables told (inode_of (slice_index_or records i [])) (tables_at tables i)) (all : AreReadContents told inodes tables layout.inodes contents)
+module _ (told : Option (List ℕ)) (layout : Layout) (records : List (List ℕ)) (inodes : List Inode) (tables : List (Roomy Table)) (contents : List (Roomy ℕ)) (same : AreDecoded layout records inodes)
+    (has : HaveTables told layout records tables) (all : AreReadContents told inodes tables layout.inodes contents)
     (fits : (i : ℕ) → i < layout.inodes → blocks_of_size (inode_of (slice_index_or records i [])).size ≤ FILE_BLOCKS) where
   content_at : (i : ℕ) → i < layout.inodes → HasContent told (inode_of (slice_index_or records i [])) (tables_at tables i) (blocks_of_size (inode_of (slice_index_or records i [])).size) (bytes_of_inode contents i)
   content_at i within = subst (λ (inode : Inode). HasContent told inode (tables_at tables i) (blocks_of_size inode.size) (bytes_of_inode contents i)) (same i within) (all.each i within)
 
-  abbrev own_part : (i : ℕ) → i < layout.inodes → Part
+  pub own_part : (i : ℕ) → i < layout.inodes → Part
   own_part i within = content_part told (slice_index_or records i []) (tables_at tables i) (bytes_of_inode contents i) (has i within) (content_at i within) (fits i within)
 
-  pub content_parts : ℕ → Part
-  content_parts = parts_made layout.inodes own_part
-
-  pub hold_contents : HoldContents told layout records tables contents content_parts
-  unfolding content_parts
+  pub hold_contents : HoldContents told layout records tables contents (parts_made layout.inodes own_part)
+  unfolding own_part
   hold_contents = record {
     read = made_within layout.inodes own_part (λ i part. IsReadPart told (slice_index_or records i []) part)
         (λ i within. content_part_read told (slice_index_or records i []) (tables_at tables i) (bytes_of_inode contents i) (has i within) (content_at i within) (fits i within));

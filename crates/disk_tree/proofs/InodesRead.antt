@@ -52,54 +52,54 @@ module _ (layout : Layout) (records : List (List ℕ)) (parts : ℕ → Part) (h
   keep_three sound root sizes (suc (suc (suc (suc n)))) i low high within = absurd (omega arith)
 
 -- parts of which nothing but the records was read
-module _ (told : Option (List ℕ)) (layout : Layout) (records : List (List ℕ)) where
-  abbrev pub unread : ℕ → Part
-  unread i = part_of (store_of told) (slice_index_or records i [])
+abbrev pub unread : Option (List ℕ) → List (List ℕ) → ℕ → Part
+unread told records i = part_of (store_of told) (slice_index_or records i [])
 
-  pub unread_read : AreReadParts told layout records unread
+module _ (told : Option (List ℕ)) (layout : Layout) (records : List (List ℕ)) where
+  pub unread_read : AreReadParts told layout records (unread told records)
   unread_read i within = unread_is_read told (slice_index_or records i [])
 
-  pub unread_have : HaveRecords layout records unread
+  pub unread_have : HaveRecords layout records (unread told records)
   unread_have i within = (unread_read i within).raw_is
 
-  none_lesser : (j rule : ℕ) → 1 ≤ rule → rule < 1 → breaks_of layout unread rule j ≡ false
+  none_lesser : (j rule : ℕ) → 1 ≤ rule → rule < 1 → breaks_of layout (unread told records) rule j ≡ false
   none_lesser j rule low high = absurd (omega arith)
 
   malformed_is_refused : (inode rule : ℕ) → length records ≡ layout.inodes → IsMalformed records inode rule → Refused told layout records inode rule
   malformed_is_refused inode rule count is =
       let within : inode < layout.inodes = (let h = is.within in omega arith) in
       subst (λ (r : ℕ). Refused told layout records inode r) (sym is.first)
-      (refused_at told layout records unread 1 inode unread_read (omega arith) (omega arith) (λ lesser j low high _. none_lesser j lesser low high) (record {
+      (refused_at told layout records (unread told records) 1 inode unread_read (omega arith) (omega arith) (λ lesser j low high _. none_lesser j lesser low high) (record {
         within = within;
-        passes = byte_rule layout unread 1 inode (omega arith) ∙ first_rule layout records unread unread_have inode within ∙ some_wrong _ is.wrong;
-        before = λ j less. byte_rule layout unread 1 j (omega arith) ∙ first_rule layout records unread unread_have j (omega arith) ∙ ap is_some (is.before j less);
+        passes = byte_rule layout (unread told records) 1 inode (omega arith) ∙ first_rule layout records (unread told records) unread_have inode within ∙ some_wrong _ is.wrong;
+        before = λ j less. byte_rule layout (unread told records) 1 j (omega arith) ∙ first_rule layout records (unread told records) unread_have j (omega arith) ∙ ap is_some (is.before j less);
       }))
 
   pub root_is_refused : 0 < layout.inodes → SoundRecords layout.inodes records → (inode_of (slice_index_or records 0 [])).kind ≢ 2 → Refused told layout records 0 2
   root_is_refused some sound other =
-      refused_at told layout records unread 2 0 unread_read (omega arith) (omega arith)
+      refused_at told layout records (unread told records) 2 0 unread_read (omega arith) (omega arith)
       (λ lesser j low high within. let one : 1 ≡ lesser = omega arith in
-      subst (λ (r : ℕ). breaks_of layout unread r j ≡ false) one (byte_rule layout unread 1 j (omega arith) ∙ first_rule layout records unread unread_have j within ∙ ap is_some (sound j within)))
+      subst (λ (r : ℕ). breaks_of layout (unread told records) r j ≡ false) one (byte_rule layout (unread told records) 1 j (omega arith) ∙ first_rule layout records (unread told records) unread_have j within ∙ ap is_some (sound j within)))
       (record {
         within = some;
-        passes = byte_rule layout unread 2 0 (omega arith) ∙ second_rule layout records unread unread_have 0 some ∙ ap not (ne_eqb _ 2 other);
+        passes = byte_rule layout (unread told records) 2 0 (omega arith) ∙ second_rule layout records (unread told records) unread_have 0 some ∙ ap not (ne_eqb _ 2 other);
         before = λ j less. absurd (omega arith);
       })
 
   pub size_is_refused : (inode : ℕ) → SoundRecords layout.inodes records → (inode_of (slice_index_or records 0 [])).kind ≡ 2 →
       IsFirst layout.inodes (λ i. breaks_size_by (inode_of (slice_index_or records i []))) inode → Refused told layout records inode 3
   size_is_refused inode sound root first =
-      refused_at told layout records unread 3 inode unread_read (omega arith) (omega arith) lesser_kept
+      refused_at told layout records (unread told records) 3 inode unread_read (omega arith) (omega arith) lesser_kept
       (record {
         within = first.within;
-        passes = byte_rule layout unread 3 inode (omega arith) ∙ third_rule layout records unread unread_have inode first.within ∙ first.passes;
-        before = λ j less. byte_rule layout unread 3 j (omega arith) ∙ third_rule layout records unread unread_have j (let h = first.within in omega arith) ∙ first.before j less;
+        passes = byte_rule layout (unread told records) 3 inode (omega arith) ∙ third_rule layout records (unread told records) unread_have inode first.within ∙ first.passes;
+        before = λ j less. byte_rule layout (unread told records) 3 j (omega arith) ∙ third_rule layout records (unread told records) unread_have j (let h = first.within in omega arith) ∙ first.before j less;
       })
     where
-      lesser_kept : (lesser j : ℕ) → 1 ≤ lesser → lesser < 3 → j < layout.inodes → breaks_of layout unread lesser j ≡ false
+      lesser_kept : (lesser j : ℕ) → 1 ≤ lesser → lesser < 3 → j < layout.inodes → breaks_of layout (unread told records) lesser j ≡ false
       lesser_kept zero j low high within = absurd (omega arith)
-      lesser_kept (suc zero) j low high within = byte_rule layout unread 1 j (omega arith) ∙ first_rule layout records unread unread_have j within ∙ ap is_some (sound j within)
-      lesser_kept (suc (suc zero)) j low high within = byte_rule layout unread 2 j (omega arith) ∙ root_keeps layout records unread unread_have root j within
+      lesser_kept (suc zero) j low high within = byte_rule layout (unread told records) 1 j (omega arith) ∙ first_rule layout records (unread told records) unread_have j within ∙ ap is_some (sound j within)
+      lesser_kept (suc (suc zero)) j low high within = byte_rule layout (unread told records) 2 j (omega arith) ∙ root_keeps layout records (unread told records) unread_have root j within
       lesser_kept (suc (suc (suc n))) j low high within = absurd (omega arith)
 
 -- a refusal by the first rule, as one of a whole image

@@ -14,7 +14,7 @@ use Rattle.disk_tree.specs.Gathered.{tables_at}
 use Rattle.disk_tree.specs.Inodes.{inode_at}
 use Rattle.disk_tree.specs.KeptParts.{NumberedKept, gathered_if_used, gathered_in_use}
 use Rattle.block_map.proofs.Places.{range_more}
-use Rattle.disk_tree.proofs.TablesRead.{as_list}
+use Rattle.block_map.proofs.Places.{as_list}
 
 module _ (inodes : List Inode) (tables : List (Roomy Table)) (slots : List (Roomy (List (Option Row)))) where
   pub none_kept : gathered_in_use inodes tables slots 0 ≡ []

@@ -14,11 +14,12 @@ use Rattle.sfs_image.specs.Super.{Layout}
 use Rattle.sfs_image.proofs.Basics.{length-tabulate, get_or-tabulate, any_below-at}
 use Rattle.sfs_image.proofs.InodeLaws.{pointers_of-zeros}
 use Rattle.sfs_image.proofs.RuleLaws.{blocks_say, good_from_rule}
+use Rattle.image_tree.proofs.Parts.{HasEmptyHoles}
 use Rattle.block_map.specs.Kept.{tables_kept, kept_tables, pointer_kept}
 use Rattle.block_map.proofs.KeptPointers.{HaveHoles, kept_place, table_found}
 use Rattle.disk_tree.specs.Apart.{is_marked, pointer_in, HoldOnce, SharesFirst}
-use Rattle.disk_tree.specs.Gathered.{tables_at, AreTables, BreaksFourth, KeepTables, KeepPointerRules}
-use Rattle.disk_tree.specs.Inodes.{inode_at, HaveRecords, KeepRecordRules}
+use Rattle.disk_tree.specs.Gathered.{tables_at, HaveTables, AreTables, BreaksFourth, KeepTables, KeepPointerRules}
+use Rattle.disk_tree.specs.Inodes.{AreDecoded, inode_at, HaveRecords, KeepRecordRules}
 use Rattle.disk_tree.specs.Judged.{IsReadPart, AreReadParts, Refused, IsReadRefusal}
 use Rattle.disk_tree.specs.declared.fault.TreeFault.{TreeFault}
 use Rattle.disk_tree.specs.declared.fault.TreeFault.TheVariants.{DiskFailed, BadImage, NoMemory}
@@ -55,7 +56,7 @@ module _ (told : Option (List ℕ)) (raw : List ℕ) (part : Part) (read : IsRea
   pub read_holes : HaveHoles (inode_in part) part.tables
   read_holes k small hole = (read.tables.each k small).hole (sym (ap (λ (i : Inode). slice_index i.indirect k) read_inode) ∙ hole)
 
-  pub entry_holes : (k : ℕ) → k < 16 → slice_index (inode_in part).indirect k ≡ 0 → (e : ℕ) → slice_index (pointers_of (slice_index_or part.tables k [])) e ≡ 0
+  pub entry_holes : HasEmptyHoles part
   entry_holes k small hole e = ap (λ (block : List ℕ). slice_index (pointers_of block) e) (read_holes k small hole) ∙ pointers_of-zeros e
 
   pub read_pointer : (place : ℕ) → pointer_at part place ≡ pointer_kept (inode_of raw) (kept_tables part) place
@@ -74,14 +75,26 @@ free_pointers inode blocks free place within =
       ]
     ]
 
-module _ (told : Option (List ℕ)) (layout : Layout) (records : List (List ℕ)) (count : length records ≡ layout.inodes) (inodes : List Inode) (are : inodes ≡ map inode_of records) (fit : All IsInode inodes) where
-  abbrev raw_at : ℕ → List ℕ
-  raw_at i = slice_index_or records i []
+-- parts of inodes whose indirect blocks were read
+pub parts_of_tables : (told : Option (List ℕ)) (layout : Layout) (records : List (List ℕ)) (tables : List (Roomy Table)) → HaveTables told layout records tables → ℕ → Part
+parts_of_tables told layout records tables has = parts_made layout.inodes (λ i within. part_from told (slice_index_or records i []) (tables_at tables i) (has i within))
 
-  pub own_inode : (i : ℕ) → i < layout.inodes → inode_at inodes i ≡ inode_of (raw_at i)
+module _ (told : Option (List ℕ)) (layout : Layout) (records : List (List ℕ)) (tables : List (Roomy Table)) (has : HaveTables told layout records tables) where
+  pub parts_of_tables_read : AreReadParts told layout records (parts_of_tables told layout records tables has)
+  unfolding parts_of_tables
+  parts_of_tables_read = made_within layout.inodes (λ i within. part_from told (slice_index_or records i []) (tables_at tables i) (has i within))
+      (λ i part. IsReadPart told (slice_index_or records i []) part) (λ i within. part_from_read told (slice_index_or records i []) (tables_at tables i) (has i within))
+
+  pub parts_of_tables_kept : KeepTables layout tables (parts_of_tables told layout records tables has)
+  unfolding parts_of_tables
+  parts_of_tables_kept = made_within layout.inodes (λ i within. part_from told (slice_index_or records i []) (tables_at tables i) (has i within))
+      (λ i part. kept_tables part ≡ tables_at tables i) (λ i within. part_from_kept told (slice_index_or records i []) (tables_at tables i) (has i within))
+
+module _ (told : Option (List ℕ)) (layout : Layout) (records : List (List ℕ)) (count : length records ≡ layout.inodes) (inodes : List Inode) (are : inodes ≡ map inode_of records) (fit : All IsInode inodes) where
+  pub own_inode : AreDecoded layout records inodes
   own_inode i within = inode_at_record records inodes i are (omega arith)
 
-  pub fits_at : (i : ℕ) → i < layout.inodes → IsInode (inode_of (raw_at i))
+  pub fits_at : (i : ℕ) → i < layout.inodes → IsInode (inode_of (slice_index_or records i []))
   fits_at i within = subst IsInode (own_inode i within) (All-get_or IsInode inodes i (inode_of []) (let c = (length_inodes layout records inodes count are) in omega arith) fit)
 
   -- parts that were read and whose indirect blocks are kept so
@@ -92,15 +105,15 @@ module _ (told : Option (List ℕ)) (layout : Layout) (records : List (List ℕ)
     -- the fourth rule, by what is kept of one inode
     pub fourth_rule : (i : ℕ) → i < layout.inodes → (badly : Bool) (own : List Table) → kept_tables (parts i) ≡ own → AreJudgedTables told layout (inode_at inodes i) badly own → breaks_bytes_rule 4 layout parts i ≡ badly
     fourth_rule i within badly own kept judged =
-        rule_by_kept layout (parts i) (entry_holes told (raw_at i) (parts i) (read i within))
-        ∙ ap (λ (inode : Inode). points_badly layout inode (kept_tables (parts i))) (read_inode told (raw_at i) (parts i) (read i within) ∙ sym (own_inode i within))
+        rule_by_kept layout (parts i) (entry_holes told (slice_index_or records i []) (parts i) (read i within))
+        ∙ ap (λ (inode : Inode). points_badly layout inode (kept_tables (parts i))) (read_inode told (slice_index_or records i []) (parts i) (read i within) ∙ sym (own_inode i within))
         ∙ ap (points_badly layout (inode_at inodes i)) kept
         ∙ judged.judged
 
     module _ (keep : KeepTables layout tables parts) where
       pub own_pointer : (i place : ℕ) → i < layout.inodes → pointer_at (parts i) place ≡ pointer_in inodes tables i place
       own_pointer i place within =
-          read_pointer told (raw_at i) (parts i) (read i within) place
+          read_pointer told (slice_index_or records i []) (parts i) (read i within) place
           ∙ ap (λ (inode : Inode). pointer_kept inode (kept_tables (parts i)) place) (sym (own_inode i within))
           ∙ ap (λ (own : List Table). pointer_kept (inode_at inodes i) own place) (keep i within)
 
@@ -108,9 +121,9 @@ module _ (told : Option (List ℕ)) (layout : Layout) (records : List (List ℕ)
       pub used_of_pointer : (i place : ℕ) → i < layout.inodes → place < PLACES → pointer_at (parts i) place ≢ 0 → is_free_part (parts i) ≡ false
       used_of_pointer i place within inside some = elim (cases_Bool (is_free_part (parts i))) [
         | inr used ↦ used
-        | inl free ↦ (let kind : (inode_of (raw_at i)).kind ≡ 0 = sym (ap (λ (n : Inode). n.kind) (read_inode told (raw_at i) (parts i) (read i within))) ∙ eqb-true _ _ free in
-            let none = free_pointers (inode_in (parts i)) (parts i).tables (subst IsFree (sym (read_inode told (raw_at i) (parts i) (read i within))) ((fits_at i within).free kind)) place inside in
-            absurd (some (sym (kept_place (parts i) (read_holes told (raw_at i) (parts i) (read i within)) place) ∙ none)))
+        | inl free ↦ (let kind : (inode_of (slice_index_or records i [])).kind ≡ 0 = sym (ap (λ (n : Inode). n.kind) (read_inode told (slice_index_or records i []) (parts i) (read i within))) ∙ eqb-true _ _ free in
+            let none = free_pointers (inode_in (parts i)) (parts i).tables (subst IsFree (sym (read_inode told (slice_index_or records i []) (parts i) (read i within))) ((fits_at i within).free kind)) place inside in
+            absurd (some (sym (kept_place (parts i) (read_holes told (slice_index_or records i []) (parts i) (read i within)) place) ∙ none)))
       ]
 
       pub fifth_rule : (n i : ℕ) (marked : List Bool) → HoldOnce inodes tables n marked → i < n → i < layout.inodes → breaks_apart parts i ≡ false
@@ -144,40 +157,27 @@ module _ (told : Option (List ℕ)) (layout : Layout) (records : List (List ℕ)
               ap (λ b. not b && (any_below i (λ j. stands_below PLACES (parts j) (pointer_at (parts i) at)) || stands_below at (parts i) (pointer_at (parts i) at))) (ne_eqb _ _ there)
               ∙ or_right (any_below i (λ j. stands_below PLACES (parts j) (pointer_at (parts i) at))) _ (any_below-at at (λ place. eqb (pointer_at (parts i) place) (pointer_at (parts i) at)) one.0 one.1 (eq-eqb _ _ same))
 
-  -- parts of inodes whose indirect blocks were read
-  module _ (tables : List (Roomy Table)) (has : (i : ℕ) → i < layout.inodes → HasTables told (inode_of (raw_at i)) (tables_at tables i)) where
-    pub parts_of_tables : ℕ → Part
-    parts_of_tables = parts_made layout.inodes (λ i within. part_from told (raw_at i) (tables_at tables i) (has i within))
-
-    pub parts_of_tables_read : AreReadParts told layout records parts_of_tables
-    unfolding parts_of_tables
-    parts_of_tables_read = made_within layout.inodes (λ i within. part_from told (raw_at i) (tables_at tables i) (has i within)) (λ i part. IsReadPart told (raw_at i) part) (λ i within. part_from_read told (raw_at i) (tables_at tables i) (has i within))
-
-    pub parts_of_tables_kept : KeepTables layout tables parts_of_tables
-    unfolding parts_of_tables
-    parts_of_tables_kept = made_within layout.inodes (λ i within. part_from told (raw_at i) (tables_at tables i) (has i within)) (λ i part. kept_tables part ≡ tables_at tables i) (λ i within. part_from_kept told (raw_at i) (tables_at tables i) (has i within))
-
   -- the tables of an inode were judged, as those of its record
-  judged_has : (i : ℕ) → i < layout.inodes → (badly : Bool) (own : List Table) → AreJudgedTables told layout (inode_at inodes i) badly own → HasTables told (inode_of (raw_at i)) own
+  judged_has : (i : ℕ) → i < layout.inodes → (badly : Bool) (own : List Table) → AreJudgedTables told layout (inode_at inodes i) badly own → HasTables told (inode_of (slice_index_or records i [])) own
   judged_has i within badly own judged = subst (λ (inode : Inode). HasTables told inode own) (own_inode i within) judged.has
 
   -- an inode up to the first that breaks the fourth rule has its judged tables, and any other some tables
   record Chosen (broken i : ℕ) : Type 0 where
     own : List Table
-    has : HasTables told (inode_of (raw_at i)) own
+    has : HasTables told (inode_of (slice_index_or records i [])) own
     lesser : i < layout.inodes → i < broken → AreJudgedTables told layout (inode_at inodes i) false own
     here : i < layout.inodes → i ≡ broken → AreJudgedTables told layout (inode_at inodes i) true own
 
-  not_chosen : (broken i : ℕ) → (i < layout.inodes → ⊥) ⊎ (broken < i) → length (inode_of (raw_at i)).indirect ≡ 16 → Chosen broken i
+  not_chosen : (broken i : ℕ) → (i < layout.inodes → ⊥) ⊎ (broken < i) → length (inode_of (slice_index_or records i [])).indirect ≡ 16 → Chosen broken i
   not_chosen broken i (inl past) long = record {
-    own = tables_kept (inode_of (raw_at i)) (map (read_block (store_of told)) (inode_of (raw_at i)).indirect);
-    has = unread_tables told (inode_of (raw_at i)) long;
+    own = tables_kept (inode_of (slice_index_or records i [])) (map (read_block (store_of told)) (inode_of (slice_index_or records i [])).indirect);
+    has = unread_tables told (inode_of (slice_index_or records i [])) long;
     lesser = λ within. absurd (past within);
     here = λ within. absurd (past within);
   }
   not_chosen broken i (inr behind) long = record {
-    own = tables_kept (inode_of (raw_at i)) (map (read_block (store_of told)) (inode_of (raw_at i)).indirect);
-    has = unread_tables told (inode_of (raw_at i)) long;
+    own = tables_kept (inode_of (slice_index_or records i [])) (map (read_block (store_of told)) (inode_of (slice_index_or records i [])).indirect);
+    has = unread_tables told (inode_of (slice_index_or records i [])) long;
     lesser = λ _ less. absurd (omega arith);
     here = λ _ same. absurd (omega arith);
   }
@@ -194,19 +194,19 @@ module _ (told : Option (List ℕ)) (layout : Layout) (records : List (List ℕ)
       | inr (inl less) ↦ (let within : i < layout.inodes = (let h = broken_within in omega arith) in
           let one = breaks.before i less in
           record { own = one.0; has = judged_has i within false one.0 one.1; lesser = λ _ _. one.1; here = λ _ same. absurd (omega arith) })
-      | inr (inr more) ↦ not_chosen broken i (inr more) (Rattle.sfs_image.proofs.PiecesLaws.length-u32s_at 448 16 (raw_at i))
+      | inr (inr more) ↦ not_chosen broken i (inr more) (Rattle.sfs_image.proofs.PiecesLaws.length-u32s_at 448 16 (slice_index_or records i []))
     ]
 
     chosen_parts : ℕ → Part
-    chosen_parts i = part_from told (raw_at i) (choice i).own (choice i).has
+    chosen_parts i = part_from told (slice_index_or records i []) (choice i).own (choice i).has
 
     chosen_read : AreReadParts told layout records chosen_parts
     unfolding chosen_parts
-    chosen_read i within = part_from_read told (raw_at i) (choice i).own (choice i).has
+    chosen_read i within = part_from_read told (slice_index_or records i []) (choice i).own (choice i).has
 
     chosen_kept : (i : ℕ) → kept_tables (chosen_parts i) ≡ (choice i).own
     unfolding chosen_parts
-    chosen_kept i = part_from_kept told (raw_at i) (choice i).own (choice i).has
+    chosen_kept i = part_from_kept told (slice_index_or records i []) (choice i).own (choice i).has
 
     pub fourth_refused : KeepRecordRules layout records → Refused told layout records broken rule
     fourth_refused keep =
@@ -221,26 +221,20 @@ module _ (told : Option (List ℕ)) (layout : Layout) (records : List (List ℕ)
 
   -- where all tables were read
   module _ (tables : List (Roomy Table)) (all : AreTables told layout inodes layout.inodes tables) where
-    pub has_at : (i : ℕ) → i < layout.inodes → HasTables told (inode_of (raw_at i)) (tables_at tables i)
+    has_at : HaveTables told layout records tables
     has_at i within = judged_has i within false (tables_at tables i) (all.each i within)
-
-    abbrev table_parts : ℕ → Part
-    table_parts = parts_of_tables tables has_at
-
-    pub table_parts_read : AreReadParts told layout records table_parts
-    table_parts_read = parts_of_tables_read tables has_at
-
-    pub table_parts_kept : KeepTables layout tables table_parts
-    table_parts_kept = parts_of_tables_kept tables has_at
 
     -- each pointer lies below the disk's blocks
     pub pointers_below : (i place : ℕ) → i < layout.inodes → place < PLACES → 0 < layout.blocks → pointer_in inodes tables i place < layout.blocks
     pointers_below i place within inside some =
-        subst (λ (p : ℕ). p < layout.blocks) (own_pointer tables table_parts table_parts_read table_parts_kept i place within) (elim (cases_Bool (eqb (pointer_at (table_parts i) place) 0)) [
+        let parts = parts_of_tables told layout records tables has_at in
+        let read = parts_of_tables_read told layout records tables has_at in
+        let kept = parts_of_tables_kept told layout records tables has_at in
+        subst (λ (p : ℕ). p < layout.blocks) (own_pointer tables parts read kept i place within) (elim (cases_Bool (eqb (pointer_at (parts i) place) 0)) [
           | inl hole ↦ (let none = eqb-true _ _ hole in omega arith)
           | inr there ↦ (let some_there = eqb-false _ _ there in
-              let used = used_of_pointer tables table_parts table_parts_read table_parts_kept i place within inside some_there in
-              (good_from_rule layout (table_parts i) place (fourth_rule tables table_parts table_parts_read i within false (tables_at tables i) (table_parts_kept i within) (all.each i within)) used inside some_there).high)
+              let used = used_of_pointer tables parts read kept i place within inside some_there in
+              (good_from_rule layout (parts i) place (fourth_rule tables parts read i within false (tables_at tables i) (kept i within) (all.each i within)) used inside some_there).high)
         ])
 
     lesser_four : KeepRecordRules layout records → (parts : ℕ → Part) → AreReadParts told layout records parts → KeepTables layout tables parts → (rule j : ℕ) → 1 ≤ rule → rule ≤ 4 → j < layout.inodes →
@@ -254,12 +248,15 @@ module _ (told : Option (List ℕ)) (layout : Layout) (records : List (List ℕ)
     pub fifth_refused : KeepRecordRules layout records → (i : ℕ) → SharesFirst inodes tables i → Refused told layout records i 5
     fifth_refused keep i shares =
         let within : i < layout.inodes = subst (λ (n : ℕ). i < n) (length_inodes layout records inodes count are) shares.within in
-        refused_at told layout records table_parts 5 i table_parts_read (omega arith) (omega arith)
-        (λ lesser j low high inside. byte_rule layout table_parts lesser j (omega arith) ∙ lesser_four keep table_parts table_parts_read table_parts_kept lesser j low (omega arith) inside)
+        let parts = parts_of_tables told layout records tables has_at in
+        let read = parts_of_tables_read told layout records tables has_at in
+        let kept = parts_of_tables_kept told layout records tables has_at in
+        refused_at told layout records parts 5 i read (omega arith) (omega arith)
+        (λ lesser j low high inside. byte_rule layout parts lesser j (omega arith) ∙ lesser_four keep parts read kept lesser j low (omega arith) inside)
         (record {
           within = within;
-          passes = byte_rule layout table_parts 5 i (omega arith) ∙ fifth_broken tables table_parts table_parts_read table_parts_kept i within shares;
-          before = λ j less. byte_rule layout table_parts 5 j (omega arith) ∙ fifth_rule tables table_parts table_parts_read table_parts_kept i j shares.marked shares.lesser less (omega arith);
+          passes = byte_rule layout parts 5 i (omega arith) ∙ fifth_broken tables parts read kept i within shares;
+          before = λ j less. byte_rule layout parts 5 j (omega arith) ∙ fifth_rule tables parts read kept i j shares.marked shares.lesser less (omega arith);
         })
 
     pub pointer_rules_kept : KeepRecordRules layout records → (marked : List Bool) → HoldOnce inodes tables (length inodes) marked → KeepPointerRules told layout records tables

@@ -3,10 +3,10 @@ use Rattle.std.proofs.Common.{◌≡◌, ◌≢◌, ◌⊎◌, ℕ, ◌+◌, ◌
 use Rattle.std.specs.Prelude.{slice_index, slice_index_or}
 use Rattle.std.specs.List.{find}
 use Rattle.std.proofs.lemmas.Bool.{cases_Bool, cases_lt, cond-true, cond-false, lt-ltb, le-ltb, eq-eqb, ne_eqb, eqb-true, or_from, or_parts, or_left, or_right, or_cases, ltb-true, and_left, and_parts}
-use Rattle.sfs_base.proofs.BasicTruth.{not_both_of, not_false}
+use Rattle.sfs_base.proofs.BasicTruth.{not_both_of, not_false, not_true}
 use Rattle.sfs_base.proofs.BasicLists.{zeros_read}
 use Rattle.sfs_image.specs.Inode.{Inode, Table, pointers_of, table_of, entry_of, IsFree, IsInode}
-use Rattle.sfs_image.specs.Part.{Part, inode_in, pointer_at, is_free_part, read_block}
+use Rattle.sfs_image.specs.Part.{Part, inode_in, is_free_part, read_block}
 use Rattle.sfs_image.specs.Rules.{any_below, is_data_block, is_good_pointer, first_covered, breaks_pointers}
 use Rattle.sfs_image.specs.Seen.{FILE_BLOCKS, PLACES}
 use Rattle.sfs_image.specs.Super.{Layout, IsLayout, data_start}
@@ -18,6 +18,7 @@ use Rattle.disk_tree.proofs.Refusals.{store_of, store_reads}
 use Rattle.sfs_image.proofs.Basics.{any_below-from, any_below-none, any_below-at, any_below-some}
 use Rattle.sfs_image.proofs.PartLaws.{pointer_of_block, pointer_of_table, hole_is_read}
 use Rattle.sfs_image.proofs.PiecesLaws.{length-u32s_at}
+use Rattle.image_tree.proofs.Parts.{HasEmptyHoles}
 use Rattle.block_map.specs.Kept.{table_kept, tables_kept, kept_tables}
 use Rattle.block_map.proofs.KeptPointers.{table_found}
 use Rattle.disk_tree.specs.Reading.{HasTables}
@@ -28,17 +29,9 @@ use Rattle.disk_tree.proofs.TablesRead.{filter_map_same}
 hole_well : (layout : Layout) (size pointer first : ℕ) → pointer ≡ 0 → points_well layout size pointer first ≡ true
 hole_well layout size pointer first none = or_left (eqb pointer 0) _ (eq-eqb pointer 0 none)
 
-not_true : (b : Bool) → not b ≡ true → b ≡ false
-not_true true e = absurd (not_both_of false e refl)
-not_true false e = refl
-
 module _ (layout : Layout) (part : Part) where
   abbrev inode : Inode
   inode = inode_in part
-
-  -- whether the pointer at a place points well
-  abbrev well : ℕ → Bool
-  well place = points_well layout inode.size (pointer_at part place) (first_covered place)
 
   direct_count : length inode.direct ≡ 108
   direct_count = length-u32s_at 16 108 part.raw
@@ -46,21 +39,21 @@ module _ (layout : Layout) (part : Part) where
   indirect_count : length inode.indirect ≡ 16
   indirect_count = length-u32s_at 448 16 part.raw
 
-  direct_well : (n : ℕ) → n < 108 → well n ≡ points_well layout inode.size (slice_index inode.direct n) (0 + 4096 * n)
+  direct_well : (n : ℕ) → n < 108 → is_good_pointer layout part n ≡ points_well layout inode.size (slice_index inode.direct n) (0 + 4096 * n)
   direct_well n near =
       let far : n < FILE_BLOCKS = omega arith in
       let covers : 4096 * n ≡ 0 + 4096 * n = omega arith in
       ap (λ (p : ℕ). points_well layout inode.size p (first_covered n)) (pointer_of_block part n far ∙ cond-true (ltb n 108) _ _ (lt-ltb n 108 near))
       ∙ ap (points_well layout inode.size (slice_index inode.direct n)) (cond-true (ltb n FILE_BLOCKS) _ _ (lt-ltb n FILE_BLOCKS far) ∙ covers)
 
-  indirect_well : (k : ℕ) → well (FILE_BLOCKS + k) ≡ points_well layout inode.size (slice_index inode.indirect k) (4096 * 108 + 4096 * 1024 * k)
+  indirect_well : (k : ℕ) → is_good_pointer layout part (FILE_BLOCKS + k) ≡ points_well layout inode.size (slice_index inode.indirect k) (4096 * 108 + 4096 * 1024 * k)
   indirect_well k =
       let covers : 4096 * (108 + 1024 * (FILE_BLOCKS + k - FILE_BLOCKS)) ≡ 4096 * 108 + 4096 * 1024 * k = omega arith in
       ap (λ (p : ℕ). points_well layout inode.size p (first_covered (FILE_BLOCKS + k))) (pointer_of_table part k)
       ∙ ap (points_well layout inode.size (slice_index inode.indirect k)) (cond-false (ltb (FILE_BLOCKS + k) FILE_BLOCKS) _ _ (le-ltb (FILE_BLOCKS + k) FILE_BLOCKS (omega arith)) ∙ covers)
 
   entry_well : (k e : ℕ) → k < 16 → e < 1024 →
-      well (108 + 1024 * k + e) ≡ points_well layout inode.size (slice_index (pointers_of (slice_index_or part.tables k [])) e) (4096 * (108 + 1024 * k) + 4096 * e)
+      is_good_pointer layout part (108 + 1024 * k + e) ≡ points_well layout inode.size (slice_index (pointers_of (slice_index_or part.tables k [])) e) (4096 * (108 + 1024 * k) + 4096 * e)
   entry_well k e small tiny =
       let n = 108 + 1024 * k + e in
       let table : table_of n ≡ k = omega arith in
@@ -78,7 +71,7 @@ module _ (layout : Layout) (part : Part) where
   badly_kept = table_points_badly layout inode.size
 
   -- a place that points badly
-  bad_place : (place : ℕ) → place < PLACES → well place ≡ false → any_below PLACES (λ place. not (is_good_pointer layout part place)) ≡ true
+  bad_place : (place : ℕ) → place < PLACES → is_good_pointer layout part place ≡ false → any_below PLACES (λ place. not (is_good_pointer layout part place)) ≡ true
   bad_place place within bad = any_below-at PLACES (λ place. not (is_good_pointer layout part place)) place within (ap not bad)
 
   pub record_bad : record_points_badly layout inode ≡ true → any_below PLACES (λ place. not (is_good_pointer layout part place)) ≡ true
@@ -101,16 +94,16 @@ module _ (layout : Layout) (part : Part) where
   ]
 
   -- where no pointer that is kept points badly each place points well
-  module _ (record_good : record_points_badly layout inode ≡ false) (tables_good : tables_point_badly layout inode.size (kept_tables part) ≡ false) (holes : (k : ℕ) → k < 16 → slice_index inode.indirect k ≡ 0 → (e : ℕ) → slice_index (pointers_of (slice_index_or part.tables k [])) e ≡ 0) where
+  module _ (record_good : record_points_badly layout inode ≡ false) (tables_good : tables_point_badly layout inode.size (kept_tables part) ≡ false) (holes : HasEmptyHoles part) where
     both_good : (some_points_badly layout inode.size inode.direct 0 4096 ≡ false) × (some_points_badly layout inode.size inode.indirect (4096 * 108) (4096 * 1024) ≡ false)
     both_good = or_parts (some_points_badly layout inode.size inode.direct 0 4096) _ record_good
 
-    direct_good : (n : ℕ) → n < 108 → well n ≡ true
+    direct_good : (n : ℕ) → n < 108 → is_good_pointer layout part n ≡ true
     direct_good n near =
         direct_well n near
         ∙ not_false _ (any_below-none (length inode.direct) (λ k. not (points_well layout inode.size (slice_index inode.direct k) (0 + 4096 * k))) both_good.0 n (subst (λ (m : ℕ). n < m) (sym direct_count) near))
 
-    indirect_good : (k : ℕ) → k < 16 → well (FILE_BLOCKS + k) ≡ true
+    indirect_good : (k : ℕ) → k < 16 → is_good_pointer layout part (FILE_BLOCKS + k) ≡ true
     indirect_good k small =
         indirect_well k
         ∙ not_false _ (any_below-none (length inode.indirect) (λ k. not (points_well layout inode.size (slice_index inode.indirect k) (4096 * 108 + 4096 * 1024 * k))) both_good.1 k (subst (λ (m : ℕ). k < m) (sym indirect_count) small))
@@ -120,7 +113,7 @@ module _ (layout : Layout) (part : Part) where
         sym (ap badly_kept (table_found inode part.tables k small))
         ∙ any_below-none 16 (λ k. badly_kept (find (λ table. eqb table.place k) (kept_tables part))) tables_good k small
 
-    entry_good : (k e : ℕ) → k < 16 → e < 1024 → well (108 + 1024 * k + e) ≡ true
+    entry_good : (k e : ℕ) → k < 16 → e < 1024 → is_good_pointer layout part (108 + 1024 * k + e) ≡ true
     entry_good k e small tiny = elim (cases_Bool (eqb (slice_index inode.indirect k) 0)) [
       | inl hole ↦ entry_well k e small tiny ∙ hole_well layout inode.size _ _ (holes k small (eqb-true _ _ hole) e)
       | inr there ↦ (let here = sym (ap badly_kept (cond-false (eqb (slice_index inode.indirect k) 0) _ _ there)) ∙ table_good k small in
@@ -128,20 +121,19 @@ module _ (layout : Layout) (part : Part) where
           ∙ not_false _ (any_below-none 1024 (λ e. not (points_well layout inode.size (slice_index (pointers_of (slice_index_or part.tables k [])) e) (4096 * (108 + 1024 * k) + 4096 * e))) here e tiny))
     ]
 
-    pub all_well : (place : ℕ) → place < PLACES → well place ≡ true
+    pub all_well : (place : ℕ) → place < PLACES → is_good_pointer layout part place ≡ true
     all_well place within = elim (cases_lt place 108) [
       | inl near ↦ direct_good place near
       | inr far ↦ elim (cases_lt place FILE_BLOCKS) [
         | inl block ↦ (let same : 108 + 1024 * table_of place + entry_of place ≡ place = omega arith in
-            subst (λ (p : ℕ). well p ≡ true) same (entry_good (table_of place) (entry_of place) (omega arith) (omega arith)))
+            subst (λ (p : ℕ). is_good_pointer layout part p ≡ true) same (entry_good (table_of place) (entry_of place) (omega arith) (omega arith)))
         | inr table ↦ (let same : FILE_BLOCKS + (place - FILE_BLOCKS) ≡ place = omega arith in
-            subst (λ (p : ℕ). well p ≡ true) same (indirect_good (place - FILE_BLOCKS) (omega arith)))
+            subst (λ (p : ℕ). is_good_pointer layout part p ≡ true) same (indirect_good (place - FILE_BLOCKS) (omega arith)))
       ]
     ]
 
 -- the rule, by what is kept
-pub rule_by_kept : (layout : Layout) (part : Part) → ((k : ℕ) → k < 16 → slice_index (inode_in part).indirect k ≡ 0 → (e : ℕ) → slice_index (pointers_of (slice_index_or part.tables k [])) e ≡ 0) →
-    breaks_pointers layout part ≡ points_badly layout (inode_in part) (kept_tables part)
+pub rule_by_kept : (layout : Layout) (part : Part) → HasEmptyHoles part → breaks_pointers layout part ≡ points_badly layout (inode_in part) (kept_tables part)
 rule_by_kept layout part holes = ap (λ b. not (is_free_part part) && b) (by (cases_Bool (record_points_badly layout (inode_in part))) (cases_Bool (tables_point_badly layout (inode_in part).size (kept_tables part))))
   where
     by : ((record_points_badly layout (inode_in part) ≡ true) ⊎ (record_points_badly layout (inode_in part) ≡ false)) →

@@ -6,7 +6,7 @@ use Rattle.std.proofs.lemmas.List.Elements.{filter_map-append}
 use Rattle.std.proofs.lemmas.Grind.{flat_map-append}
 use Rattle.sfs_image.specs.Slot.{Row}
 use Rattle.disk_tree.specs.Rows.{row_of_slot, rows_in_slots, slots_together}
-use Rattle.disk_tree.proofs.TablesRead.{as_list}
+use Rattle.block_map.proofs.Places.{as_list}
 
 pub more_rows : (slots : List (Option Row)) (n : ℕ) (slot : Option Row) (start old new : List Row) → n < length slots → slot ≡ get_or slots n slot → old ≡ start ++ rows_in_slots (take n slots) → new ≡ old ++ option_to_list slot →
     new ≡ start ++ rows_in_slots (take (n + 1) slots)

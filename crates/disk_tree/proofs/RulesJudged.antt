@@ -24,7 +24,6 @@ use Rattle.disk_tree.specs.Shown.{ShowsRows, AreRowTests, AreCountTests}
 use Rattle.disk_tree.specs.declared.fault.TreeFault.{TreeFault}
 use Rattle.disk_tree.specs.declared.fault.TreeFault.TheVariants.{DiskFailed, BadImage, NoMemory}
 use Rattle.disk_tree.proofs.CountsShown.{count_tests_are_rules}
-use Rattle.disk_tree.proofs.InodesRead.{length_inodes}
 use Rattle.disk_tree.proofs.PartsShown.{read_parts_show_rows}
 use Rattle.disk_tree.proofs.ReachedShown.{reached_test_is_rule}
 use Rattle.disk_tree.proofs.Refusals.{breaks_of, byte_rule, tree_rule, refused_at, kept_all}
@@ -75,9 +74,6 @@ module _ (told : Option (List ℕ)) (layout : Layout) (records : List (List ℕ)
   pub shows : ShowsRows image inodes rows
   shows = read_parts_show_rows told layout records inodes tables contents slots rows count are fit keep well lists
 
-  pub long : length rows ≡ length inodes
-  long = lists.count ∙ sym (length_inodes layout records inodes count are)
-
   -- a directory has no more rows than its blocks have slots
   pub are_few : AreFewRows rows
   are_few i = elim (cases_lt i layout.inodes) [
@@ -105,7 +101,7 @@ module _ (told : Option (List ℕ)) (layout : Layout) (records : List (List ℕ)
     none_at reached rule kept earlier low less i inside = kept earlier i low less (let c = shows.count in omega arith)
 
     count_tests : (reached : List Bool) (rule : ℕ) → 8 < rule → KeepEarlier inodes rows reached rule → AreCountTests image inodes rows
-    count_tests reached rule more kept = count_tests_are_rules image inodes rows shows long (none_at reached rule kept 8 (omega arith) more)
+    count_tests reached rule more kept = count_tests_are_rules image inodes rows shows (lists.count ∙ shows.count) (none_at reached rule kept 8 (omega arith) more)
 
     rule_is_test : (reached : List Bool) (j : ℕ) → j < layout.inodes → (rule : ℕ) → 8 ≤ rule → rule ≤ 14 → TestIsRule reached j rule
     rule_is_test reached j within = each_rule (TestIsRule reached j)
@@ -115,7 +111,7 @@ module _ (told : Option (List ℕ)) (layout : Layout) (records : List (List ℕ)
         (λ kept marks. row_tests.eleventh j within)
         (λ kept marks. (count_tests reached 12 (omega arith) kept).twelfth j within)
         (λ kept marks. (count_tests reached 13 (omega arith) kept).thirteenth (none_at reached 13 kept 10 (omega arith) (omega arith)) j within)
-        (λ kept marks. reached_test_is_rule image inodes rows reached shows long (none_at reached 14 kept 8 (omega arith) (omega arith)) (none_at reached 14 kept 10 (omega arith) (omega arith))
+        (λ kept marks. reached_test_is_rule image inodes rows reached shows (lists.count ∙ shows.count) (none_at reached 14 kept 8 (omega arith) (omega arith)) (none_at reached 14 kept 10 (omega arith) (omega arith))
         (none_at reached 14 kept 11 (omega arith) (omega arith)) (none_at reached 14 kept 12 (omega arith) (omega arith)) (marks refl) some
         (root_shown (well.parts 0) (well.keep 2 0 (omega arith) (omega arith) some)) j within)
 

@@ -13,7 +13,7 @@ use Rattle.sfs_image.proofs.PartLaws.{hole_is_read, block_behind}
 use Rattle.block_map.proofs.KeptPointers.{kept_at_place}
 use Rattle.sfs_image.specs.Inode.{Inode, Table, pointers_of}
 use Rattle.block_map.specs.Kept.{table_kept, tables_kept}
-use Rattle.block_map.proofs.Places.{range_more}
+use Rattle.block_map.proofs.Places.{as_list, range_more}
 use Rattle.disk_tree.specs.Reading.{IsReadBlock, table_in, HasTables, IsNextTable}
 
 -- functions that agree on the numbers from a on give the same of them
@@ -22,10 +22,6 @@ filter_map_same f g a zero same = refl
 filter_map_same f g a (suc n) same =
     ap (λ o. cons_option o (filter_map f (range_with_len (a + 1) n))) (same a (omega arith) (omega arith))
     ∙ ap (cons_option (g a)) (filter_map_same f g (a + 1) n (λ k low high. same k (omega arith) (omega arith)))
-
-pub as_list : {X : Type 0} (o : Option X) → cons_option o [] ≡ option_to_list o
-as_list None = refl
-as_list (Some x) = refl
 
 -- What is kept of the first k indirect blocks is what reads gave.
 pub record TablesSoFar (told : Option (List ℕ)) (inode : Inode) (k : ℕ) (tables : List Table) : Type 0 where

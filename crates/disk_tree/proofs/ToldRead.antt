@@ -104,16 +104,15 @@ module _ (image : List ℕ) (layout : Layout) (records : List (List ℕ)) (settl
       ∙ ap (first_of_faults None None) (sym (fault_alike layout parts (parts_of layout image) (parts_are parts read)))
 
 pub found_is_the_images : FoundIsTheImages
-found_is_the_images image layout records found settles is = record {
-  tree =
-      ap (λ (o : Option ImageFault). cond (is_none o) (Some (image_tree (image_inodes image) (making_at_mount image 0))) None) none
-      ∙ ap Some (sym (is.tree ∙ tree_alike layout.inodes (λ k. seen_of (is.parts k)) (λ k. seen_of (parts_of layout image k)) (λ k less. ap seen_of (parts_are image layout records settles is.parts is.read k less)) (making_when_read layout)
-      ∙ ap (λ (l : Layout). image_tree (inodes_shown l (parts_of l image)) (making_when_read l)) settles.layout_is));
-  kept = is.kept ∙ kept_alike layout is.parts (parts_of layout image) (parts_are image layout records settles is.parts is.read);
-}
-  where
-    none : fault_of image ≡ None
-    none = fault_is image layout records settles is.parts is.read ∙ ap (first_of_faults None None) is.faultless
+found_is_the_images image layout records found settles is =
+    let none : fault_of image ≡ None = fault_is image layout records settles is.parts is.read ∙ ap (first_of_faults None None) is.faultless in
+    record {
+      tree =
+          ap (λ (o : Option ImageFault). cond (is_none o) (Some (image_tree (image_inodes image) (making_at_mount image 0))) None) none
+          ∙ ap Some (sym (is.tree ∙ tree_alike layout.inodes (λ k. seen_of (is.parts k)) (λ k. seen_of (parts_of layout image k)) (λ k less. ap seen_of (parts_are image layout records settles is.parts is.read k less)) (making_when_read layout)
+          ∙ ap (λ (l : Layout). image_tree (inodes_shown l (parts_of l image)) (making_when_read l)) settles.layout_is));
+      kept = is.kept ∙ kept_alike layout is.parts (parts_of layout image) (parts_are image layout records settles is.parts is.read);
+    }
 
 pub faults_are_the_images : FaultsAreTheImages
 faults_are_the_images image layout records inode rule settles is = fault_is image layout records settles is.parts is.read ∙ ap (first_of_faults None None) is.fault

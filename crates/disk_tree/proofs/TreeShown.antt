@@ -49,10 +49,9 @@ use Rattle.disk_tree.proofs.BytesJudged.{block_is, blocks_are, part_inode}
 use Rattle.disk_tree.proofs.BytesStage.{sizes_fit}
 use Rattle.disk_tree.proofs.CountsShown.{bucket_is, count_is, own, rows_are}
 use Rattle.disk_tree.proofs.PartsRead.{own_inode}
-use Rattle.disk_tree.proofs.InodesRead.{length_inodes}
 use Rattle.disk_tree.proofs.PartsSound.{faultless_parts_are_ruled}
 use Rattle.disk_tree.proofs.Putting.{count_take}
-use Rattle.disk_tree.proofs.RulesJudged.{faultless, long, shows}
+use Rattle.disk_tree.proofs.RulesJudged.{faultless, shows}
 use Rattle.disk_tree.proofs.TablesRead.{filter_map_same}
 
 -- the inode that a row names is named once at least
@@ -104,17 +103,14 @@ module _ (told : Option (List ℕ)) (layout : Layout) (records : List (List ℕ)
   abbrev inode_is : (i : ℕ) → i < layout.inodes → inode_in (well.parts i) ≡ inode_at inodes i
   inode_is = part_inode told layout records count inodes are fit tables keep contents well.parts well.hold
 
-  abbrev many : length inodes ≡ layout.inodes
-  many = length_inodes layout records inodes count are
-
   abbrev rows_shown : Rattle.disk_tree.specs.Shown.ShowsRows image inodes rows
   rows_shown = shows told layout records count inodes are fit tables keep contents slots well rows lists
 
   abbrev as_many : length rows ≡ length inodes
-  as_many = long told layout records count inodes are fit tables keep contents slots well rows lists
+  as_many = lists.count ∙ rows_shown.count
 
   once : NonePasses image.count (breaks_eighth rows)
-  once i within = kept.keep 8 i (omega arith) (omega arith) (let m = many in omega arith)
+  once i within = kept.keep 8 i (omega arith) (omega arith) (let m = rows_shown.count in omega arith)
 
   no_fault : Rattle.disk_tree.specs.Judged.fault_of_parts layout well.parts ≡ None
   no_fault = faultless told layout records count inodes are fit tables keep contents slots well rows lists some kept
@@ -177,9 +173,9 @@ module _ (told : Option (List ℕ)) (layout : Layout) (records : List (List ℕ)
 
   placed : (i k : ℕ) → k < length (rows_of_inode rows i) → IsPlaced (row_at (rows_of_inode rows i) k)
   placed i k less = elim (cases_Bool (is_misplaced_by inodes row)) [
-    | inl wrong ↦ absurd (not_both_of _ (list_any_at (is_misplaced_by inodes) (rows_of_inode rows i) k NO_ROW less wrong) (kept.keep 10 i (omega arith) (omega arith) (let h = (has_rows i k less).within in let m = many in omega arith)))
+    | inl wrong ↦ absurd (not_both_of _ (list_any_at (is_misplaced_by inodes) (rows_of_inode rows i) k NO_ROW less wrong) (kept.keep 10 i (omega arith) (omega arith) (let h = (has_rows i k less).within in let m = rows_shown.count in omega arith)))
     | inr right ↦ (let both = or_parts (not (Rattle.std.specs.Prelude.nat_lt row.inode (length inodes))) _ right in
-        let within : row.inode < layout.inodes = (let h = ltb-true _ _ (not_false _ both.0) in let m = many in omega arith) in
+        let within : row.inode < layout.inodes = (let h = ltb-true _ _ (not_false _ both.0) in let m = rows_shown.count in omega arith) in
         record { within = within; kind = rows_shown.kind row.inode within ∙ eqb-true _ _ (not_false _ both.1) })
   ]
     where
@@ -188,13 +184,13 @@ module _ (told : Option (List ℕ)) (layout : Layout) (records : List (List ℕ)
 
   module _ (named : List ℕ) (naming_is : AreNamingCounts rows (length inodes) (length inodes) named) where
     counted : (i : ℕ) → i < layout.inodes → count_of (image_rows image) i ≡ slice_index named i
-    counted i within = count_is image inodes rows rows_shown as_many once i ∙ sym (naming_is.each i (let m = many in omega arith))
+    counted i within = count_is image inodes rows rows_shown as_many once i ∙ sym (naming_is.each i (let m = rows_shown.count in omega arith))
 
     nodes_are : nodes_where (is_node image) image ≡ from_entries (node_entries inodes named contents (length inodes))
     unfolding node_entries
     nodes_are =
         ap from_entries (pieces_same (node_in (is_node image) image) (node_at inodes named contents) 0 layout.inodes (λ i low high. here i (omega arith)))
-        ∙ ap (λ (n : ℕ). from_entries {R = nat_cmp} (node_entries inodes named contents n)) (sym many)
+        ∙ ap (λ (n : ℕ). from_entries {R = nat_cmp} (node_entries inodes named contents n)) rows_shown.count
       where
         here : (i : ℕ) → i < layout.inodes → node_in (is_node image) image i ≡ node_at inodes named contents i
         here i within =
@@ -218,7 +214,7 @@ module _ (told : Option (List ℕ)) (layout : Layout) (records : List (List ℕ)
       children = λ i k less.
           (let row = row_at (rows_of_inode rows i) k in
           let is = placed i k less in
-          let met = naming_met rows (length inodes) i k (let h = (has_rows i k less).within in let m = many in omega arith) less in
+          let met = naming_met rows (length inodes) i k (let h = (has_rows i k less).within in let m = rows_shown.count in omega arith) less in
           subst (λ (m : FinMap nat_cmp Node). IsSome (get m row.inode)) nodes_are (subst IsSome (sym (node_is image (is_node image) row.inode is.within (chosen row is met))) refl));
       own = own image inodes rows rows_shown as_many once;
       room = λ i number. elim (cases_lt i layout.inodes) [
@@ -229,20 +225,20 @@ module _ (told : Option (List ℕ)) (layout : Layout) (records : List (List ℕ)
 
     pub may_build : length contents ≡ length inodes → MayBuild layout inodes named contents rows
     may_build content_count = record {
-      inode_count = many;
+      inode_count = sym rows_shown.count;
       named_count = naming_is.size;
       content_count = content_count;
       row_count = as_many;
       root = sym (rows_shown.kind 0 some) ∙ rules.root.1;
-      sizes = λ i less. sizes_fit told layout records count inodes are fit tables first keep i (let m = many in omega arith);
-      bytes = λ i less. bytes_long i (let m = many in omega arith);
+      sizes = λ i less. sizes_fit told layout records count inodes are fit tables first keep i (let m = rows_shown.count in omega arith);
+      bytes = λ i less. bytes_long i (let m = rows_shown.count in omega arith);
       rows_may = rows_may;
     }
 
     tree_is : tree_of_entries layout (node_entries inodes named contents (length inodes)) (row_entries rows (length rows)) ≡ image_tree image (making_when_read layout)
     tree_is =
         let same_rows : from_entries {R = key_cmp} (row_entries rows (length rows)) ≡ image_rows image =
-        ap (λ (n : ℕ). from_entries {R = key_cmp} (row_entries rows n)) (as_many ∙ many) ∙ sym (rows_are image inodes rows rows_shown as_many once) in
+        ap (λ (n : ℕ). from_entries {R = key_cmp} (row_entries rows n)) lists.count ∙ sym (rows_are image inodes rows rows_shown as_many once) in
         let same_nodes = sym nodes_are in
         λ j. record { rows = same_rows j; nodes = same_nodes j; first = layout.inodes; share = 0; made = Rattle.std.specs.Prelude.replicate layout.cores 0 }
 
@@ -259,7 +255,7 @@ module _ (told : Option (List ℕ)) (layout : Layout) (records : List (List ℕ)
 
     kept_is : gathered_in_use inodes tables slots (length inodes) ≡ kept_in_use layout.inodes well.parts
     unfolding gathered_in_use kept_in_use
-    kept_is = ap (gathered_in_use inodes tables slots) many ∙ filter_map_same (gathered_if_used inodes tables slots) (kept_if_used well.parts) 0 layout.inodes (λ i low high. here i (omega arith))
+    kept_is = ap (gathered_in_use inodes tables slots) (sym rows_shown.count) ∙ filter_map_same (gathered_if_used inodes tables slots) (kept_if_used well.parts) 0 layout.inodes (λ i low high. here i (omega arith))
       where
         here : (i : ℕ) → i < layout.inodes → gathered_if_used inodes tables slots i ≡ kept_if_used well.parts i
         here i within =

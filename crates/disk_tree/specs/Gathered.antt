@@ -31,9 +31,13 @@ pub record BreaksFourth (told : Option (List ℕ)) (layout : Layout) (inodes : L
 abbrev pub KeepTables : Layout → List (Roomy Table) → (ℕ → Part) → Type 0
 KeepTables layout tables parts = (i : ℕ) → i < layout.inodes → kept_tables (parts i) ≡ tables_at tables i
 
+-- the indirect blocks of each inode of these records were read, and this was kept of them
+abbrev pub HaveTables : Option (List ℕ) → Layout → List (List ℕ) → List (Roomy Table) → Type 0
+HaveTables told layout records tables = (i : ℕ) → i < layout.inodes → HasTables told (inode_of (slice_index_or records i [])) (tables_at tables i)
+
 -- No inode breaks one of the first five rules, whatever its blocks hold.
 pub record KeepPointerRules (told : Option (List ℕ)) (layout : Layout) (records : List (List ℕ)) (tables : List (Roomy Table)) : Type 0 where
   pub sound : SoundRecords layout.inodes records
-  pub has : (i : ℕ) → i < layout.inodes → HasTables told (inode_of (slice_index_or records i [])) (tables_at tables i)
+  pub has : HaveTables told layout records tables
   pub keep : (parts : ℕ → Part) → AreReadParts told layout records parts → KeepTables layout tables parts → (rule i : ℕ) → 1 ≤ rule → rule ≤ 5 → i < layout.inodes
       → breaks_bytes_rule rule layout parts i ≡ false

@@ -10,6 +10,10 @@ use Rattle.sfs_image.specs.Super.{Layout}
 abbrev pub inode_at : List Inode → ℕ → Inode
 inode_at inodes i = slice_index_or inodes i (inode_of [])
 
+-- the inodes of a layout are those of these records
+abbrev pub AreDecoded : Layout → List (List ℕ) → List Inode → Type 0
+AreDecoded layout records inodes = (i : ℕ) → i < layout.inodes → inode_at inodes i ≡ inode_of (slice_index_or records i [])
+
 -- whether the size in a record is one that its kind can't have
 abbrev pub breaks_size_by : Inode → Bool
 breaks_size_by inode =

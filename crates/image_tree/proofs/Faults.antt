@@ -164,9 +164,6 @@ ends_at_root at_root = refl
 ends_at_root (below node holder name l row rest) = ap (λ b. nat_eq node 0 || b) (ends_at_root rest) ∙ or_true (nat_eq node 0)
 
 module _ (image : SeenInodes) (breaks_byte_rule : ℕ → ℕ → Bool) (r : KeepsByteRules image) where
-  abbrev slots : ℕ → List (Option Row)
-  slots i = (image.seen i).slots
-
   module _ (none : (rule i : ℕ) → 1 ≤ rule → rule < 15 → i < image.count → breaks_rule breaks_byte_rule image rule i ≡ false) where
     directory_not : (i : ℕ) (p : Bool) → IsDirectoryInode image i → (shows_directory (image.seen i) && p) ≡ false → p ≡ false
     directory_not i p is e = then_false (shows_directory (image.seen i)) p e (eq-eqb _ _ is.1)
@@ -177,18 +174,18 @@ module _ (image : SeenInodes) (breaks_byte_rule : ℕ → ℕ → Bool) (r : Kee
       apart = r.apart;
       once = λ i is n. once i n (directory_not i (has_name_twice image i) is (none 8 i (omega arith) (omega arith) is.0));
       full = λ i number is lt. ltb-false _ _ (none_any (λ number. nat_lt BUCKET_ROWS (len (bucket_rows i number (image_rows image)))) 0 8 (directory_not i (has_overfull_bucket image i) is (none 9 i (omega arith) (omega arith) is.0)) number (omega arith) (omega arith));
-      children = λ i is. may_stand image (slots i) (directory_not i (has_misplaced_row image i) is (none 10 i (omega arith) (omega arith) is.0)) (directory_not i (names_root image i) is (none 11 i (omega arith) (omega arith) is.0));
+      children = λ i is. may_stand image (image.seen i).slots (directory_not i (has_misplaced_row image i) is (none 10 i (omega arith) (omega arith) is.0)) (directory_not i (names_root image i) is (none 11 i (omega arith) (omega arith) is.0));
       named_once = λ i is. ltb-false _ _ (directory_not i (is_named_twice image i) is (none 12 i (omega arith) (omega arith) is.0));
       links = λ i lt used. eqb-true _ _ (not_false _ (then_false (is_used image i) (has_wrong_links image i) (none 13 i (omega arith) (omega arith) lt) (ap not (not_same _ _ used))));
       reached = λ i is. reached i (not_false _ (directory_not i (is_unreached image i) is (none 14 i (omega arith) (omega arith) is.0)));
     }
       where
-        once : (i : ℕ) (n : List ℕ) → has_name_twice image i ≡ false → name_count n (slots i) ≤ 1
-        once i n e = elim (nat_lt 1 (name_count n (slots i))) as (λ b. nat_lt 1 (name_count n (slots i)) ≡ b → name_count n (slots i) ≤ 1) [
+        once : (i : ℕ) (n : List ℕ) → has_name_twice image i ≡ false → name_count n (image.seen i).slots ≤ 1
+        once i n e = elim (nat_lt 1 (name_count n (image.seen i).slots)) as (λ b. nat_lt 1 (name_count n (image.seen i).slots) ≡ b → name_count n (image.seen i).slots ≤ 1) [
           | false ↦ λ t. ltb-false _ _ t
           | true ↦ λ t.
               let lt = ltb-true _ _ t in
-              absurd (not_both (counted_row (λ (row : Row). nat_lt 1 (name_count row.name (slots i))) n (λ row same. ap (λ m. nat_lt 1 (name_count m (slots i))) same ∙ t) (slots i) (omega arith)) e)
+              absurd (not_both (counted_row (λ (row : Row). nat_lt 1 (name_count row.name (image.seen i).slots)) n (λ row same. ap (λ m. nat_lt 1 (name_count m (image.seen i).slots)) same ∙ t) (image.seen i).slots (omega arith)) e)
         ] refl
 
         reached : (i : ℕ) → (nat_eq i 0 || lies_below (ruled_tree image) i 0) ≡ true → (l : List ℕ) × Above (ruled_tree image) i l
@@ -209,10 +206,10 @@ module _ (image : SeenInodes) (breaks_byte_rule : ℕ → ℕ → Bool) (r : Kee
 
     tree_rules : (rule i : ℕ) → i < image.count → breaks_tree_rule image rule i ≡ false
     tree_rules rule i lt =
-        either_false (nat_eq rule 8) _ _ (holds_of_directory i (has_name_twice image i) lt (λ is. no_row_passes _ (slots i) (every_row (λ (row : Row). nat_lt 1 (name_count row.name (slots i))) (λ row. not_below _ _ (k.once i is row.name)) (slots i))))
+        either_false (nat_eq rule 8) _ _ (holds_of_directory i (has_name_twice image i) lt (λ is. no_row_passes _ (image.seen i).slots (every_row (λ (row : Row). nat_lt 1 (name_count row.name (image.seen i).slots)) (λ row. not_below _ _ (k.once i is row.name)) (image.seen i).slots)))
         (either_false (nat_eq rule 9) _ _ (holds_of_directory i (has_overfull_bucket image i) lt (λ is. any_none (λ number. nat_lt BUCKET_ROWS (len (bucket_rows i number (image_rows image)))) 0 8 (λ number _ less. not_below _ _ (k.full i number is (omega arith)))))
-        (either_false (nat_eq rule 10) _ _ (holds_of_directory i (has_misplaced_row image i) lt (λ is. placed image (slots i) (k.children i is)))
-        (either_false (nat_eq rule 11) _ _ (holds_of_directory i (names_root image i) lt (λ is. no_root_named image (slots i) (k.children i is)))
+        (either_false (nat_eq rule 10) _ _ (holds_of_directory i (has_misplaced_row image i) lt (λ is. placed image (image.seen i).slots (k.children i is)))
+        (either_false (nat_eq rule 11) _ _ (holds_of_directory i (names_root image i) lt (λ is. no_root_named image (image.seen i).slots (k.children i is)))
         (either_false (nat_eq rule 12) _ _ (holds_of_directory i (is_named_twice image i) lt (λ is. not_below _ _ (k.named_once i is)))
         (either_false (nat_eq rule 13) _ _ (asked (is_used image i) (has_wrong_links image i) (λ used. ap not (eq-eqb _ _ (k.links i lt (used_not_free image i used)))))
         (either_false (nat_eq rule 14) _ _ (holds_of_directory i (is_unreached image i) lt (reached_test i)) refl))))))

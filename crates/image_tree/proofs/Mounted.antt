@@ -43,6 +43,10 @@ looked_may image n (Some held ∷ slots) row all is =
       | false ↦ λ e. looked_may image n slots row all.1 e
     ] is
 
+-- the kind of a file is not that of a directory
+pub file_is_no_directory : kind_byte File ≡ kind_byte Directory → ⊥
+file_is_no_directory e = cc
+
 -- an image that keeps the rules, with chosen inodes as nodes: directories, and files that a row names
 module _ (image : SeenInodes) (k : KeepsRules image) (chosen : ℕ → Bool) (directories : (i : ℕ) → (image.seen i).kind ≡ kind_byte Directory → chosen i ≡ true) (files : (i : ℕ) → (image.seen i).kind ≡ kind_byte File → count_of (image_rows image) i ≢ 0 → chosen i ≡ true) (making : Making) where
   abbrev tree : TreeState
@@ -257,10 +261,7 @@ module _ (image : SeenInodes) (making : Making) (k : KeepsRules image) (g : Show
       looked_up n (image.seen x).slots ≡ option_map (row_on num own n) (row_of own x n)
   file_slots x lt kind n =
       ap (looked_up n) (g.files x lt kind)
-      ∙ sym (ap (option_map (row_on num own n)) (no_row_shown image x n lt (λ other. not_both (sym kind ∙ other))))
-    where
-      not_both : kind_byte File ≡ kind_byte Directory → ⊥
-      not_both e = cc
+      ∙ sym (ap (option_map (row_on num own n)) (no_row_shown image x n lt (λ other. file_is_no_directory (sym kind ∙ other))))
 
   own_shows : (x : ℕ) → x < image.count → is_used image x ≡ true → ShowsNode num own x (image.seen x)
   own_shows x lt used =

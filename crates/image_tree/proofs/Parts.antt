@@ -63,10 +63,14 @@ zero_behind raw none k lt =
     ∙ ap (λ (bytes : List ℕ). slice_index bytes k) (zeros_from_none (part 4 508 raw) (None-option_map (λ j. 4 + j) (position is_nonzero (part 4 508 raw)) none))
     ∙ zeros-byte (length (part 4 508 raw)) k
 
+-- each indirect block of a part that has no pointer reads as holes
+abbrev pub HasEmptyHoles : Part → Type 0
+HasEmptyHoles part = (k : ℕ) → k < 16 → slice_index (inode_in part).indirect k ≡ 0 → (entry : ℕ) → slice_index (pointers_of (slice_index_or part.tables k [])) entry ≡ 0
+
 -- A part has all its blocks, and each of its indirect blocks that has no pointer reads as holes.
 pub record IsWholePart (part : Part) : Type 0 where
   pub blocks : length part.blocks ≡ FILE_BLOCKS
-  pub holes : (k : ℕ) → k < 16 → slice_index (inode_in part).indirect k ≡ 0 → (entry : ℕ) → slice_index (pointers_of (slice_index_or part.tables k [])) entry ≡ 0
+  pub holes : HasEmptyHoles part
 
 gathered_blocks : (store : ℕ → List ℕ) (raw : List ℕ) → length (part_of store raw).blocks ≡ FILE_BLOCKS
 unfolding part_of

@@ -47,6 +47,11 @@ numbered inodes share cores = record {
       | false ↦ λ t. absurd (none_not_some (get (nodes_where (is_node inodes) inodes) node) (no_node_outside inodes (is_node inodes) node (ltb-false _ _ t)) some)
     ] refl
 
+-- Neither the superblock nor a journal of an image has a fault.
+pub record HasGoodStart (image : List ℕ) : Type 0 where
+  pub super : super_fault_of image ≡ None
+  pub journals : journal_fault_of (layout_of image) image ≡ None
+
 module _ (image : List ℕ) where
   abbrev inodes : SeenInodes
   inodes = image_inodes image
@@ -57,14 +62,9 @@ module _ (image : List ℕ) where
   some_inodes : super_fault_of image ≡ None → 0 < inodes.count
   some_inodes none = let low = (super_facts (length image / 4096) layout (image_block image 0) none).fits.ranges.inodes_low in omega arith
 
-  -- neither the super block nor a journal has a fault
-  record HasGoodStart : Type 0 where
-    super : super_fault_of image ≡ None
-    journals : journal_fault_of layout image ≡ None
-
   -- no rule on bytes is broken
   record IsGood : Type 0 where
-    start : HasGoodStart
+    start : HasGoodStart image
     inodes_good : (rule i : ℕ) → 1 ≤ rule → rule ≤ 7 → i < layout.inodes → breaks_bytes_of image rule i ≡ false
 
   module _ (g : IsGood) where
@@ -92,7 +92,7 @@ module _ (image : List ℕ) where
 
   -- an image without a fault has good bytes, and keeps the rules
   record IsFaultless : Type 0 where
-    start : HasGoodStart
+    start : HasGoodStart image
     tree : tree_fault (breaks_bytes_of image) inodes ≡ None
 
   parts_of_none : fault_of image ≡ None → IsFaultless

@@ -99,9 +99,6 @@ passing_is_there test (n ∷ rest) m low passes = elim (cases_Bool (test n)) [
 
 -- the slots that were found are those that are open in the image
 module _ (layout : Layout) (image : List ℕ) (found : List OpenSlot) (are : AreOpen layout image (slot_count layout) found) where
-  abbrev opened : ℕ → Option Transaction
-  opened = transaction_in layout image
-
   abbrev open_numbers : List ℕ
   open_numbers = open_slots_of layout image
 
@@ -118,7 +115,7 @@ module _ (layout : Layout) (image : List ℕ) (found : List OpenSlot) (are : Are
   stamp_is : (k : ℕ) (one : OpenSlot) → IsAt found k one → one.stamp ≡ (head_of (part 0 4096 (journal_slot layout image one.number))).stamp
   stamp_is k one at = (found_has (IsOpenSlot layout image) found k one are.each at.within at.is).stamp
 
-  found_open : (k : ℕ) (one : OpenSlot) → IsAt found k one → IsFoundAt opened one
+  found_open : (k : ℕ) (one : OpenSlot) → IsAt found k one → IsFoundAt (transaction_in layout image) one
   found_open k one at = record {
     transaction = whole one.number;
     is_open = ap (λ b. cond b (Some (whole one.number)) None) (gate_open k one at);
@@ -128,7 +125,7 @@ module _ (layout : Layout) (image : List ℕ) (found : List OpenSlot) (are : Are
       whole : ℕ → Transaction
       whole j = transaction_whole layout image j
 
-  pub all_are_open : AreOpenAbove layout found None opened
+  pub all_are_open : AreOpenAbove layout found None (transaction_in layout image)
   all_are_open = record {
     still = λ k one at above. found_open k one at;
     others = λ j low. elim (cases_Bool (is_slot_open layout image j)) [

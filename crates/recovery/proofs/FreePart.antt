@@ -1,30 +1,25 @@
 -- The part of a free inode, and the inodes that a transaction frees.
 use Rattle.std.proofs.Common.{◌≡◌, ◌≢◌, ◌⊎◌, ℕ, zero, suc, ◌<◌, Bool, true, false, cond, eqb, List, [], ◌∷◌, length, map, get_or, Option, None, Some, refl, sym, ◌∙◌, ap, subst, arith, inl, inr}
-use Rattle.std.specs.Prelude.{option_map, unwrap_or, All}
+use Rattle.std.specs.Prelude.{option_map, slice_index, unwrap_or}
 use Rattle.std.specs.List.{range_with_len, filter, find}
 use Rattle.std.proofs.lemmas.Bool.{cases_Bool, cases_eq, eqb-true, eq-eqb, ne_eqb}
 use Rattle.std.proofs.lemmas.List.FromFn.{length-range_with_len, get_or-range_with_len}
 use Rattle.sfs_base.proofs.BasicNumbers.{zero_plus}
 use Rattle.sfs_image.specs.Bytes.{zeros}
 use Rattle.sfs_image.specs.ImageOf.{InodePart, Transaction, FreshBlock, TurnsInto, PointsToData, part_given, given, with_opened, with_slot}
-use Rattle.sfs_image.specs.Inode.{inode_fault}
 use Rattle.sfs_image.specs.Part.{Part, part_of, IsGathered, pointer_at, is_free_part, seen_of}
 use Rattle.sfs_image.specs.Settled.{Stamped, slot_count}
 use Rattle.sfs_image.specs.Super.{Layout}
 use Rattle.sfs_image.proofs.AcceptedLaws.{raw_of}
 use Rattle.sfs_image.proofs.Basics.{find_made}
 use Rattle.sfs_image.proofs.BytesLaws.{length-zeros, zeros-byte}
+use Rattle.sfs_image.proofs.JustMadeLaws.{zeros_are_sound}
 use Rattle.sfs_image.proofs.GivenLaws.{with_slot-same, with_slot-other}
 use Rattle.sfs_image.proofs.NewestLaws.{none_newest, newest_greatest}
 use Rattle.sfs_image.proofs.PartLaws.{free_has_none, gather_same}
 use Rattle.image_tree.specs.Stands.{IsUnused}
 use Rattle.commit_one.specs.Change.{nothing_open}
 use Rattle.recovery.specs.Freed.{free_part, freed_part}
-
--- nothing is wrong in a record of zeros
-pub zeros_are_sound : inode_fault (zeros 512) ≡ None
-unfolding zeros
-zeros_are_sound = refl
 
 pub free_raw : free_part.raw ≡ zeros 512
 unfolding free_part
@@ -35,10 +30,7 @@ unfolding free_part
 no_pointer place = free_has_none (λ _. []) (zeros 512) (length-zeros 512) zeros_are_sound (zeros-byte 512 0) place
 
 pub free_is_free : is_free_part free_part ≡ true
-free_is_free = eq-eqb _ 0 (ap (λ (raw : List ℕ). get_kind raw) free_raw ∙ zeros-byte 512 0)
-  where
-    get_kind : List ℕ → ℕ
-    get_kind raw = Rattle.std.specs.Prelude.slice_index raw 0
+free_is_free = eq-eqb _ 0 (ap (λ (raw : List ℕ). slice_index raw 0) free_raw ∙ zeros-byte 512 0)
 
 pub free_is_unused : IsUnused (seen_of free_part)
 free_is_unused = record { kind = eqb-true _ 0 free_is_free; blocks = λ place low. no_pointer place }

@@ -4,17 +4,18 @@ use Rattle.std.specs.Prelude.{count_by}
 use Rattle.std.specs.FinMap.{entries}
 use Rattle.std.specs.Option.{is_some, is_none}
 use Rattle.std.proofs.lemmas.Bool.{cases_Bool, cases_eq, eqb-true, ne_eqb}
-use Rattle.sfs_base.specs.declared.numbers.Kind.TheVariants.{File, Directory}
+use Rattle.sfs_base.specs.declared.numbers.Kind.TheVariants.{File}
 use Rattle.sfs_base.proofs.BasicTruth.{and_first}
 use Rattle.sfs_tree.specs.Tree.{TreeState, count_of, holds_directory}
 use Rattle.sfs_image.specs.Part.{Part, seen_of}
 use Rattle.sfs_image.specs.Rules.{breaks_bytes_rule}
 use Rattle.sfs_image.specs.Seen.{SeenInodes}
-use Rattle.sfs_image.specs.Settled.{journal_fault_of, parts_of}
+use Rattle.sfs_image.specs.Settled.{parts_of}
 use Rattle.sfs_image.specs.Slot.{kind_byte}
 use Rattle.sfs_image.specs.Super.{Layout}
 use Rattle.sfs_image.specs.Inode.{inode_fault}
 use Rattle.sfs_image.proofs.RuleLaws.{free_breaks_none}
+use Rattle.sfs_image.proofs.JustMadeLaws.{zeros_are_sound}
 use Rattle.image_tree.specs.Image.{ImageFault, inodes_shown, image_inodes, fault_of, tree_of, making_at_mount, HaveGoodBytes, HasGoodBytes}
 use Rattle.image_tree.specs.ImageTree.{Making, NOTHING_MADE, image_rows, image_tree, shows_directory, tree_with_orphans}
 use Rattle.image_tree.specs.Keeps.{ruled_tree}
@@ -23,23 +24,21 @@ use Rattle.image_tree.specs.Orphans.{is_orphan, FreesOrphans, IsFreed}
 use Rattle.image_tree.specs.Stands.{IsUnused, StandsForSoundTree}
 use Rattle.image_tree.proofs.Alike.{tree_alike}
 use Rattle.image_tree.proofs.Images.{directory_shown}
-use Rattle.image_tree.proofs.Mounted.{rules_make_standing}
+use Rattle.image_tree.proofs.Mounted.{file_is_no_directory, rules_make_standing}
 use Rattle.image_tree.proofs.Orphans.{freed_orphans_keep_the_tree}
 use Rattle.image_tree.proofs.WholeImages.{rule_alike, standing_images_are_read}
+use Rattle.disk_tree.specs.Judged.{fault_of_parts}
 use Rattle.disk_tree.specs.Shown.{AreRuled}
+use Rattle.disk_tree.proofs.PartsSound.{byte_rules_kept}
 use Rattle.recovery.specs.Freed.{is_unlinked, free_part, without_unlinked, AreUnlinkedFree}
 use Rattle.recovery.specs.Recovered.{ShowsTheSame}
-use Rattle.recovery.proofs.FreePart.{zeros_are_sound, free_raw, free_is_free, free_is_unused}
+use Rattle.recovery.proofs.FreePart.{free_raw, free_is_free, free_is_unused}
 use Rattle.recovery.proofs.ShownAlike.{IsReadable, making_of}
 
--- a file is no directory
-file_apart : kind_byte File ≡ kind_byte Directory → ⊥
-file_apart e = omega (arith, e)
-
--- parts that break no rule
+-- Parts that have no fault, and so are ruled.
 pub record AreFaultless (layout : Layout) (parts : ℕ → Part) : Type 0 where
   pub ruled : AreRuled (inodes_shown layout parts)
-  pub bytes : (rule i : ℕ) → 1 ≤ rule → rule ≤ 7 → i < layout.inodes → breaks_bytes_rule rule layout parts i ≡ false
+  pub none : fault_of_parts layout parts ≡ None
 
 module _ (layout : Layout) (parts : ℕ → Part) (are : AreFaultless layout parts) where
   abbrev shown : SeenInodes
@@ -51,7 +50,7 @@ module _ (layout : Layout) (parts : ℕ → Part) (are : AreFaultless layout par
     | inr other ↦ ap (λ b. b && eqb (count_of (image_rows shown) i) 0) other ∙ sym (ap (λ b. b && eqb (shown.seen i).links 0) other)
     | inl file ↦
         let kind : (shown.seen i).kind ≡ kind_byte File = eqb-true _ _ file in
-        let no_directory : shows_directory (shown.seen i) ≡ false = ne_eqb _ _ (λ two. file_apart (sym kind ∙ two)) in
+        let no_directory : shows_directory (shown.seen i) ≡ false = ne_eqb _ _ (λ two. file_is_no_directory (sym kind ∙ two)) in
         let in_tree = directory_shown shown NOTHING_MADE i low ∙ no_directory in
         let links : (shown.seen i).links ≡ count_of (image_rows shown) i =
         are.ruled.rules.links i low (λ none. file_used (sym kind ∙ none))
@@ -94,11 +93,11 @@ module _ (layout : Layout) (parts : ℕ → Part) (are : AreFaultless layout par
     no_root unlinked =
         let file : (shown.seen 0).kind ≡ kind_byte File = eqb-true _ _ (and_first (eqb (shown.seen 0).kind (kind_byte File)) (eqb (shown.seen 0).links 0) unlinked) in
         let directory = are.ruled.rules.root.1 in
-        file_apart (sym file ∙ directory)
+        file_is_no_directory (sym file ∙ directory)
 
     good : (rule i : ℕ) → 1 ≤ rule → rule ≤ 7 → rule ≢ 2 → rule ≢ 5 → i < layout.inodes → breaks_bytes_rule rule layout (parts_of layout image) i ≡ false
     good rule i low high no_second no_fifth within = elim (cases_Bool (is_unlinked (parts i).raw)) [
-      | inr linked ↦ rule_alike layout (parts_of layout image) parts i (part_kept i within linked) rule no_fifth ∙ are.bytes rule i low high within
+      | inr linked ↦ rule_alike layout (parts_of layout image) parts i (part_kept i within linked) rule no_fifth ∙ byte_rules_kept layout parts are.none rule i low high within
       | inl unlinked ↦ rule_alike layout (parts_of layout image) (λ _. free_part) i (part_free i within unlinked) rule no_fifth
           ∙ free_good rule (λ root. no_root (subst (λ (n : ℕ). is_unlinked (parts n).raw ≡ true) root unlinked))
     ]
@@ -114,8 +113,8 @@ module _ (layout : Layout) (parts : ℕ → Part) (are : AreFaultless layout par
 
     good_bytes : HasGoodBytes image
     good_bytes = record {
-      super = is.super;
-      journals = subst (λ (l : Layout). journal_fault_of l image ≡ None) (sym is.divided) is.journals;
+      super = is.start.super;
+      journals = is.start.journals;
       parts = subst (λ (l : Layout). HaveGoodBytes l (parts_of l image)) (sym is.divided) good;
     }
 
@@ -133,17 +132,16 @@ module _ (layout : Layout) (parts : ℕ → Part) (are : AreFaultless layout par
   pub freed_shows_the_same : (freed : ℕ → Part) → AreUnlinkedFree layout parts freed → (image other : List ℕ) → IsReadable layout image → IsReadable layout other
       → ((i : ℕ) → i < layout.inodes → parts_of layout image i ≡ freed i) → ((i : ℕ) → i < layout.inodes → parts_of layout other i ≡ parts i) → fault_of other ≡ None
       → ShowsTheSame image other
-  freed_shows_the_same freed without image other one two settles was none = record {
-    fault = faultless ∙ sym none;
-    tree = λ share.
-        tree_there image faultless share
-        ∙ ap (λ (tree : TreeState). Some tree) (freed_tree_same freed without image one settles share ∙ sym (old_tree share))
-        ∙ sym (tree_there other none share);
-  }
+  freed_shows_the_same freed without image other one two settles was none =
+      let faultless = freed_is_faultless freed without image one settles in
+      record {
+        fault = faultless ∙ sym none;
+        tree = λ share.
+            tree_there image faultless share
+            ∙ ap (λ (tree : TreeState). Some tree) (freed_tree_same freed without image one settles share ∙ sym (old_tree share))
+            ∙ sym (tree_there other none share);
+      }
     where
-      faultless : fault_of image ≡ None
-      faultless = freed_is_faultless freed without image one settles
-
       tree_there : (image : List ℕ) → fault_of image ≡ None → (share : ℕ) → tree_of image share ≡ Some (image_tree (image_inodes image) (making_at_mount image share))
       tree_there image none share = ap (λ (fault : Option ImageFault). cond (is_none fault) (Some (image_tree (image_inodes image) (making_at_mount image share))) None) none
 

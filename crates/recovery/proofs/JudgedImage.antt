@@ -1,11 +1,10 @@
 -- What was read of a disk that tells its content is its image's.
-use Rattle.std.proofs.Common.{◌≡◌, ℕ, ◌<◌, ◌≤◌, false, cond, List, [], slice_index_or, Option, None, Some, refl, sym, ◌∙◌, ap, subst, arith, inl, inr}
+use Rattle.std.proofs.Common.{◌≡◌, ℕ, ◌<◌, cond, List, [], slice_index_or, Option, None, Some, refl, sym, ◌∙◌, ap, subst, arith, inl, inr}
 use Rattle.std.specs.Option.{is_none}
 use Rattle.std.proofs.lemmas.Bool.{cases_Bool, cases_lt, eqb-true}
 use Rattle.sfs_tree.specs.Tree.{TreeState}
 use Rattle.sfs_image.specs.ImageOf.{IsImageOf, PointsToData, transaction_in, table_parts}
 use Rattle.sfs_image.specs.Part.{part_of, is_free_part}
-use Rattle.sfs_image.specs.Rules.{breaks_bytes_rule}
 use Rattle.sfs_image.specs.Seen.{PLACES}
 use Rattle.sfs_image.specs.Settled.{image_block, parts_of, settled}
 use Rattle.sfs_image.specs.Super.{Layout}
@@ -14,18 +13,17 @@ use Rattle.sfs_image.proofs.PartLaws.{none_past_places}
 use Rattle.sfs_image.proofs.RuleLaws.{good_from_rule}
 use Rattle.image_tree.specs.Image.{ImageFault, first_of_faults, fault_of, tree_of, image_inodes, making_at_mount}
 use Rattle.image_tree.specs.ImageTree.{image_tree}
-use Rattle.image_tree.specs.Rules.{TreeFault, FindsFault}
-use Rattle.image_tree.proofs.FirstFault.{first_fault_is_least}
+use Rattle.image_tree.specs.Rules.{TreeFault}
 use Rattle.disk_tree.specs.Judged.{AreReadParts, IsReadPart, Refused, fault_of_parts}
 use Rattle.disk_tree.specs.Told.{SettlesRecords}
-use Rattle.disk_tree.proofs.PartsSound.{faultless_parts_are_ruled}
-use Rattle.disk_tree.proofs.Refusals.{breaks_of, byte_rule, unread_is_read}
+use Rattle.disk_tree.proofs.PartsSound.{byte_rules_kept, faultless_parts_are_ruled}
+use Rattle.disk_tree.proofs.Refusals.{unread_is_read}
 use Rattle.disk_tree.proofs.ToldRead.{faults_are_the_images}
 use Rattle.recovery.specs.Judging.{IsFaultOf, IsTreeRefusal}
 use Rattle.recovery.specs.declared.fault.RecoverFault.{RecoverFault}
 use Rattle.recovery.specs.declared.fault.RecoverFault.TheVariants.{DiskFailed, BadSuper, BadJournal, BadImage, NoMemory}
 use Rattle.recovery.proofs.FreedShown.{AreFaultless}
-use Rattle.recovery.proofs.ShownAlike.{IsReadable, fault_by_parts}
+use Rattle.recovery.proofs.ShownAlike.{IsReadable, readable_by, fault_by_parts}
 
 -- an image that has a tree has no fault
 pub has_no_fault : (image : List ℕ) (share : ℕ) (tree : TreeState) → tree_of image share ≡ Some tree → fault_of image ≡ None
@@ -47,7 +45,7 @@ tree_fault_is image layout records settles NoMemory plain = tt
 
 module _ (image : List ℕ) (layout : Layout) (records : List (List ℕ)) (settles : SettlesRecords image layout records) (some : 0 < layout.inodes) (none : fault_of image ≡ None) where
   pub readable : IsReadable layout image
-  readable = record { super = settles.super; divided = sym settles.layout_is; journals = settles.journals }
+  readable = readable_by layout image settles.super (sym settles.layout_is) settles.journals
 
   parts_faultless : fault_of_parts layout (parts_of layout image) ≡ None
   parts_faultless = no_tree_fault (fault_of_parts layout (parts_of layout image)) (sym (fault_by_parts layout image readable) ∙ none)
@@ -59,15 +57,10 @@ module _ (image : List ℕ) (layout : Layout) (records : List (List ℕ)) (settl
   read : AreReadParts (Some image) layout records (parts_of layout image)
   read i low = subst (IsReadPart (Some image) (slice_index_or records i [])) (ap (part_of (image_block image)) (settles.each i low)) (unread_is_read (Some image) (slice_index_or records i []))
 
-  bytes_kept : (rule i : ℕ) → 1 ≤ rule → rule ≤ 7 → i < layout.inodes → breaks_bytes_rule rule layout (parts_of layout image) i ≡ false
-  bytes_kept rule i low high within =
-      sym (byte_rule layout (parts_of layout image) rule i high)
-      ∙ (subst (FindsFault (breaks_of layout (parts_of layout image)) layout.inodes) parts_faultless (first_fault_is_least (breaks_of layout (parts_of layout image)) layout.inodes)) rule i low (omega (arith, high)) within
-
   pub are_faultless : AreFaultless layout (parts_of layout image)
   are_faultless = record {
     ruled = faultless_parts_are_ruled (Some image) layout records (parts_of layout image) some read parts_faultless;
-    bytes = bytes_kept;
+    none = parts_faultless;
   }
 
   points_well : (i : ℕ) → i < layout.inodes → PointsToData layout (parts_of layout image i)
@@ -75,7 +68,7 @@ module _ (image : List ℕ) (layout : Layout) (records : List (List ℕ)) (settl
     | inr past ↦ absurd (there (none_past_places (image_block image) (settled layout image i) place past))
     | inl within ↦ elim (cases_Bool (is_free_part (parts_of layout image i))) [
       | inl free ↦ absurd (there ((are_faultless.ruled.kinds.unused i low (eqb-true _ 0 free)).blocks place within))
-      | inr used ↦ (let facts = good_from_rule layout (parts_of layout image i) place (bytes_kept 4 i (omega arith) (omega arith) low) used within there in (facts.low, facts.high))
+      | inr used ↦ (let facts = good_from_rule layout (parts_of layout image i) place (byte_rules_kept layout (parts_of layout image) parts_faultless 4 i (omega arith) (omega arith) low) used within there in (facts.low, facts.high))
     ]
   ]
 

@@ -52,23 +52,20 @@ module _ (layout : Layout) (n : ℕ) (test : ℕ → Bool) (parts : ℕ → Part
   abbrev new : List InodePart
   new = map freed_part inodes
 
-  abbrev freed : ℕ → Part
-  freed = freed_by layout test n parts
-
   before_settles : (image : List ℕ) → IsBefore job parts image → SettlesAs layout parts image
   before_settles image stands = record { opened = nothing_open; stands = stands; same = own_part job parts }
 
-  slot_settles : (image : List ℕ) → IsByItsSlot job parts new image → SettlesAs layout freed image
+  slot_settles : (image : List ℕ) → IsByItsSlot job parts new image → SettlesAs layout (freed_by layout test n parts) image
   slot_settles image stands = record {
     opened = opened_by job new;
     stands = stands_settled layout (opened_by job new) parts image stands;
     same = settled_again layout (opened_by job new) parts;
   }
 
-  after_settles : (image : List ℕ) → IsAfter job parts new image → SettlesAs layout freed image
-  after_settles image stands = record { opened = nothing_open; stands = stands; same = own_part job freed }
+  after_settles : (image : List ℕ) → IsAfter job parts new image → SettlesAs layout (freed_by layout test n parts) image
+  after_settles image stands = record { opened = nothing_open; stands = stands; same = own_part job (freed_by layout test n parts) }
 
-  moment_settles : (began k : ℕ) (image : List ℕ) → IsMomentOf job parts new began k image → SettlesAs layout parts image ⊎ SettlesAs layout freed image
+  moment_settles : (began k : ℕ) (image : List ℕ) → IsMomentOf job parts new began k image → SettlesAs layout parts image ⊎ SettlesAs layout (freed_by layout test n parts) image
   moment_settles began k image is = elim (cases_lt (durable_at began job) k) [
     | inl late ↦ inr (elim (is.durable late) [ inl slot ↦ slot_settles image slot | inr after ↦ after_settles image after ])
     | inr early ↦ elim (is.opening early) [ inl before ↦ inl (before_settles image before) | inr slot ↦ inr (slot_settles image slot) ]
@@ -76,7 +73,7 @@ module _ (layout : Layout) (n : ℕ) (test : ℕ → Bool) (parts : ℕ → Part
 
   pub carried_frees : {V E W F : Type 0} (old now : View) (result : Result V E) (answer : Result W F)
       → Carries job parts new old now result → (OnOk result (EachLeft now (IsAfter job parts new)) → OnOk answer (EachLeft now (IsAfter job parts new)))
-      → FreesUnlinked layout parts freed old now answer
+      → FreesUnlinked layout parts (freed_by layout test n parts) old now answer
   carried_frees old now result answer carries ends = record {
     later = λ content told counts k image from up left. moment_settles old.now k image (carries.each_moment content told counts k image (omega (arith, from)) up left);
     ended = ends carries.ended;
@@ -90,7 +87,7 @@ module _ (layout : Layout) (n : ℕ) (test : ℕ → Bool) (parts : ℕ → Part
         → ((parts : ℕ → Part) (new : List InodePart) → IsChangeOf (job_for place packed 1) parts new → EachLeft old (IsBefore (job_for place packed 1) parts)
         → Carries (job_for place packed 1) parts new old now result)
         → EachLeft old (IsImageOf layout nothing_open parts) → (OnOk result (EachLeft now (IsAfter job parts new)) → OnOk answer (EachLeft now (IsAfter job parts new)))
-        → FreesUnlinked layout parts freed old now answer
+        → FreesUnlinked layout parts (freed_by layout test n parts) old now answer
     commit_frees old now result answer carried before ends =
         let change = subst (λ (j : Job). IsChangeOf j parts new) (sym job_is) (is_change layout inodes parts) in
         let stands = subst (λ (j : Job). EachLeft old (IsBefore j parts)) (sym job_is) before in

@@ -51,29 +51,26 @@ read_moments old mid image told calm rests counts k now from up left =
     subst (λ (l : List ℕ). ShowsTheSame l image) (sym (sole old image now told calm (rests.at_each_moment counts k now from up left))) (shows_itself image)
 
 module _ (image : List ℕ) (layout : Layout) (records : List (List ℕ)) (settles : SettlesRecords image layout records) (some : 0 < layout.inodes) (none : fault_of image ≡ None) where
-  abbrev parts : ℕ → Part
-  parts = settled_parts layout image
-
-  abbrev image_settles : SettlesAs layout parts image
+  abbrev image_settles : SettlesAs layout (settled_parts layout image) image
   image_settles = let stands = image_stands image layout records settles some none in record {
     opened = transaction_in layout image;
     stands = stands_settled layout (transaction_in layout image) (table_parts layout image) image stands;
     same = settled_again layout (transaction_in layout image) (table_parts layout image);
   }
 
-  freed_of : (freed : ℕ → Part) → AreUnlinkedFree layout parts freed → AreUnlinkedFree layout (parts_of layout image) freed
-  freed_of freed without i low = without i low ∙ ap (λ (p : Part). cond (is_unlinked p.raw) free_part p) (sym (settling_parts layout parts image image_settles i low))
+  freed_of : (freed : ℕ → Part) → AreUnlinkedFree layout (settled_parts layout image) freed → AreUnlinkedFree layout (parts_of layout image) freed
+  freed_of freed without i low = without i low ∙ ap (λ (p : Part). cond (is_unlinked p.raw) free_part p) (sym (settling_parts layout (settled_parts layout image) image image_settles i low))
 
-  pub settled_shows : (now : List ℕ) → SettlesAs layout parts now → ShowsTheSame now image
-  settled_shows now is = settling_shows_the_same layout parts now image is image_settles
+  pub settled_shows : (now : List ℕ) → SettlesAs layout (settled_parts layout image) now → ShowsTheSame now image
+  settled_shows now is = settling_shows_the_same layout (settled_parts layout image) now image is image_settles
 
-  pub freed_shows : (freed : ℕ → Part) → AreUnlinkedFree layout parts freed → (now : List ℕ) → SettlesAs layout freed now → ShowsTheSame now image
+  pub freed_shows : (freed : ℕ → Part) → AreUnlinkedFree layout (settled_parts layout image) freed → (now : List ℕ) → SettlesAs layout freed now → ShowsTheSame now image
   freed_shows freed without now is =
       freed_shows_the_same layout (parts_of layout image) (are_faultless image layout records settles some none) freed (freed_of freed without) now image
       (settling_is_readable layout freed now is) (readable image layout records settles some none) (λ i low. settling_parts layout freed now is i low) (λ i low. refl) none
 
   pub all_moments : {V E : Type 0} (old mid new : View) (result : Result V E) → old.content ≡ Some image → mid.content ≡ Some image → IsCalm old → Unwritten old mid → CountsOn new → Advances mid new
-      → RecoversTo layout parts mid new result → EachMoment old new (λ _ now. ShowsTheSame now image)
+      → RecoversTo layout (settled_parts layout image) mid new result → EachMoment old new (λ _ now. ShowsTheSame now image)
   all_moments old mid new result told mid_told calm rests counts goes to =
       EachMoment-trans old mid new (λ _ now. ShowsTheSame now image) counts goes
       (read_moments old mid image told calm rests (let l = goes.later in omega (arith, counts)))
@@ -82,7 +79,7 @@ module _ (image : List ℕ) (layout : Layout) (records : List (List ℕ)) (settl
         | inr freed ↦ freed_shows to.freed to.without now freed
       ])
 
-  pub all_ended : {V E : Type 0} (mid new : View) (result : Result V E) → RecoversTo layout parts mid new result → OnOk result (EachLeft new (IsRecoveredFrom image))
+  pub all_ended : {V E : Type 0} (mid new : View) (result : Result V E) → RecoversTo layout (settled_parts layout image) mid new result → OnOk result (EachLeft new (IsRecoveredFrom image))
   all_ended mid new result to = on_ok_weaker result (λ ended content told now left. record {
     parts = to.freed;
     without = subst (λ (l : Layout). AreUnlinkedFree l (parts_of l image) to.freed) settles.layout_is (freed_of to.freed to.without);

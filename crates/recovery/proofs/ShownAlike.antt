@@ -1,5 +1,5 @@
 -- Images that settle as the same parts show the same.
-use Rattle.std.proofs.Common.{◌≡◌, ℕ, ◌<◌, cond, List, Option, None, Some, sym, ◌∙◌, ap}
+use Rattle.std.proofs.Common.{◌≡◌, ℕ, ◌<◌, cond, List, Option, None, Some, sym, ◌∙◌, ap, subst}
 use Rattle.std.specs.Option.{is_none}
 use Rattle.std.specs.Prelude.{replicate}
 use Rattle.sfs_tree.specs.Tree.{TreeState}
@@ -11,6 +11,7 @@ use Rattle.image_tree.specs.Image.{ImageFault, inodes_shown, first_of_faults, im
 use Rattle.image_tree.specs.ImageTree.{Making, image_tree}
 use Rattle.image_tree.specs.Rules.{tree_fault}
 use Rattle.image_tree.proofs.Alike.{tree_alike}
+use Rattle.image_tree.proofs.WholeImages.{HasGoodStart}
 use Rattle.disk_tree.specs.Judged.{fault_of_parts}
 use Rattle.disk_tree.proofs.ToldRead.{fault_alike}
 use Rattle.recovery.specs.Recovered.{ShowsTheSame}
@@ -18,17 +19,22 @@ use Rattle.recovery.specs.Recovering.{SettlesAs}
 
 -- An image of a layout in whose superblock and journals nothing is wrong.
 pub record IsReadable (layout : Layout) (image : List ℕ) : Type 0 where
-  pub super : super_fault_of image ≡ None
+  pub start : HasGoodStart image
   pub divided : layout_of image ≡ layout
-  pub journals : journal_fault_of layout image ≡ None
+
+-- it has a good start by the journals of its layout
+pub readable_by : (layout : Layout) (image : List ℕ) → super_fault_of image ≡ None → layout_of image ≡ layout → journal_fault_of layout image ≡ None → IsReadable layout image
+readable_by layout image super divided journals = record {
+  start = record { super = super; journals = subst (λ (l : Layout). journal_fault_of l image ≡ None) (sym divided) journals };
+  divided = divided;
+}
 
 module _ (layout : Layout) (image : List ℕ) (is : IsReadable layout image) where
   -- its first fault is that of its parts
   pub fault_by_parts : fault_of image ≡ first_of_faults None None (fault_of_parts layout (parts_of layout image))
   fault_by_parts =
-      ap (λ (super : Option ℕ). first_of_faults super (journal_fault_of (layout_of image) image) (tree_fault (breaks_bytes_of image) (image_inodes image))) is.super
-      ∙ ap (λ (l : Layout). first_of_faults None (journal_fault_of l image) (tree_fault (breaks_bytes_of image) (image_inodes image))) is.divided
-      ∙ ap (λ (journal : Option SlotFault). first_of_faults None journal (tree_fault (breaks_bytes_of image) (image_inodes image))) is.journals
+      ap (λ (super : Option ℕ). first_of_faults super (journal_fault_of (layout_of image) image) (tree_fault (breaks_bytes_of image) (image_inodes image))) is.start.super
+      ∙ ap (λ (journal : Option SlotFault). first_of_faults None journal (tree_fault (breaks_bytes_of image) (image_inodes image))) is.start.journals
       ∙ ap (λ (l : Layout). first_of_faults None None (fault_of_parts l (parts_of l image))) is.divided
 
 -- what a tree has at a mount of an image of a layout
@@ -62,7 +68,7 @@ module _ (layout : Layout) (parts : ℕ → Part) (image : List ℕ) (settles : 
   pub settling_is_readable : IsReadable layout image
   settling_is_readable =
       let read = read_as layout settles.opened parts image settles.stands in
-      record { super = read.super; divided = settles.stands.divided; journals = read.journals }
+      readable_by layout image read.super settles.stands.divided read.journals
 
   pub settling_parts : (i : ℕ) → i < layout.inodes → parts_of layout image i ≡ parts i
   settling_parts i low = (read_as layout settles.opened parts image settles.stands).settles i low ∙ settles.same i

@@ -66,26 +66,23 @@ stands_closed layout opened parts image is shut = record {
 module _ (layout : Layout) (parts : ℕ → Part) (found : List OpenSlot) (last : Option ℕ) (place : ℕ) (one : OpenSlot) (within : one.number < slot_count layout)
     (oldest : IsOldestAbove found (length found) last place one) (was image : List ℕ) (to : IsToBeClosed layout parts found last was)
     (same : SameOutside (slot_byte layout one.number) 1 was image) where
-  abbrev opened : ℕ → Option Transaction
-  opened = to.settles.opened
-
-  own : IsFoundAt opened one
+  own : IsFoundAt to.settles.opened one
   own = to.still_open.still place one oldest.at oldest.above
 
   -- of the slots that are open no two have one commit stamp
-  apart_by_number : (other : OpenSlot) → other.number < slot_count layout → IsFoundAt opened other → other.number ≢ one.number → one.stamp ≡ other.stamp → ⊥
+  apart_by_number : (other : OpenSlot) → other.number < slot_count layout → IsFoundAt to.settles.opened other → other.number ≢ one.number → one.stamp ≡ other.stamp → ⊥
   apart_by_number other low there apart stamps =
       apart (to.settles.stands.stamps other.number one.number there.transaction own.transaction low within there.is_open own.is_open
       (there.stamp ∙ sym stamps ∙ sym own.stamp))
 
-  is_oldest : IsOldest layout opened one.number own.transaction
+  is_oldest : IsOldest layout to.settles.opened one.number own.transaction
   is_oldest j other low apart open_with = elim (to.still_open.others j low) [
     | inl none ↦ absurd (let never : None ≡ Some other = sym none ∙ open_with in cc)
     | inr there ↦
         let slot = there.1 in
         let found_at = to.still_open.still there.0 slot there.2 there.4 in
         let number : slot.number ≡ j = there.3 in
-        let transaction : Some found_at.transaction ≡ Some other = sym found_at.is_open ∙ ap opened number ∙ open_with in
+        let transaction : Some found_at.transaction ≡ Some other = sym found_at.is_open ∙ ap to.settles.opened number ∙ open_with in
         let stamp : other.stamp ≡ slot.stamp = ap (λ (t : Transaction). t.stamp) (sym (some_same transaction)) ∙ found_at.stamp in
         let le = oldest.least there.0 slot there.2.within there.2 there.4 in
         let distinct : one.stamp ≡ slot.stamp → ⊥ =
@@ -100,8 +97,8 @@ module _ (layout : Layout) (parts : ℕ → Part) (found : List OpenSlot) (last 
   -- the gate may stay open
   pub gate_stays_open : (head_of (part 0 4096 (journal_slot layout image one.number))).gate ≡ true → SettlesAs layout parts image
   gate_stays_open gate = record {
-    opened = opened;
-    stands = gate_written layout opened parts one.number was image to.settles.stands (record {
+    opened = to.settles.opened;
+    stands = gate_written layout to.settles.opened parts one.number was image to.settles.stands (record {
       within = within;
       written = agrees;
       gate = gate ∙ sym open_before;
@@ -113,48 +110,48 @@ module _ (layout : Layout) (parts : ℕ → Part) (found : List OpenSlot) (last 
       open_before = (subst (λ (o : Option Transaction). IsSlotOf layout.inodes o (journal_slot layout was one.number)) own.is_open (to.settles.stands.slots one.number within)).gate
 
   module _ (gate : (head_of (part 0 4096 (journal_slot layout image one.number))).gate ≡ false) where
-    shuts : ShutsGate layout opened one.number was image
+    shuts : ShutsGate layout to.settles.opened one.number was image
     shuts = record {
       within = within;
       written = agrees;
-      may = oldest_may_shut layout opened parts one.number own.transaction was within own.is_open is_oldest (inl to.full);
+      may = oldest_may_shut layout to.settles.opened parts one.number own.transaction was within own.is_open is_oldest (inl to.full);
       gate = gate;
     }
 
     abbrev others_open : ℕ → Option Transaction
-    others_open = with_slot opened one.number None
+    others_open = with_slot to.settles.opened one.number None
 
-    again : with_opened layout opened parts ≡ parts
+    again : with_opened layout to.settles.opened parts ≡ parts
     again = fun_ext to.settles.same
 
     stands_then : IsImageOf layout others_open parts image
-    stands_then = subst (λ (p : ℕ → Part). IsImageOf layout others_open p image) again (gate_shuts layout opened parts one.number was image to.settles.stands shuts).stands
+    stands_then = subst (λ (p : ℕ → Part). IsImageOf layout others_open p image) again (gate_shuts layout to.settles.opened parts one.number was image to.settles.stands shuts).stands
 
     same_then : (i : ℕ) → with_opened layout others_open parts i ≡ parts i
     same_then i =
         ap (λ (p : ℕ → Part). with_opened layout others_open p i) (sym again)
-        ∙ (gate_shuts layout opened parts one.number was image to.settles.stands shuts).same i ∙ to.settles.same i
+        ∙ (gate_shuts layout to.settles.opened parts one.number was image to.settles.stands shuts).same i ∙ to.settles.same i
 
     full_then : IsFullTable layout others_open parts image
-    full_then = subst (λ (p : ℕ → Part). IsFullTable layout others_open p image) again (tables_stay_full layout opened parts one.number was image to.settles.stands shuts to.full)
+    full_then = subst (λ (p : ℕ → Part). IsFullTable layout others_open p image) again (tables_stay_full layout to.settles.opened parts one.number was image to.settles.stands shuts to.full)
 
     still_then : AreOpenAbove layout found (Some one.stamp) others_open
     still_then = record {
       still = λ k other at above.
           let there = to.still_open.still k other at (above_again last one.stamp other.stamp oldest.above above) in
           let apart : other.number ≢ one.number = λ e.
-          let t : Some there.transaction ≡ Some own.transaction = sym there.is_open ∙ ap opened e ∙ own.is_open in
+          let t : Some there.transaction ≡ Some own.transaction = sym there.is_open ∙ ap to.settles.opened e ∙ own.is_open in
           let stamps : other.stamp ≡ one.stamp = sym there.stamp ∙ ap (λ (t : Transaction). t.stamp) (some_same t) ∙ own.stamp in
           not_less_itself one.stamp (subst (λ n. one.stamp < n) stamps (above_less one.stamp other.stamp above)) in
           record {
             transaction = there.transaction;
-            is_open = with_slot-other opened one.number None other.number apart ∙ there.is_open;
+            is_open = with_slot-other to.settles.opened one.number None other.number apart ∙ there.is_open;
             stamp = there.stamp;
           };
       others = λ j low. elim (cases_eq j one.number) [
-        | inl here ↦ inl (ap others_open here ∙ with_slot-same opened one.number None)
+        | inl here ↦ inl (ap others_open here ∙ with_slot-same to.settles.opened one.number None)
         | inr apart ↦ elim (to.still_open.others j low) [
-          | inl none ↦ inl (with_slot-other opened one.number None j apart ∙ none)
+          | inl none ↦ inl (with_slot-other to.settles.opened one.number None j apart ∙ none)
           | inr there ↦
               let slot = there.1 in
               let found_at = to.still_open.still there.0 slot there.2 there.4 in

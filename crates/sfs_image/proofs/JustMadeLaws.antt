@@ -40,7 +40,7 @@ empty_is_inode = record {
 }
 
 -- nothing is wrong in a record of zeros
-zeros_are_sound : inode_fault (zeros 512) ≡ None
+pub zeros_are_sound : inode_fault (zeros 512) ≡ None
 unfolding zeros
 zeros_are_sound = refl
 

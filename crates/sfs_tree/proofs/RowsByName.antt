@@ -81,7 +81,12 @@ point_of f P [] k lt h d = absurd (omega arith)
 point_of f P (x ∷ xs) zero lt h d = h x
 point_of f P (x ∷ xs) (suc k) lt h d = point_of f P xs k (omega arith) h d
 
-less_true : (o : Ordering) → is_lt o ≡ true → o ≡ Less
+-- where a name stands among rows, it stands among the same rows by the same bytes
+pub same_place : (rows other : List NameRow) (bytes name : List ℕ) (place : ℕ) → rows ≡ other → bytes ≡ name → IsPlaceOf (map name_and_child rows) bytes place → IsPlaceOf (map name_and_child other) name place
+same_place rows other bytes name place same_rows same_name is =
+    subst (λ n. IsPlaceOf (map name_and_child other) n place) same_name (subst (λ r. IsPlaceOf (map name_and_child r) bytes place) same_rows is)
+
+pub less_true : (o : Ordering) → is_lt o ≡ true → o ≡ Less
 less_true o e = elim o as (λ r. is_lt r ≡ true → r ≡ Less) [ Less ↦ λ _. refl | _ ↦ λ h. cc ] e
 
 not_less : (o : Ordering) → is_lt o ≡ false → o ≢ Less

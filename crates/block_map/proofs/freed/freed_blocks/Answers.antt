@@ -33,6 +33,6 @@ pub returns : goal.returns
 returns c =
     let k_is : c.loop-k.k ≡ 16 = omega (arith, c.loop-k.auto.k-end) in
     let of_all = of_data c.args.inode.now c.args.tables.now.items c.args.changed.now.items c.as_slice-one-items.ensures.ascending in
-    let of_each = of_table c.args.inode.now c.args.tables.now.items c.args.changed.now.items c.as_slice-one-items.ensures.ascending in
+    let of_each = of_table (rewrite_of c.args.inode.now c.args.tables.now.items c.args.changed.now.items) c.args.inode.now in
     let all = c.loop-k.invariant ∙ ap (λ k. flat_map of_all c.args.changed.now.items ++ flat_map of_each (range_with_len 0 k)) k_is in
     are_freed c.args.inode.now c.args.tables.now.items c.args.changed.now.items c.as_slice-one-items.ensures.ascending c.loop-k.freed.items c.sort_unstable.new.self.items _ all c.sort_unstable.ensures.permutation c.sort_unstable.ensures.sorted (ap (λ l. l.items) c.from_vec.ensures ∙ dedup_is _ c.sort_unstable.new.self.items _ c.dedup.ensures.filtered)

@@ -1,17 +1,16 @@
-use Rattle.std.proofs.Common.{◌++◌, ◌+◌, ◌≡◌, ℕ, [], ◌∷◌, Option, Some, None, refl, sym, ap, ◌∙◌, filter_map}
+use Rattle.std.proofs.Common.{◌++◌, ◌+◌, ◌≡◌, ℕ, [], ◌∷◌, Option, sym, ap, ◌∙◌, filter_map}
 use Rattle.std.specs.Prelude.{option_to_list}
-use Rattle.std.specs.List.{range_with_len, cons_option}
+use Rattle.std.specs.List.{range_with_len}
 use Rattle.std.proofs.lemmas.List.{append_assoc}
 use Rattle.std.proofs.lemmas.List.Elements.{filter_map-append}
 use Rattle.sfs_base.proofs.BasicNumbers.{zero_plus}
-use Rattle.block_map.proofs.Places.{range_more}
+use Rattle.block_map.proofs.Places.{as_list, range_more}
 use Rattle.disk_change.specs.Fresh.{table_of_place}
 use Rattle.disk_change.proofs.fresh.push_tables.Goals as goal
-use Rattle.disk_change.proofs.Directories.{alone}
 
 one_more : {Y : Type 0} (f : ℕ → Option Y) (k : ℕ) → filter_map f (range_with_len 0 (k + 1)) ≡ filter_map f (range_with_len 0 k) ++ option_to_list (f k)
 one_more f k =
-    ap (filter_map f) (range_more 0 k ∙ ap (λ m. range_with_len 0 k ++ m ∷ []) (zero_plus k)) ∙ filter_map-append f (range_with_len 0 k) (k ∷ []) ∙ ap (λ rest. filter_map f (range_with_len 0 k) ++ rest) (alone (f k))
+    ap (filter_map f) (range_more 0 k ∙ ap (λ m. range_with_len 0 k ++ m ∷ []) (zero_plus k)) ∙ filter_map-append f (range_with_len 0 k) (k ∷ []) ∙ ap (λ rest. filter_map f (range_with_len 0 k) ++ rest) (as_list (f k))
 
 pub loop-k-preserved : goal.loop-k-preserved
 loop-k-preserved c =

@@ -1,19 +1,19 @@
-use Rattle.std.proofs.Common.{◌<◌, ◌++◌, length, sym, ap, ◌∙◌, arith, get_or, filter_map, List, ℕ}
+use Rattle.std.proofs.Common.{◌<◌, ◌++◌, length, sym, ap, ◌∙◌, arith, get_or, filter_map, List, ℕ, Option}
 use Rattle.std.proofs.lemmas.List.{take_all}
 use Rattle.std.proofs.lemmas.List.Sorted.{sum_by-IsPermutation}
+use Rattle.sfs_base.specs.declared.numbers.NodeId.{NodeId}
 use Rattle.disk_change.specs.Links.{linked_by, rows_coming, rows_going, times_in}
+use Rattle.absorb.specs.declared.nets.NetRow.{NetRow}
 use Rattle.disk_change.specs.declared.directory_net.DirectoryNet.{DirectoryNet}
 use Rattle.disk_change.proofs.Counted.{flat_map_last}
 use Rattle.disk_change.proofs.links.LinkChanges.of.Goals as goal
 
-coming_of : List ℕ → DirectoryNet → List ℕ
-coming_of dirs one = filter_map (λ row. linked_by dirs one.node.0 row.after) one.net.items
-
-going_of : List ℕ → DirectoryNet → List ℕ
-going_of dirs one = filter_map (λ row. linked_by dirs one.node.0 row.before) one.net.items
+-- the directories that a net names on one side, before or after
+linked_of : (NetRow → Option NodeId) → List ℕ → DirectoryNet → List ℕ
+linked_of side dirs one = filter_map (λ row. linked_by dirs one.node.0 (side row)) one.net.items
 
 pub loop-one-preserved : goal.loop-one-preserved
-unfolding coming_of going_of
+unfolding linked_of
 loop-one-preserved c =
     let dirs = c.args.directories.now in
     let same = c.as_slice-one-items.ensures.items in
@@ -21,8 +21,8 @@ loop-one-preserved c =
     let within : c.loop-one.one-index < length c.args.nets.now.items = omega arith in
     let one = c.one-item.is ∙ ap (λ those. get_or those c.loop-one.one-index c.one-item.result) same in
     record {
-      coming = c.in_ok-push_rows.ensures.coming ∙ (λ i. c.loop-one.invariant.coming i ++ coming_of dirs (one i)) ∙ sym (flat_map_last (coming_of dirs) c.args.nets.now.items c.loop-one.one-index c.one-item.result within);
-      going = c.in_ok-push_rows.ensures.going ∙ (λ i. c.loop-one.invariant.going i ++ going_of dirs (one i)) ∙ sym (flat_map_last (going_of dirs) c.args.nets.now.items c.loop-one.one-index c.one-item.result within);
+      coming = c.in_ok-push_rows.ensures.coming ∙ (λ i. c.loop-one.invariant.coming i ++ linked_of (λ row. row.after) dirs (one i)) ∙ sym (flat_map_last (linked_of (λ row. row.after) dirs) c.args.nets.now.items c.loop-one.one-index c.one-item.result within);
+      going = c.in_ok-push_rows.ensures.going ∙ (λ i. c.loop-one.invariant.going i ++ linked_of (λ row. row.before) dirs (one i)) ∙ sym (flat_map_last (linked_of (λ row. row.before) dirs) c.args.nets.now.items c.loop-one.one-index c.one-item.result within);
     }
 
 pub returns-clause-coming : goal.returns-clause-coming
