@@ -8,19 +8,15 @@ use Rattle.std.proofs.lemmas.List.{nil_from_length}
 use Rattle.sfs_base.proofs.BasicOptions.{none_some, some_same}
 use Rattle.sfs_base.specs.Name.{bucket}
 use Rattle.sfs_base.specs.declared.numbers.Kind.TheVariants.{File, Directory}
-use Rattle.sfs_image.specs.Bytes.{zeros}
-use Rattle.sfs_image.specs.ImageOf.{IsJustMade, empty_directory}
-use Rattle.sfs_image.specs.Inode.{Inode, inode_of}
+use Rattle.sfs_image.specs.ImageOf.{IsJustMade}
+use Rattle.sfs_image.specs.Inode.{Inode}
 use Rattle.sfs_image.specs.Laws.{ShowsRootAlone}
-use Rattle.sfs_image.specs.Part.{Part, part_of, pointer_at, seen_of, tabulate, file_byte, shown_bytes, shown_slots}
-use Rattle.sfs_image.specs.Settled.{image_block, parts_of, table_record, journal_fault_of}
+use Rattle.sfs_image.specs.Part.{Part, seen_of, tabulate, file_byte, shown_bytes, shown_slots}
+use Rattle.sfs_image.specs.Settled.{parts_of, journal_fault_of}
 use Rattle.sfs_image.specs.Slot.{Row, kind_byte}
 use Rattle.sfs_image.specs.SlotBlock.{slots_of}
 use Rattle.sfs_image.specs.Super.{Layout}
-use Rattle.sfs_image.proofs.BytesLaws.{length-zeros, zeros-byte}
-use Rattle.sfs_image.proofs.JustMadeLaws.{just_made_shows}
-use Rattle.sfs_image.proofs.PartLaws.{free_has_none, holes_have_none}
-use Rattle.sfs_image.proofs.AcceptedLaws.{raw_of}
+use Rattle.sfs_image.proofs.JustMadeLaws.{just_made_shows, has_none}
 use Rattle.sfs_tree.specs.Build.{root_alone}
 use Rattle.sfs_tree.specs.Order.{Key, key_cmp}
 use Rattle.sfs_tree.specs.Tree.{BUCKET_ROWS, Node, TreeState, bucket_rows, count_of, holds_directory, name_row, kind_of, bytes_of, links_of, is_directory, is_directory_kind}
@@ -34,7 +30,6 @@ use Rattle.image_tree.specs.Slots.{BLOCK_SLOTS, looked_up, name_count}
 use Rattle.image_tree.specs.Stands.{BLOCK_BYTES, row_on, ShowsNode, StandsForSoundTree}
 use Rattle.image_tree.proofs.WholeImages.{standing_images_are_read}
 use Rattle.recovery.specs.Mkfs.{JustMadeHasRootAlone}
-use Rattle.recovery.proofs.FreePart.{zeros_are_sound}
 
 -- the root has its own number, and no other node has one
 abbrev root_numbered : Numbering
@@ -53,8 +48,8 @@ module _ (layout : Layout) (image : List ℕ) (is : IsJustMade layout image) (sh
   abbrev tree : TreeState
   tree = root_alone layout.inodes share layout.cores
 
-  abbrev part : ℕ → Part
-  part i = parts_of layout image i
+  abbrev root_part : Part
+  root_part = parts_of layout image 0
 
   -- the root's node
   abbrev root_node : Node
@@ -78,11 +73,11 @@ module _ (layout : Layout) (image : List ℕ) (is : IsJustMade layout image) (sh
     | inr none ↦ ap (λ (o : Option Node). option_map_or (λ n. n.bytes) o []) none
   ]
 
-  no_slots : shown_slots (part 0) ≡ []
-  no_slots = ap (λ (inode : Inode). cond (eqb inode.kind 2) (flat_map slots_of (take (inode.size / 4096) (part 0).blocks)) []) shows.root
+  no_slots : shown_slots root_part ≡ []
+  no_slots = ap (λ (inode : Inode). cond (eqb inode.kind 2) (flat_map slots_of (take (inode.size / 4096) root_part.blocks)) []) shows.root
 
-  bytes_none : shown_bytes (part 0) ≡ []
-  bytes_none = ap (λ (inode : Inode). cond (eqb inode.kind 1) (tabulate inode.size (file_byte (part 0))) []) shows.root
+  bytes_none : shown_bytes root_part ≡ []
+  bytes_none = ap (λ (inode : Inode). cond (eqb inode.kind 1) (tabulate inode.size (file_byte root_part)) []) shows.root
 
   root_kind : kind_of tree 0 ≡ Directory
   root_kind = ap (λ (o : Option Node). option_map_or (λ n. n.kind) o File) root_there
@@ -104,29 +99,18 @@ module _ (layout : Layout) (image : List ℕ) (is : IsJustMade layout image) (sh
       ∙ ap (filter_map (name_row directory (λ name. eqb (bucket name) number))) no_rows) in
       omega (arith, none)
 
-  root_shown : ShowsNode root_numbered tree 0 (seen_of (part 0))
+  root_shown : ShowsNode root_numbered tree 0 (seen_of root_part)
   root_shown = record {
     kind = ap (λ (inode : Inode). inode.kind) shows.root ∙ sym (ap kind_byte root_kind);
     links = ap (λ (inode : Inode). inode.links) shows.root ∙ root_links;
     size = ap (λ (inode : Inode). inode.size) shows.root
-        ∙ sym (ap (λ (inode : Inode). cond (eqb inode.kind 2) (BLOCK_BYTES * (length (shown_slots (part 0)) / BLOCK_SLOTS)) (length (shown_bytes (part 0)))) shows.root ∙ ap (λ (l : List (Option Row)). BLOCK_BYTES * (length l / BLOCK_SLOTS)) no_slots);
+        ∙ sym (ap (λ (inode : Inode). cond (eqb inode.kind 2) (BLOCK_BYTES * (length (shown_slots root_part) / BLOCK_SLOTS)) (length (shown_bytes root_part))) shows.root ∙ ap (λ (l : List (Option Row)). BLOCK_BYTES * (length l / BLOCK_SLOTS)) no_slots);
     bytes = bytes_none ∙ sym (no_bytes 0);
     slots = λ name. ap (looked_up name) no_slots ∙ sym (ap (option_map (row_on root_numbered tree name)) (get-empty key_cmp (0, name)));
     once = λ name. subst (λ (l : List (Option Row)). name_count name l ≤ 1) (sym no_slots) (omega arith);
   }
 
-  has_none : (i : ℕ) → i < layout.inodes → (place : ℕ) → pointer_at (part i) place ≡ 0
-  has_none i low place = elim (cases_eq i 0) [
-    | inl here ↦ ap (λ (j : ℕ). pointer_at (part j) place) here ∙ ap (λ (raw : List ℕ). pointer_at (part_of (image_block image) raw) place) (shows.settles 0)
-        ∙ holes_have_none (image_block image) (table_record layout image 0) (ap (λ (inode : Inode). inode.direct) root_inode) (ap (λ (inode : Inode). inode.indirect) root_inode) place
-    | inr other ↦ ap (λ (raw : List ℕ). pointer_at (part_of (image_block image) raw) place) (shows.settles i ∙ is.free i low other)
-        ∙ free_has_none (image_block image) (zeros 512) (length-zeros 512) zeros_are_sound (zeros-byte 512 0) place
-  ]
-    where
-      root_inode : inode_of (table_record layout image 0) ≡ empty_directory
-      root_inode = ap inode_of (sym (ap (λ (raw : List ℕ). (part_of (image_block image) raw).raw) (shows.settles 0) ∙ raw_of (image_block image) (table_record layout image 0))) ∙ shows.root
-
-  stands : StandsForSoundTree root_numbered tree (inodes_shown layout part)
+  stands : StandsForSoundTree root_numbered tree (inodes_shown layout (parts_of layout image))
   stands = record {
     sound = (root_alone_is_sound layout.inodes share layout.cores (let l = is.fits.ranges.inodes_low in omega (arith, l))).sound;
     storable = record {
@@ -138,13 +122,13 @@ module _ (layout : Layout) (image : List ℕ) (is : IsJustMade layout image) (sh
       once = λ node twin i has other. (only_root node i has).0 ∙ sym (only_root twin i other).0;
       within = λ node i has. subst (λ j. j < layout.inodes) (sym (only_root node i has).1) (let l = is.fits.ranges.inodes_low in omega (arith, l));
       named = λ directory name child row. absurd (none_some (sym (get-empty key_cmp (directory, name)) ∙ row));
-      each = λ node i has. subst (λ j. ShowsNode root_numbered tree j (seen_of (part i))) (sym (only_root node i has).0)
-          (subst (λ j. ShowsNode root_numbered tree 0 (seen_of (part j))) (sym (only_root node i has).1) root_shown);
+      each = λ node i has. subst (λ j. ShowsNode root_numbered tree j (seen_of (parts_of layout image i))) (sym (only_root node i has).0)
+          (subst (λ j. ShowsNode root_numbered tree 0 (seen_of (parts_of layout image j))) (sym (only_root node i has).1) root_shown);
       rest = λ i low. elim (cases_eq i 0) [
         | inl here ↦ inl (0, sym (ap (λ (j : ℕ). Some j) here))
-        | inr other ↦ inr (record { kind = eqb-true _ 0 (shows.free i low other); blocks = λ place within. has_none i low place })
+        | inr other ↦ inr (record { kind = eqb-true _ 0 (shows.free i low other); blocks = λ place within. has_none layout image is i low place })
       ];
-      apart = λ i place j other low inside within there held same. absurd (held (has_none i low place));
+      apart = λ i place j other low inside within there held same. absurd (held (has_none layout image is i low place));
     };
   }
 

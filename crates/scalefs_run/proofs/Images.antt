@@ -1,16 +1,15 @@
 -- An image is made, shown or refused.
-use Rattle.std.proofs.Common.{◌≡◌, ◌≢◌, ℕ, ◌+◌, ◌<◌, ◌≤◌, Bool, true, false, cond, List, Option, None, Some, Result, Ok, Err, OnOk, refl, sym, ap, subst, ◌∙◌, arith}
-use Rattle.std.specs.Prelude.{nat_lt, is_none}
+use Rattle.std.proofs.Common.{◌≡◌, ℕ, false, cond, List, Option, None, Some, Err, refl, sym, ap, subst, ◌∙◌}
+use Rattle.std.specs.Prelude.{nat_lt}
 use borrow.Author.Tests.{le-ltb}
 use Rattle.sfs_base.specs.Ends.{HasRisen}
-use Rattle.sfs_base.proofs.BasicOptions.{some_same, none_some}
+use Rattle.sfs_base.proofs.BasicOptions.{none_some}
 use Rattle.sfs_base.proofs.BasicTruth.{false_not_true}
-use Rattle.sfs_image.specs.Super.{Layout, IsLayout, data_start}
-use Rattle.sfs_tree.specs.Tree.{TreeState}
+use Rattle.sfs_image.specs.Super.{Layout, IsLayout}
 use Rattle.sfs_dev.specs.Disk.{View, OnlyTold, images}
 use Rattle.sfs_dev.specs.Run.{CountsOn, EachMoment, HasReadCause, Unwritten}
 use Rattle.sfs_dev.specs.Steps.{IfTold}
-use Rattle.image_tree.specs.Image.{ImageFault as Fault, fault_of, tree_of}
+use Rattle.image_tree.specs.Image.{ImageFault as Fault, fault_of}
 use Rattle.journal_one.specs.Calls.{IsCalm}
 use Rattle.journal_one.specs.Known.{EachLeft}
 use Rattle.recovery.specs.Cause.{is_recover_disk_fault}
@@ -24,8 +23,8 @@ use Rattle.recovery.proofs.JudgedImage.{has_no_fault}
 use Rattle.recovery.proofs.RootAlone.{just_made_has_root_alone}
 use Rattle.script.specs.TreeTexts.{tree_text}
 use Rattle.scalefs_run.specs.declared.outcome.Status.{Status}
-use Rattle.scalefs_run.specs.declared.outcome.Status.TheVariants.{Done, WriteFault, NoMemory, BadImage, DiskFault, TooSmall}
-use Rattle.scalefs_run.specs.Image.{blocks_wanted, making_due, layout_text, has_text, MakesImage, showing_due, status_of_recovery, IsRefused, ShowsImage}
+use Rattle.scalefs_run.specs.declared.outcome.Status.TheVariants.{Done, NoMemory, BadImage, DiskFault, TooSmall}
+use Rattle.scalefs_run.specs.Image.{blocks_wanted, making_due, layout_text, has_text, MakesImage, showing_due, status_of_recovery, IsImageRefused, ShowsImage}
 use Rattle.scalefs_run.specs.Outcome.{HasStatus, HasText, IsWriteStatus, IsCommand, ComesToDisk}
 use Rattle.scalefs_run.proofs.Serving.{write_status}
 
@@ -62,7 +61,7 @@ image_shown old new report Sink before after status is moments ended wrote text 
   recovered = λ image told calm has. ended image told calm;
 }
   where
-    not_refused : (status : Status) → IsWriteStatus Sink status → IsRefused status → Unwritten old new
+    not_refused : (status : Status) → IsWriteStatus Sink status → IsImageRefused status → Unwritten old new
     not_refused (BadImage fault) wrote refused = absurd wrote
     not_refused _ wrote refused = absurd refused
 
@@ -86,7 +85,7 @@ due_comes (Some image) = by (fault_of image)
 module _ (old new : View) (Sink : Type 0) (written : Option (List ℕ)) (moments : IfTold old.content (λ image. IsCalm old → CountsOn new → EachMoment old new (λ _ now. ShowsTheSame now image))) where
   -- a call that ends without a tree
   ends_without : (due status : Status) → IfTold old.content (λ image. due ≡ showing_due (fault_of image)) → HasStatus due ⊥ Sink (HasRisen old.faults new.faults) status → has_text status ≡ false
-      → (IsRefused status → Unwritten old new) → ShowsImage Sink written written old new status
+      → (IsImageRefused status → Unwritten old new) → ShowsImage Sink written written old new status
   ends_without due status told is no_text refused = record {
     due = due;
     due_told = told;

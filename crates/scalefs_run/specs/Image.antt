@@ -75,9 +75,9 @@ HasTreeText (Some tree) before after status = HasText (tree_text tree) before af
 HasTreeText None before after status = (has_text status ≡ false) × (after ≡ before)
 
 -- an image was refused
-abbrev pub IsRefused : Status → Type 0
-IsRefused (BadImage fault) = Unit {0}
-IsRefused _ = ⊥
+abbrev pub IsImageRefused : Status → Type 0
+IsImageRefused (BadImage fault) = Unit {0}
+IsImageRefused _ = ⊥
 
 -- The image of a disk was shown: the status has its cause, which is the image's first fault where it has one, and the text of its tree was
 -- written. Each image that a crash during the call may leave shows the same; a refused image was not written to; and a shown one is recovered.
@@ -89,5 +89,5 @@ pub record ShowsImage (Sink : Type 0) (before after : Option (List ℕ)) (old ne
   pub tree_told : IfTold old.content (λ image. (read : TreeState) → tree ≡ Some read → tree_of image 0 ≡ Some read)
   pub text : HasTreeText tree before after status
   pub moments : IfTold old.content (λ image. IsCalm old → CountsOn new → EachMoment old new (λ _ now. ShowsTheSame now image))
-  pub refused : IsRefused status → Unwritten old new
+  pub refused : IsImageRefused status → Unwritten old new
   pub recovered : IfTold old.content (λ image. IsCalm old → has_text status ≡ true → EachLeft new (IsRecoveredFrom image))

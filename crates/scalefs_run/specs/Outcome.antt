@@ -13,7 +13,6 @@ use Rattle.script.specs.Follows.{Follows, FollowsSoFar}
 use Rattle.script.specs.Lines.{lines}
 use Rattle.script.specs.Phases.{phases_of}
 use Rattle.script.specs.Faults.{MOST_BYTES, MOST_LINES, IsShort}
-use Rattle.script.specs.Texts.{history_text}
 use Rattle.scalefs_run.specs.declared.outcome.ImageFault.{ImageFault}
 use Rattle.scalefs_run.specs.declared.outcome.ImageFault.TheVariants.{Super, Journal, Tree}
 use Rattle.scalefs_run.specs.declared.outcome.Status.{Status}

@@ -41,8 +41,8 @@ from_least place least None = Err place
 from_least place least (Some number) = if nat_le least number then Ok number else Err place
 
 -- the number that a word spells, where it is in its range; else the word is bad at this place
-abbrev pub number_in : ℕ → ℕ → ℕ → List ℕ → Result ℕ ℕ
-number_in place least most word = from_least place least (number_up_to most word)
+abbrev pub number_asked : ℕ → ℕ → ℕ → List ℕ → Result ℕ ℕ
+number_asked place least most word = from_least place least (number_up_to most word)
 
 -- `run`, with this number of new nodes
 abbrev pub run_of : Result ℕ ℕ → Result Command ℕ
@@ -59,15 +59,15 @@ mkfs_of (Ok blocks) (Ok inodes) (Ok cores) = Ok (Mkfs blocks inodes cores)
 -- the words `run`, `run NODES`, `show` and `mkfs BLOCKS INODES CORES`; no others are a command
 abbrev pub command_in : List (List ℕ) → Result Command ℕ
 command_in (word ∷ []) = if bytes_eq word (codes "run") then Ok (Run NODES) else if bytes_eq word (codes "show") then Ok Show else Err 0
-command_in (word ∷ nodes ∷ []) = if bytes_eq word (codes "run") then run_of (number_in 1 1 MOST_NODES nodes) else Err 0
+command_in (word ∷ nodes ∷ []) = if bytes_eq word (codes "run") then run_of (number_asked 1 1 MOST_NODES nodes) else Err 0
 command_in (word ∷ blocks ∷ inodes ∷ cores ∷ []) =
     if bytes_eq word (codes "mkfs")
-    then mkfs_of (number_in 1 LEAST_BLOCKS MOST_BLOCKS blocks) (number_in 2 LEAST_INODES MOST_INODES inodes) (number_in 3 1 MOST_CORES cores) else Err 0
+    then mkfs_of (number_asked 1 LEAST_BLOCKS MOST_BLOCKS blocks) (number_asked 2 LEAST_INODES MOST_INODES inodes) (number_asked 3 1 MOST_CORES cores) else Err 0
 command_in _ = Err 0
 
 -- What the words ask for, or the place at which they are bad: 0 where one begins with `-` or they are no command.
-abbrev pub command_of : List (List ℕ) → Result Command ℕ
-command_of words = if list_any begins_with_dash words then Err 0 else command_in words
+abbrev pub command_asked : List (List ℕ) → Result Command ℕ
+command_asked words = if list_any begins_with_dash words then Err 0 else command_in words
 
 -- a number is from one bound to the other
 pub record IsFromTo (least most number : ℕ) : Type 0 where

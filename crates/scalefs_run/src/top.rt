@@ -8,7 +8,7 @@ ghost use Rattle.script.specs.Faults.{IsShort};
 ghost use Rattle.script.specs.Ready.{LinesMayRun};
 ghost use Rattle.scalefs_run.specs.Commands.{ServedWords, ServedCommand, SurvivesWords, SurvivesCommand, HasAreasFor, HasAreas};
 ghost use Rattle.scalefs_run.specs.Outcome.{IsOf, HasText, IsWriteStatus, HasReadFault, status_of_source, status_of_script, workers_status, reaches_disk};
-ghost use Rattle.scalefs_run.specs.Words.{CORES as CORE_COUNT, MOST_SHARE, MOST_NODES, IsInRange, command_of, share_of};
+ghost use Rattle.scalefs_run.specs.Words.{CORES as CORE_COUNT, MOST_SHARE, MOST_NODES, IsInRange, command_asked, share_of};
 ghost use Rattle.scalefs_run.specs.WithoutCore.{worker_without_core, HaveCores};
 ghost use Rattle.scalefs_run.specs.Served.{Served, ServedScript};
 ghost use Rattle.scalefs_run.specs.Crash.{AcksRise, Survives};
@@ -17,7 +17,7 @@ use crate::engine::{mount, serve};
 use crate::first::CORES;
 use crate::image::{make_image, show_image, write_text};
 use crate::without_core::first_worker_without_core;
-use crate::words::{Command, command_of};
+use crate::words::{Command, command_asked};
 use crate::{Outcome, Status};
 use area_pair::OpenFault;
 use fmt_super::Layout;
@@ -43,13 +43,13 @@ pub fn run<R: Threads + Wait + Sync, S: Source, K: Sink, D: Disk, G: Gate>(
     mut disk: D,
     _gate: &G,
 ) -> Outcome<D>
-    requires large { HasAreasFor (command_of (map string_bytes words.now)) (D.view disk).size }
+    requires large { HasAreasFor (command_asked (map string_bytes words.now)) (D.view disk).size }
 
-    ensures served { ServedWords (command_of (map string_bytes words.now)) (S.left source.old) (HasRisen (S.faults source.old) (S.faults source.new)) (HasRisen (K.faults sink.old) (K.faults sink.new))
+    ensures served { ServedWords (command_asked (map string_bytes words.now)) (S.left source.old) (HasRisen (S.faults source.old) (S.faults source.new)) (HasRisen (K.faults sink.old) (K.faults sink.new))
         (K.written sink.old) (K.written sink.new) (D.view disk) (D.view result.disk) result.status result.history }
 
     // A crash at any moment of a run leaves the root as it was at a stamp, with each fsync that was acknowledged by then.
-    ensures survives { SurvivesWords (command_of (map string_bytes words.now)) (D.view disk) (D.view result.disk) result.history }
+    ensures survives { SurvivesWords (command_asked (map string_bytes words.now)) (D.view disk) (D.view result.disk) result.history }
     ensures acks { AcksRise (D.view disk).now result.history (D.view result.disk).now }
 
     ensures untouched { reaches_disk result.status ≡ false → result.disk ≡ disk }
@@ -73,15 +73,15 @@ fn serve_words<S: Source, K: Sink, D: Disk>(
     sink: &mut K,
     disk: &mut D,
 ) -> (Status, History)
-    requires large { HasAreasFor (command_of (map string_bytes words.now)) (D.view disk.old).size }
-    ensures served { ServedWords (command_of (map string_bytes words.now)) (S.left source.old) (HasRisen (S.faults source.old) (S.faults source.new)) (HasRisen (K.faults sink.old) (K.faults sink.new))
+    requires large { HasAreasFor (command_asked (map string_bytes words.now)) (D.view disk.old).size }
+    ensures served { ServedWords (command_asked (map string_bytes words.now)) (S.left source.old) (HasRisen (S.faults source.old) (S.faults source.new)) (HasRisen (K.faults sink.old) (K.faults sink.new))
         (K.written sink.old) (K.written sink.new) (D.view disk.old) (D.view disk.new) result.0 result.1 }
-    ensures survives { SurvivesWords (command_of (map string_bytes words.now)) (D.view disk.old) (D.view disk.new) result.1 }
+    ensures survives { SurvivesWords (command_asked (map string_bytes words.now)) (D.view disk.old) (D.view disk.new) result.1 }
     ensures acks { AcksRise (D.view disk.old).now result.1 (D.view disk.new).now }
     ensures untouched { reaches_disk result.0 ≡ false → disk.new ≡ disk.old }
     ensures advances { Advances (D.view disk.old) (D.view disk.new) }
 {
-    match command_of(words) {
+    match command_asked(words) {
         Ok(command) => serve_command(alloc, command, source, sink, disk),
         Err(place) => (Status::BadWords { place }, History::new(alloc)),
     }

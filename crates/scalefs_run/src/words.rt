@@ -1,6 +1,6 @@
 ghost use Rattle.std.specs.Prelude.{◌≡◌, ◌∷◌, [], map, string_bytes, IfOk};
 ghost use Rattle.std.specs.List.{list_any};
-ghost use Rattle.scalefs_run.specs.Words.{command_of, command_in, number_in, begins_with_dash, IsInRange, IsFromTo, run_of, mkfs_of};
+ghost use Rattle.scalefs_run.specs.Words.{command_asked, command_in, number_asked, begins_with_dash, IsInRange, IsFromTo, run_of, mkfs_of};
 ghost use Rattle.scalefs_run.specs.Words.{LEAST_BLOCKS as BLOCKS_LOW, MOST_BLOCKS as BLOCKS_HIGH, LEAST_INODES as INODES_LOW, MOST_INODES as INODES_HIGH, MOST_CORES as CORES_HIGH, MOST_NODES as NODES_HIGH};
 
 use script::number_up_to;
@@ -40,8 +40,8 @@ pub enum Command {
 }
 
 /// What the words ask for, or the place at which they are bad.
-pub fn command_of(words: &[String]) -> Result<Command, u32>
-    ensures command { result ≡ command_of (map string_bytes words.now) }
+pub fn command_asked(words: &[String]) -> Result<Command, u32>
+    ensures command { result ≡ command_asked (map string_bytes words.now) }
     ensures ranges { IfOk result IsInRange }
 {
     if has_dash(words) {
@@ -112,22 +112,22 @@ fn command_alone(word: &String) -> Result<Command, u32>
 
 // A run with so many new nodes.
 fn run_of(nodes: &String) -> Result<Command, u32>
-    ensures command { result ≡ run_of (number_in 1 1 NODES_HIGH (string_bytes nodes.now)) }
+    ensures command { result ≡ run_of (number_asked 1 1 NODES_HIGH (string_bytes nodes.now)) }
     ensures ranges { IfOk result IsInRange }
 {
-    let nodes = number_in(1, 1, MOST_NODES, nodes)?;
+    let nodes = number_asked(1, 1, MOST_NODES, nodes)?;
     Ok(Command::Run { nodes })
 }
 
 // An image of so many blocks, inodes and cores.
 fn mkfs_of(blocks: &String, inodes: &String, cores: &String) -> Result<Command, u32>
-    ensures command { result ≡ mkfs_of (number_in 1 BLOCKS_LOW BLOCKS_HIGH (string_bytes blocks.now)) (number_in 2 INODES_LOW INODES_HIGH (string_bytes inodes.now))
-        (number_in 3 1 CORES_HIGH (string_bytes cores.now)) }
+    ensures command { result ≡ mkfs_of (number_asked 1 BLOCKS_LOW BLOCKS_HIGH (string_bytes blocks.now)) (number_asked 2 INODES_LOW INODES_HIGH (string_bytes inodes.now))
+        (number_asked 3 1 CORES_HIGH (string_bytes cores.now)) }
     ensures ranges { IfOk result IsInRange }
 {
-    let blocks = number_in(1, LEAST_BLOCKS, MOST_BLOCKS, blocks)?;
-    let inodes = number_in(2, LEAST_INODES, MOST_INODES, inodes)?;
-    let cores = number_in(3, 1, MOST_CORES, cores)?;
+    let blocks = number_asked(1, LEAST_BLOCKS, MOST_BLOCKS, blocks)?;
+    let inodes = number_asked(2, LEAST_INODES, MOST_INODES, inodes)?;
+    let cores = number_asked(3, 1, MOST_CORES, cores)?;
     Ok(Command::Mkfs {
         blocks,
         inodes,
@@ -136,8 +136,8 @@ fn mkfs_of(blocks: &String, inodes: &String, cores: &String) -> Result<Command, 
 }
 
 // The number that a word spells, where it is in its range; else the word is bad at this place.
-fn number_in(place: u32, least: u32, most: u32, word: &String) -> Result<u32, u32>
-    ensures number { result ≡ number_in place least most (string_bytes word.now) }
+fn number_asked(place: u32, least: u32, most: u32, word: &String) -> Result<u32, u32>
+    ensures number { result ≡ number_asked place least most (string_bytes word.now) }
     ensures range { IfOk result (IsFromTo least most) }
 {
     match number_up_to(u64::from(most), word.as_bytes()) {

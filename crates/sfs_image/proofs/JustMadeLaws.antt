@@ -81,7 +81,8 @@ module _ (layout : Layout) (image : List ℕ) (is : IsJustMade layout image) whe
       ∙ free_has_none (image_block image) (table_record layout image i) (ap length record_is ∙ length-zeros 512) (ap inode_fault record_is ∙ zeros_are_sound)
       (ap (λ (raw : List ℕ). slice_index raw 0) record_is ∙ zeros-byte 512 0) place
 
-  has_none : (i : ℕ) → i < layout.inodes → (place : ℕ) → pointer_at (parts_of layout image i) place ≡ 0
+  -- no part has a pointer
+  pub has_none : (i : ℕ) → i < layout.inodes → (place : ℕ) → pointer_at (parts_of layout image i) place ≡ 0
   has_none i h place =
       elim (cases_eq i 0) [
         | inl root ↦ ap (λ (j : ℕ). pointer_at (parts_of layout image j) place) root ∙ root_has_none place

@@ -1,5 +1,5 @@
 -- An image is made on a disk that is large enough.
-use Rattle.std.proofs.Common.{◌≡◌, ℕ, List, sym, ap, subst, ◌∙◌}
+use Rattle.std.proofs.Common.{ℕ, List, subst, ◌∙◌}
 use Rattle.sfs_base.specs.Ends.{HasRisen}
 use Rattle.scalefs_run.specs.Outcome.{HasText}
 use Rattle.scalefs_run.proofs.Images.{image_made}

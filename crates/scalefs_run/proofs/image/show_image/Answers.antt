@@ -1,5 +1,5 @@
 -- An image is shown, or refused.
-use Rattle.std.proofs.Common.{◌≡◌, List, sym, ap, subst, ◌∙◌}
+use Rattle.std.proofs.Common.{sym, subst}
 use Rattle.sfs_base.specs.Ends.{HasRisen}
 use Rattle.scalefs_run.specs.declared.outcome.Status.{Status}
 use Rattle.scalefs_run.specs.Image.{ShowsImage}

@@ -1,4 +1,4 @@
-use Rattle.std.proofs.Common.{◌≡◌, List, ap, sym, ◌∙◌}
+use Rattle.std.proofs.Common.{ap, sym, ◌∙◌}
 use Rattle.scalefs_run.specs.declared.outcome.ImageFault.{ImageFault}
 use Rattle.scalefs_run.specs.Outcome.{status_text}
 use Rattle.scalefs_run.specs.declared.outcome.Status.TheVariants.{BadImage}

@@ -1,4 +1,4 @@
-use Rattle.std.proofs.Common.{◌≡◌, ◌/◌, sym, ap, subst}
+use Rattle.std.proofs.Common.{◌/◌, sym, ap, subst}
 use Rattle.scalefs_run.specs.declared.words.Command.{Command}
 use Rattle.scalefs_run.specs.Commands.{SurvivesCommand}
 use Rattle.scalefs_run.specs.Crash.{Survives}

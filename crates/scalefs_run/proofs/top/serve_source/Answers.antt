@@ -1,5 +1,5 @@
 -- A script is read and run, or it is refused.
-use Rattle.std.proofs.Common.{◌≡◌, List, sym, subst}
+use Rattle.std.proofs.Common.{List, sym, subst}
 use Rattle.sfs_base.specs.Ends.{HasRisen}
 use Rattle.sfs_tree.specs.declared.history.Entry.{Entry}
 use Rattle.scalefs_run.specs.Crash.{Survives}

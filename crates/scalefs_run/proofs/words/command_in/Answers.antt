@@ -1,5 +1,5 @@
 -- Three words are no command.
-use Rattle.std.proofs.Common.{◌≡◌, ℕ, ◌<◌, ◌≤◌, List, [], ◌∷◌, length, map, string_bytes, Global, Err, Result, refl, arith}
+use Rattle.std.proofs.Common.{◌≡◌, ℕ, ◌<◌, ◌≤◌, List, [], ◌∷◌, length, map, string_bytes, Global, Err, refl, arith}
 use Rattle.std.proofs.lemmas.List.{length-map}
 use Rattle.scalefs_run.specs.Words.{command_in}
 use Rattle.scalefs_run.proofs.words.command_in.Goals as goal
