@@ -1,8 +1,18 @@
 -- The words of the program's command line.
-use Rattle.std.specs.Prelude.{ℕ, List, [], ◌∷◌, Option, Some, None, if◌then◌else◌}
+use Rattle.std.specs.Prelude.{ℕ, Bool, false, List, [], ◌∷◌, codes, bytes_eq, Option, Some, None, if◌then◌else◌}
 use Rattle.scalefs_run.specs.Words.{begins_with_dash}
 
--- the words behind the program's name and the image's; there are none where the image's is missing or begins with `-`
-abbrev pub words_behind : List (List ℕ) → Option (List (List ℕ))
-words_behind (program ∷ image ∷ rest) = if begins_with_dash image then None else Some rest
-words_behind _ = None
+-- the image's word, and those of the command
+pub record Parted : Type 0 where
+  pub image : List ℕ
+  pub command : List (List ℕ)
+
+-- the words behind the program's name; there are none where the image's is missing or begins with `-`
+abbrev pub parted : List (List ℕ) → Option Parted
+parted (program ∷ image ∷ command) = if begins_with_dash image then None else Some (record { image = image; command = command })
+parted _ = None
+
+-- whether a command runs a script
+abbrev pub is_run : List (List ℕ) → Bool
+is_run [] = false
+is_run (word ∷ command) = bytes_eq word (codes "run")

@@ -1,25 +1,46 @@
-ghost use Rattle.std.specs.Prelude.{◌≡◌, ◌≤◌, map, option_map, string_bytes};
+ghost use Rattle.std.specs.Prelude.{◌≡◌, ◌≤◌, map, string_bytes};
+ghost use Rattle.std.specs.Option.{option_map};
 ghost use Rattle.scalefs_run.specs.Words.{begins_with_dash};
-ghost use Rattle.scalefs_cli.specs.Words.{words_behind};
+ghost use Rattle.scalefs_cli.specs.Words.{Parted, parted, is_run};
 
+use dev_file::FileDisk;
 use scalefs_run::{Status, run};
 use sfs_base::{NoGate, Sink, Source};
-use sfs_dev::Memory;
+use sfs_dev::{Disk, Memory};
 use std::alloc::Global;
+use std::fs::{File, TryLockError};
 use std::sync::Wait;
 use std::thread::Threads;
 
-/// The words behind the program's name and the image's. A word for the image that is missing or
-/// begins with `-` is none.
-pub fn command_words(words: &[String]) -> Option<&[String]>
-    ensures { option_map (λ rest. map string_bytes rest.now) result ≡ words_behind (map string_bytes words.now) }
+/// The words of the command line behind the program's name.
+#[derive(Clone, Copy, Drop)]
+pub struct Parts<'a> {
+    /// The path of the image.
+    pub image: &'a String,
+    /// What is to be done.
+    pub command: &'a [String],
+}
+
+/// How the program ends.
+pub enum End {
+    /// The words were looked at.
+    Ended(Status),
+    /// The image can't be opened, nor made.
+    CannotOpen,
+    /// Another process works on the image.
+    InUse,
+}
+
+/// The image's word and those behind it. A word for the image that is missing or begins with `-` is none.
+pub fn parts_of(words: &[String]) -> Option<Parts>
+    ensures { option_map (λ parts. record { image = string_bytes parts.image.now; command = map string_bytes parts.command.now }) result ≡ parted (map string_bytes words.now) }
 {
     match words {
-        [_, image, rest @ ..] => {
+        [_, image, command @ ..] => {
             if begins_with_dash(image) {
                 None
             } else {
-                Some(rest)
+                Some(Parts { image, command })
             }
         }
         _ => None,
@@ -35,20 +56,67 @@ fn begins_with_dash(word: &String) -> bool
     }
 }
 
-/// Runs what the words say over a disk of so many blocks of zeros.
-pub fn answer<R: Threads + Wait + Sync, S: Source, K: Sink>(
+/// Whether a command runs a script, which is done over a disk in memory.
+pub fn is_run(command: &[String]) -> bool
+    ensures { result ≡ is_run (map string_bytes command.now) }
+{
+    match command {
+        [word, ..] => word.as_str() == "run",
+        [] => false,
+    }
+}
+
+/// Does what the words say over a disk of so many blocks of zeros in memory.
+pub fn over_memory<R: Threads + Wait + Sync, S: Source, K: Sink>(
     rt: &R,
     alloc: Global,
     blocks: u32,
-    words: &[String],
+    command: &[String],
     source: &mut S,
     sink: &mut K,
-) -> Status
+) -> End
     requires least { 4 ≤ blocks }
     requires most { blocks ≤ 262144 }
 {
     match Memory::new(alloc, blocks) {
-        Ok(disk) => run(rt, alloc, words, source, sink, disk, &NoGate).status,
-        Err(_) => Status::NoMemory,
+        Ok(disk) => End::Ended(over(rt, alloc, command, source, sink, disk)),
+        Err(_) => End::Ended(Status::NoMemory),
     }
+}
+
+/// Does what the words say over an open file, which no other process may work on. Where the file's system
+/// has no locks, it is gone on with.
+pub fn over_file<R: Threads + Wait + Sync, S: Source, K: Sink>(
+    rt: &R,
+    alloc: Global,
+    file: File,
+    command: &[String],
+    source: &mut S,
+    sink: &mut K,
+) -> End {
+    match file.try_lock() {
+        Err(TryLockError::WouldBlock) => End::InUse,
+        _ => End::Ended(over(
+            rt,
+            alloc,
+            command,
+            source,
+            sink,
+            FileDisk::new(file),
+        )),
+    }
+}
+
+// Does what the words say over a disk.
+fn over<R: Threads + Wait + Sync, S: Source, K: Sink, D: Disk + Drop>(
+    rt: &R,
+    alloc: Global,
+    command: &[String],
+    source: &mut S,
+    sink: &mut K,
+    disk: D,
+) -> Status
+    requires { 4 ≤ (D.view disk).size }
+{
+    run(rt, alloc, command, source, sink, disk, &NoGate).status
 }

@@ -1,38 +1,81 @@
-//! The program: `scalefs IMAGE run [NODES]` runs the script on standard input over a disk in memory, and
-//! writes the text of its history to standard output.
+//! The program. `scalefs IMAGE mkfs BLOCKS INODES CORES` makes an image file, `scalefs IMAGE show` recovers it and
+//! writes its tree, and `scalefs IMAGE run [NODES]` runs the script on standard input over a disk in memory
+//! and writes the text of its history.
 #![tactic(auto)]
 
 mod answer;
 
-use answer::{answer, command_words};
+use answer::{End, is_run, over_file, over_memory, parts_of};
 use scalefs_run::{Status, status_line};
-use sfs_base::{StdSink, StdSource};
+use sfs_base::{Sink, Source, StdSink, StdSource};
+use std::alloc::Global;
+use std::fs::{File, Files, OpenOptions};
 use std::process::ExitCode;
+use std::sync::Wait;
+use std::thread::Threads;
 use std::{env, io};
 
-/// How many blocks the disk has: 4 MiB.
+/// How many blocks the disk of a script has: 4 MiB.
 const BLOCKS: u32 = 1024;
+
+/// The status with which the program ends where no disk can be had.
+const NO_DISK: u8 = 1;
 
 fn main(rt: HostRuntime) -> io::Result<ExitCode> {
     let alloc = rt.alloc();
     let mut source = StdSource::new(rt.reader());
     let mut sink = StdSink::new(io::writer(&rt));
-    let status = match env::args(&rt) {
+    let end = match env::args(&rt) {
         Ok(args) => match args.collect::<Vec<String>>(alloc) {
-            Ok(words) => match command_words(&words) {
-                Some(words) => answer(&rt, alloc, BLOCKS, words, &mut source, &mut sink),
-                None => Status::BadWords { place: 0 },
-            },
-            Err(_) => Status::NoMemory,
+            Ok(words) => serve(&rt, alloc, &words, &mut source, &mut sink),
+            Err(_) => End::Ended(Status::NoMemory),
         },
-        Err(error) => fault_of(&error),
+        Err(error) => End::Ended(fault_of(&error)),
     };
-    if status != Status::Done {
-        if let Ok(line) = status_line(alloc, &status) {
-            eprintln!(rt; "scalefs: {line}")?;
+    let number = match end {
+        End::Ended(status) => {
+            if status != Status::Done {
+                if let Ok(line) = status_line(alloc, &status) {
+                    eprintln!(rt; "scalefs: {line}")?;
+                }
+            }
+            status.number()
         }
+        End::CannotOpen => {
+            eprintln!(rt; "scalefs: cannot open the image")?;
+            NO_DISK
+        }
+        End::InUse => {
+            eprintln!(rt; "scalefs: the image is in use")?;
+            NO_DISK
+        }
+    };
+    Ok(ExitCode::from(number))
+}
+
+// Does what the words say. The image is opened before the command is looked at.
+fn serve<R: Threads + Wait + Sync + Files<File = File>, S: Source, K: Sink>(
+    rt: &R,
+    alloc: Global,
+    words: &[String],
+    source: &mut S,
+    sink: &mut K,
+) -> End {
+    let Some(parts) = parts_of(words) else {
+        return End::Ended(Status::BadWords { place: 0 });
+    };
+    if is_run(parts.command) {
+        return over_memory(rt, alloc, BLOCKS, parts.command, source, sink);
     }
-    Ok(ExitCode::from(status.number()))
+    let opened = OpenOptions::new()
+        .read(true)
+        .write(true)
+        .create(true)
+        .open(rt, parts.image.as_str());
+    match opened {
+        Ok(file) => over_file(rt, alloc, file, parts.command, source, sink),
+        Err(_) => End::CannotOpen,
+    }
 }
 
 // The status of words that can't be had: memory was refused, or one is not UTF-8.
