@@ -7,7 +7,7 @@ ghost use Rattle.block_map.specs.Kept.{pointer_kept};
 ghost use Rattle.block_map.specs.RemapLaws.{IsHeld};
 ghost use Rattle.disk_change.specs.GivenUp.{IsLeftByGone, entry_number, pointers_of_place};
 
-use crate::old::OldEntry;
+use crate::old::{OldDisk, OldEntry};
 use block_map::TABLES;
 use fmt_inode::{Inode, Tables};
 use sfs_base::{BlockList, InodeList, NoMemory};
@@ -33,6 +33,17 @@ fn ascending(mut numbers: Vec<u32>) -> BlockList
     numbers.sort_unstable();
     numbers.dedup();
     BlockList::from_vec(numbers)
+}
+
+impl OldDisk {
+    /// All blocks that its nodes hold, ascending.
+    pub fn held_blocks(&self, alloc: Global) -> Result<BlockList, NoMemory>
+        ensures ascending { IfOk result (λ blocks. IsStrictlyIncreasing blocks.items) }
+        ensures each { IfOk result (λ blocks. (block : ℕ) → Contains blocks.items block ↔ IsLeftByGone self.now.items block) }
+    {
+        let blocks = blocks_left(Vec::new(alloc), self.as_slice())?;
+        Ok(blocks)
+    }
 }
 
 // The blocks that a commit gives up, ascending: those that its nodes leave, and all those of nodes that

@@ -145,8 +145,8 @@ impl OldDisk {
         }
     }
 
-    // The list of entries that ascend by node.
-    pub(crate) fn from_vec(items: Vec<OldEntry>) -> OldDisk
+    /// The list of these entries, which ascend by node. It takes no memory.
+    pub fn from_vec(items: Vec<OldEntry>) -> OldDisk
         requires { AscendBy entry_node items.items }
         ensures { result.items ≡ items.items }
     {

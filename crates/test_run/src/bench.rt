@@ -1,4 +1,4 @@
-// One run over a disk in memory, with ample memory and no gate.
+// One call over a disk in memory, with ample memory and no gate.
 use scalefs_run::{Outcome, Status, run};
 use sfs_base::{BytesSink, BytesSource, NoGate};
 use sfs_dev::{Disk, Memory};
@@ -23,11 +23,18 @@ pub fn fresh(alloc: Global) -> Result<Memory, Fail> {
     Ok(Memory::new(alloc, 1024)?)
 }
 
+/// These words.
+pub fn words_of(alloc: Global, words: &[&str]) -> Result<Vec<String>, Fail> {
+    let mut list = Vec::new(alloc);
+    for word in words {
+        list.push(String::from_str(alloc, word)?)?;
+    }
+    Ok(list)
+}
+
 /// The one word `run`.
 pub fn run_alone(alloc: Global) -> Result<Vec<String>, Fail> {
-    let mut words = Vec::new(alloc);
-    words.push(String::from_str(alloc, "run")?)?;
-    Ok(words)
+    words_of(alloc, &["run"])
 }
 
 /// A run of this script over ends that don't fail.

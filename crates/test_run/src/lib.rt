@@ -10,6 +10,8 @@ mod ends;
 #[cfg(test)]
 mod histories;
 #[cfg(test)]
+mod images;
+#[cfg(test)]
 mod rows;
 #[cfg(test)]
 mod statuses;

@@ -1,5 +1,5 @@
 // The number and the line of each status.
-use scalefs_run::{Status, status_line};
+use scalefs_run::{ImageFault, Status, status_line};
 use sfs_base::Measure;
 use std::alloc::Global;
 use std::process::Abort;
@@ -57,4 +57,24 @@ fn each_status_has_its_number_and_line(rt: HostRuntime) -> Result<(), Fail> {
         "script too long",
     )?;
     Ok(())
+}
+
+#[test]
+fn images_and_disks_have_their_lines(rt: HostRuntime) -> Result<(), Fail> {
+    let alloc = rt.alloc();
+    let fault = ImageFault::Super { at: 4095 };
+    let line = "bad image: superblock byte 4095";
+    assert_shown(&rt, alloc, Status::BadImage { fault }, 7, line)?;
+    let fault = ImageFault::Journal {
+        core: 15,
+        slot: 0,
+        at: 520,
+    };
+    let line = "bad image: journal 15 slot 0 byte 520";
+    assert_shown(&rt, alloc, Status::BadImage { fault }, 7, line)?;
+    let fault = ImageFault::Tree { inode: 9, rule: 14 };
+    let line = "bad image: inode 9 rule 14";
+    assert_shown(&rt, alloc, Status::BadImage { fault }, 7, line)?;
+    let small = Status::TooSmall { need: 12, have: 8 };
+    assert_shown(&rt, alloc, small, 11, "too small: need 12 blocks, have 8")
 }

@@ -1,0 +1,2 @@
+pub mod EntriesAscend
+pub mod Shared

@@ -1,0 +1,43 @@
+// What the disk has of each node, from the parts that a recovery kept.
+ghost use Rattle.std.specs.Prelude.{◌≡◌, map, IfOk};
+ghost use Rattle.disk_change.specs.Lists.{AscendBy};
+ghost use Rattle.disk_change.specs.Nodes.{entry_node};
+ghost use Rattle.mount.specs.Mounted.{entry_kept};
+
+use disk_change::{OldDisk, OldEntry, OldNode};
+use disk_tree::{KeptPart, PartList};
+use sfs_base::{NoMemory, NodeId};
+use std::alloc::Global;
+
+/// The entries of these parts, which ascend by inode: each node has the number of its inode.
+pub fn entries_of(alloc: Global, parts: PartList) -> Result<OldDisk, NoMemory>
+    requires { AscendBy entry_node (map entry_kept parts.items) }
+    ensures { IfOk result (λ old. old.items ≡ map entry_kept parts.items) }
+{
+    let mut entries = Vec::new(alloc);
+    for part in parts.into_vec() {
+        entries.push(entry_of(part))?;
+    }
+    Ok(OldDisk::from_vec(entries))
+}
+
+// The entry of a part.
+fn entry_of(part: KeptPart) -> OldEntry
+    ensures { result ≡ entry_kept part }
+{
+    let KeptPart {
+        inode,
+        meta,
+        tables,
+        slots,
+    } = part;
+    OldEntry {
+        node: NodeId(inode),
+        old: OldNode {
+            inode,
+            meta,
+            tables,
+            slots,
+        },
+    }
+}
