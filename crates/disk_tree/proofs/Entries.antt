@@ -24,7 +24,7 @@ use Rattle.disk_tree.specs.Rows.{NO_ROW, rows_of_inode, naming, naming_below, Ha
 use Rattle.block_map.proofs.Places.{range_more}
 
 -- keys are the same where directory and name are
-key_is : (d e : ℕ) (n m : List ℕ) → eq_by_cmp key_cmp (d, n) (e, m) ≡ cond (nat_eq d e) (bytes_eq n m) false
+pub key_is : (d e : ℕ) (n m : List ℕ) → eq_by_cmp key_cmp (d, n) (e, m) ≡ cond (nat_eq d e) (bytes_eq n m) false
 key_is d e n m = same_key d e n m ∙ ap (λ b. cond (nat_eq d e) b false) (is_eq-slice_cmp n m)
 
 pub other_directory : (d e : ℕ) (n m : List ℕ) → d ≢ e → eq_by_cmp key_cmp (d, n) (e, m) ≡ false

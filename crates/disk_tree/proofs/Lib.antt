@@ -7,7 +7,7 @@ pub mod CountsShown
 pub mod HeldOnce
 pub mod InodesRead
 pub mod MarksSet
-pub mod NamesMet
+pub mod NamesSorted
 pub mod NamesTwice
 pub mod NodesPut
 pub mod PartsKept
@@ -22,6 +22,7 @@ pub mod Refusals
 pub mod RowsCounted
 pub mod RowsGathered
 pub mod RowsShown
+pub mod RowsSorted
 pub mod RulesOrdered
 pub mod RulesJudged
 pub mod SlotsRead

@@ -1,13 +1,14 @@
 -- When a name stands twice among rows.
-use Rattle.std.proofs.Common.{◌≡◌, ℕ, zero, suc, ◌+◌, ◌<◌, ◌≤◌, Bool, true, false, cond, List, [], ◌∷◌, length, get_or, count_by, nat_lt, Result, Ok, Err, IfOk, refl, sym, ap, ◌∙◌, arith, inl, inr}
-use Rattle.std.specs.Prelude.{bytes_eq, slice_index_or}
+use Rattle.std.proofs.Common.{◌≡◌, ℕ, zero, suc, ◌+◌, ◌<◌, ◌≤◌, Bool, true, false, cond, List, [], ◌∷◌, length, get_or, count_by, nat_lt, refl, sym, ap, ◌∙◌, arith, inl, inr}
+use Rattle.std.specs.Prelude.{bytes_eq}
 use Rattle.std.proofs.lemmas.Bool.{cases_Bool, lt-ltb, le-ltb}
 use Rattle.std.proofs.lemmas.List.Folds.{list_any_at, list_any_none}
 use Rattle.std.proofs.lemmas.List.Elements.{All-from_get_or}
 use Rattle.sfs_base.proofs.BasicLists.{same_bytes, bytes_same}
 use Rattle.sfs_tree.proofs.Joined.{count-cons}
 use Rattle.sfs_image.specs.Slot.{Row}
-use Rattle.disk_tree.specs.Rows.{NO_ROW, HaveOwnNames, AnswersTwice}
+use Rattle.disk_tree.specs.Reached.{row_at}
+use Rattle.disk_tree.specs.Rows.{NO_ROW, HaveOwnNames}
 use Rattle.disk_tree.specs.Tests.{rows_named, has_twice}
 
 module _ {X : Type 0} (p : X → Bool) (d : X) where
@@ -42,23 +43,26 @@ module _ {X : Type 0} (p : X → Bool) (d : X) where
         omega arith)
   ]
 
+-- two rows of one name count
+pub named_twice : (rows : List Row) (earlier at : ℕ) → earlier < at → at < length rows → (row_at rows earlier).name ≡ (row_at rows at).name → 1 < rows_named (row_at rows at).name rows
+named_twice rows earlier at before within same =
+    two_counted (λ (row : Row). bytes_eq (row_at rows at).name row.name) NO_ROW rows earlier at before within
+    (ap (bytes_eq (row_at rows at).name) same ∙ same_bytes (row_at rows at).name) (same_bytes (row_at rows at).name)
+
 -- rows with names of their own
 pub own_names_counted : (rows : List Row) (name : List ℕ) → HaveOwnNames rows (length rows) → rows_named name rows ≤ 1
 own_names_counted rows name own =
     few_counted (λ (row : Row). bytes_eq name row.name) NO_ROW rows
     (λ i j less within first second. own j i within less (sym (bytes_same name _ first) ∙ bytes_same name _ second))
 
-pub answers_twice : (rows : List Row) (twice : Bool) → AnswersTwice rows twice → twice ≡ has_twice rows
-answers_twice rows true one =
-    sym (list_any_at (λ (row : Row). nat_lt 1 (rows_named row.name rows)) rows one.at NO_ROW one.within
-    (lt-ltb 1 (rows_named (slice_index_or rows one.at NO_ROW).name rows)
-    (two_counted (λ (row : Row). bytes_eq (slice_index_or rows one.at NO_ROW).name row.name) NO_ROW rows one.earlier one.at one.before one.within
-    (ap (bytes_eq (slice_index_or rows one.at NO_ROW).name) one.same ∙ same_bytes (slice_index_or rows one.at NO_ROW).name) (same_bytes (slice_index_or rows one.at NO_ROW).name))))
-answers_twice rows false own =
-    sym (list_any_none (λ (row : Row). nat_lt 1 (rows_named row.name rows)) rows
-    (All-from_get_or (λ (row : Row). nat_lt 1 (rows_named row.name rows) ≡ false) rows NO_ROW
-    (λ i within. le-ltb 1 (rows_named (slice_index_or rows i NO_ROW).name rows) (own_names_counted rows (slice_index_or rows i NO_ROW).name own))))
+-- two rows of one name are found
+pub found_twice : (rows : List Row) (earlier at : ℕ) → earlier < at → at < length rows → (row_at rows earlier).name ≡ (row_at rows at).name → has_twice rows ≡ true
+found_twice rows earlier at before within same =
+    list_any_at (λ (row : Row). nat_lt 1 (rows_named row.name rows)) rows at NO_ROW within (lt-ltb 1 (rows_named (row_at rows at).name rows) (named_twice rows earlier at before within same))
 
-pub twice_is : {E : Type 0} (rows : List Row) (result : Result Bool E) → IfOk result (AnswersTwice rows) → IfOk result (λ twice. twice ≡ has_twice rows)
-twice_is rows (Ok twice) answers = answers_twice rows twice answers
-twice_is rows (Err fault) answers = tt
+-- and rows with names of their own are none such
+pub none_twice : (rows : List Row) → HaveOwnNames rows (length rows) → has_twice rows ≡ false
+none_twice rows own =
+    list_any_none (λ (row : Row). nat_lt 1 (rows_named row.name rows)) rows
+    (All-from_get_or (λ (row : Row). nat_lt 1 (rows_named row.name rows) ≡ false) rows NO_ROW
+    (λ i within. le-ltb 1 (rows_named (row_at rows i).name rows) (own_names_counted rows (row_at rows i).name own)))

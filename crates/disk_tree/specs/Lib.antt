@@ -1,6 +1,7 @@
 pub mod Apart
 pub mod Blocks
 pub mod Built
+pub mod ByName
 pub mod Cause
 pub mod Contents
 pub mod First

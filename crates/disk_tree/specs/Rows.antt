@@ -1,5 +1,5 @@
 -- The rows of the directories, one directory after another, and the rules on them.
-use Rattle.std.specs.Prelude.{◌≡◌, ◌≢◌, ℕ, zero, suc, ◌+◌, ◌<◌, ◌==◌, ◌||◌, nat_lt, not, Bool, true, false, List, [], filter_map, length, take, slice_index, slice_index_or, count_by, Option}
+use Rattle.std.specs.Prelude.{◌≡◌, ◌≢◌, ℕ, zero, suc, ◌+◌, ◌<◌, ◌==◌, ◌||◌, nat_lt, not, Bool, List, [], filter_map, length, take, slice_index, slice_index_or, count_by, Option}
 use Rattle.std.specs.List.{range_with_len, list_any, flat_map}
 use Rattle.sfs_base.specs.Lists.{Roomy}
 use Rattle.sfs_base.specs.Name.{bucket}
@@ -38,19 +38,6 @@ pub record AreRowLists (slots : List (Roomy (List (Option Row)))) (n : ℕ) (row
 -- each of the first n rows has a name of its own
 abbrev pub HaveOwnNames : List Row → ℕ → Type 0
 HaveOwnNames rows n = (k earlier : ℕ) → k < n → earlier < k → (slice_index_or rows earlier NO_ROW).name ≢ (slice_index_or rows k NO_ROW).name
-
--- Two rows have one name.
-pub record HaveDuplicateName (rows : List Row) : Type 0 where
-  pub at : ℕ
-  pub earlier : ℕ
-  pub within : at < length rows
-  pub before : earlier < at
-  pub same : (slice_index_or rows earlier NO_ROW).name ≡ (slice_index_or rows at NO_ROW).name
-
--- whether two rows have one name
-abbrev pub AnswersTwice : List Row → Bool → Type 0
-AnswersTwice rows true = HaveDuplicateName rows
-AnswersTwice rows false = HaveOwnNames rows (length rows)
 
 -- how many rows lie in a bucket
 abbrev pub rows_in_bucket : List Row → ℕ → ℕ

@@ -6,6 +6,7 @@ ghost use Rattle.disk_tree.specs.Built.{MayBuild, MayPut, tree_of_entries, with_
 ghost use Rattle.disk_tree.specs.Contents.{bytes_of_inode};
 ghost use Rattle.disk_tree.specs.Inodes.{inode_at};
 
+use crate::by_name::rows_by_name;
 use crate::contents::Content;
 use crate::inodes::{DIRECTORY, FILE};
 use crate::read::ReadInodes;
@@ -31,7 +32,7 @@ pub fn built_tree(
 {
     let mut tree = Tree::empty(alloc, layout.inodes, 0, layout.cores as u8)?;
     put_nodes(alloc, &mut tree, &read.inodes, named, &read.contents)?;
-    put_rows(&mut tree, rows)?;
+    put_rows(alloc, &mut tree, rows)?;
     Ok(tree)
 }
 
@@ -91,20 +92,25 @@ fn put_node_of(
 }
 
 // Puts the rows of all directories into a tree without rows.
-fn put_rows(tree: &mut Tree, rows: &[RowList]) -> Result<(), NoMemory>
+fn put_rows(alloc: Global, tree: &mut Tree, rows: &[RowList]) -> Result<(), NoMemory>
     requires few { length rows.now ≤ 16384 }
     requires start { tree.old ≡ with_entries tree.old [] }
     requires may { MayPut tree.old rows.now }
     ensures { OnOk result (tree.new ≡ with_entries tree.old (row_entries rows.now (length rows.now))) }
 {
     for place in 0..rows.len() {
-        put_rows_of(tree, rows, place)?;
+        put_rows_of(alloc, tree, rows, place)?;
     }
     Ok(())
 }
 
 // Puts the rows of a directory into a tree that has the rows of those before it.
-fn put_rows_of(tree: &mut Tree, rows: &[RowList], directory: usize) -> Result<(), NoMemory>
+fn put_rows_of(
+    alloc: Global,
+    tree: &mut Tree,
+    rows: &[RowList],
+    directory: usize,
+) -> Result<(), NoMemory>
     requires few { length rows.now ≤ 16384 }
     requires within { directory < length rows.now }
     requires start { tree.old ≡ with_entries tree.old (row_entries rows.now directory) }
@@ -112,7 +118,9 @@ fn put_rows_of(tree: &mut Tree, rows: &[RowList], directory: usize) -> Result<()
     ensures { OnOk result (tree.new ≡ with_entries tree.old (row_entries rows.now (directory + 1))) }
 {
     let node = NodeId(directory as u32);
-    for row in rows[directory].as_slice() {
+    // By ascending names each row comes behind those of its bucket, and moves none of them.
+    let sorted = rows_by_name(alloc, rows[directory].as_slice())?;
+    for row in &sorted {
         tree.put_row(node, row.name.copy()?, NodeId(row.inode))?;
     }
     Ok(())

@@ -3,12 +3,11 @@ ghost use Rattle.std.specs.Prelude.{◌≡◌, ℕ, ◌^◌, ◌<◌, ◌≤◌,
 ghost use Rattle.disk_tree.specs.First.{FindsFirst};
 ghost use Rattle.disk_tree.specs.Inodes.{inode_at};
 ghost use Rattle.disk_tree.specs.Rows.{AreNamingCounts, rows_of_inode};
-ghost use Rattle.disk_tree.specs.Tests.{has_twice, breaks_eighth, breaks_ninth, breaks_tenth, breaks_eleventh, breaks_twelfth, breaks_thirteenth, breaks_fourteenth, wrong_links};
+ghost use Rattle.disk_tree.specs.Tests.{breaks_eighth, breaks_ninth, breaks_tenth, breaks_eleventh, breaks_twelfth, breaks_thirteenth, breaks_fourteenth, wrong_links};
 
+use crate::by_name::has_duplicate_name;
 use crate::inodes::DIRECTORY;
-use crate::rows::{
-    RowList, count_directories, has_duplicate_name, has_full_bucket, has_misplaced_row, names_root,
-};
+use crate::rows::{RowList, count_directories, has_full_bucket, has_misplaced_row, names_root};
 use fmt_inode::Inode;
 use fmt_slots::SlotRow;
 use sfs_base::NoMemory;
@@ -20,18 +19,11 @@ pub fn first_with_name_twice(alloc: Global, rows: &[RowList]) -> Result<Option<u
     ensures { IfOk result (FindsFirst (length rows.now) (breaks_eighth rows.now)) }
 {
     for place in 0..rows.len() {
-        if has_name_twice(alloc, rows[place].as_slice())? {
+        if has_duplicate_name(alloc, rows[place].as_slice())? {
             return Ok(Some(place as u32));
         }
     }
     Ok(None)
-}
-
-// Two rows have one name.
-fn has_name_twice(alloc: Global, rows: &[SlotRow]) -> Result<bool, NoMemory>
-    ensures { IfOk result (λ twice. twice ≡ has_twice rows.now) }
-{
-    has_duplicate_name(alloc, rows)
 }
 
 /// Rule 9: the first directory with more rows in a bucket than it may have.

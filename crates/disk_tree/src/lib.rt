@@ -4,6 +4,7 @@
 mod apart;
 mod blocks;
 mod build;
+mod by_name;
 mod contents;
 mod fault;
 mod found;

@@ -1,4 +1,4 @@
-// The rows of the directories, and the rules that speak of them: rules 8 to 13.
+// The rows of the directories, and the rules that speak of them but for their names: rules 9 to 13.
 ghost use Rattle.std.specs.Prelude.{◌≡◌, ℕ, ◌+◌, ◌<◌, ◌≤◌, ◌==◌, ◌&&◌, ◌++◌, nat_lt, not, length, slice_index, count_by, ◌^◌, All, IfOk, OnOk};
 ghost use Rattle.std.specs.List.{list_any};
 ghost use Rattle.std.specs.Option.{option_to_list};
@@ -6,13 +6,12 @@ ghost use Rattle.sfs_tree.specs.Tree.{is_directory_kind};
 ghost use Rattle.disk_tree.specs.Blocks.{slots_at};
 ghost use Rattle.disk_tree.specs.First.{FindsFirst};
 ghost use Rattle.disk_tree.specs.Inodes.{inode_at};
-ghost use Rattle.disk_tree.specs.Rows.{AreRowLists, AnswersTwice, rows_in_slots, slots_together, rows_in_bucket, has_full_bucket, is_misplaced_by, rows_of_inode, directory_row_count, named_rows, AreNamingCounts, CountsNamings};
+ghost use Rattle.disk_tree.specs.Rows.{AreRowLists, rows_in_slots, slots_together, rows_in_bucket, has_full_bucket, is_misplaced_by, rows_of_inode, directory_row_count, named_rows, AreNamingCounts, CountsNamings};
 
 use crate::inodes::{DIRECTORY, FILE};
 use fmt_inode::Inode;
 use fmt_slots::{SlotBlock, SlotList, SlotRow};
-use sfs_base::{Kind, NoMemory, NodeId, RoomyList, bucket_of};
-use sfs_tree::NameMap;
+use sfs_base::{Kind, NoMemory, RoomyList, bucket_of};
 use std::alloc::Global;
 
 /// The rows of a directory, in the order of their slots.
@@ -61,20 +60,6 @@ fn push_row(rows: &mut Vec<SlotRow>, slot: &Option<SlotRow>) -> Result<(), NoMem
         rows.push(row.copy()?)?;
     }
     Ok(())
-}
-
-/// Whether two rows have one name.
-pub fn has_duplicate_name(alloc: Global, rows: &[SlotRow]) -> Result<bool, NoMemory>
-    ensures { IfOk result (AnswersTwice rows.now) }
-{
-    let mut names = NameMap::new(alloc);
-    for row in rows {
-        if names.get(&row.name).is_some() {
-            return Ok(true);
-        }
-        names.insert(row.name.copy()?, NodeId(row.inode))?;
-    }
-    Ok(false)
 }
 
 /// One of the eight buckets has more rows than it may have.
