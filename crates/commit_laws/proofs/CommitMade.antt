@@ -60,17 +60,19 @@ place_found numbers once i m is = by (place_among numbers i) refl
     by (Some k) e = ap Some (once k m i (found_at numbers i k e) is)
 
 -- what stands in a list of what a function gives
-map_there : {X Y : Type 0} (f : X → Y) (xs : List X) (m : ℕ) (y : Y) → slice_get (map f xs) m ≡ Some y → (x : X) × (slice_get xs m ≡ Some x) × (f x ≡ y)
+pub map_there : {X Y : Type 0} (f : X → Y) (xs : List X) (m : ℕ) (y : Y) → slice_get (map f xs) m ≡ Some y → (x : X) × (slice_get xs m ≡ Some x) × (f x ≡ y)
 map_there f [] m y e = absurd (none_some e)
 map_there f (x ∷ xs) zero y e = (x, refl, some_same e)
 map_there f (x ∷ xs) (suc m) y e = map_there f xs m y e
 
-some_there : {X : Type 0} (xs : List X) (m : ℕ) → m < length xs → (x : X) × (slice_get xs m ≡ Some x)
+-- each place of a list has an item
+pub some_there : {X : Type 0} (xs : List X) (m : ℕ) → m < length xs → (x : X) × (slice_get xs m ≡ Some x)
 some_there [] m within = absurd (omega arith)
 some_there (x ∷ xs) zero within = (x, refl)
 some_there (x ∷ xs) (suc m) within = some_there xs m (omega arith)
 
-length_built : (changes : CommitChanges) (numbers : ℕ → Option ℕ) (seats : List Seated) (fresh : List ℕ) → length (nodes_built changes numbers seats fresh) ≡ length seats
+-- as many nodes are built as there are seats
+pub length_built : (changes : CommitChanges) (numbers : ℕ → Option ℕ) (seats : List Seated) (fresh : List ℕ) → length (nodes_built changes numbers seats fresh) ≡ length seats
 length_built changes numbers [] fresh = refl
 length_built changes numbers (seat ∷ seats) fresh = ap suc (length_built changes numbers seats (drop (blocks_taken seat) fresh))
 

@@ -1,10 +1,13 @@
 pub mod CommitMade
+pub mod CommitOfPlan
 pub mod Counting
 pub mod Granted
 pub mod JoinedSlots
+pub mod KnownDirectories
 pub mod NumbersGiven
 pub mod OwnInodes
 pub mod Ranked
+pub mod SeatsOfPlan
 pub mod Shown
 pub mod SlotsKept
 pub mod Whole

@@ -1,4 +1,5 @@
 pub mod CommitMade
+pub mod CommitOfPlan
 pub mod Counting
 pub mod Granted
 pub mod KnownKinds

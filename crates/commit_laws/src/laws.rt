@@ -1,5 +1,6 @@
 // What is proved of the definitions: each function's contract is a law.
 ghost use Rattle.commit_laws.specs.CommitMade.{ChangesMakeCommits};
+ghost use Rattle.commit_laws.specs.CommitOfPlan.{PlansMakeCommits, PlansLeaveTrees};
 ghost use Rattle.commit_laws.specs.Counting.{NetsCountLinks};
 ghost use Rattle.commit_laws.specs.Granted.{FreshBlocksAreGranted, InodesAreGrantedOrOld};
 ghost use Rattle.commit_laws.specs.NumbersGiven.{GivenNumbersAreThose};
@@ -61,4 +62,14 @@ pub fn fresh_blocks_are_granted()
 /// Each inode in the records and in what the disk then has is one of the grant, or an old one.
 pub fn inodes_are_granted_or_old()
     ensures { InodesAreGrantedOrOld }
+{}
+
+/// What a plan makes over an image with a grant is a commit.
+pub fn plans_make_commits()
+    ensures { PlansMakeCommits }
+{}
+
+/// The image that the commit of a plan makes stands for the new tree.
+pub fn plans_leave_trees()
+    ensures { PlansLeaveTrees }
 {}
