@@ -1,5 +1,5 @@
 -- What a plan makes is a commit.
-use Rattle.std.proofs.Common.{◌≡◌, ℕ, ◌-◌, Bool, true, false, cond, List, map, replicate, Option, Some, None, option_map, inl, inr, refl, sym, ap, ◌∙◌, nat_lt, Contains}
+use Rattle.std.proofs.Common.{◌≡◌, ℕ, ◌-◌, ◌<◌, Bool, true, false, cond, List, map, replicate, Option, Some, None, option_map, inl, inr, refl, sym, ap, ◌∙◌, nat_lt, Contains}
 use Rattle.std.specs.Prelude.{slice_get, slice_index}
 use Rattle.std.specs.Option.{option_map_or}
 use Rattle.std.proofs.lemmas.Bool.{cases_Bool}
@@ -10,7 +10,7 @@ use Rattle.sfs_base.proofs.BasicTruth.{true_not_false}
 use Rattle.sfs_base.specs.declared.numbers.Kind.{Kind}
 use Rattle.sfs_base.specs.declared.numbers.Kind.TheVariants.{File, Directory}
 use Rattle.sfs_image.specs.Inode.{Inode}
-use Rattle.sfs_image.specs.Seen.{SeenInodes, FILE_BLOCKS}
+use Rattle.sfs_image.specs.Seen.{SeenInodes, FILE_BLOCKS, PLACES}
 use Rattle.sfs_tree.specs.Tree.{TreeState}
 use Rattle.image_tree.specs.Commit.{Commit, blank, seen_before, IsAside}
 use Rattle.image_tree.specs.Numbers.{grant_for}
@@ -32,7 +32,7 @@ use Rattle.commit_laws.specs.NumbersGiven.{node_leaves}
 use Rattle.commit_laws.proofs.KnownDirectories.{directories_known}
 use Rattle.commit_laws.proofs.NumbersGiven.{kept_in}
 use Rattle.commit_laws.proofs.OwnInodes.{mapped_is_in}
-use Rattle.commit_laws.proofs.SeatsOfPlan.{there_is_in, numbers, after_once, after_had, after_none, seat_comes, number_at, seat_at, node_seated, nodes_once, inodes_once}
+use Rattle.commit_laws.proofs.SeatsOfPlan.{there_is_in, numbers, after_once, after_had, after_none, seat_comes, number_at, seat_at, node_seated, node_there, nodes_once, inodes_once}
 use Rattle.commit_laws.proofs.Whole.{changes_leave_trees}
 
 -- what is rewritten of a node begins with the pointers that it has
@@ -75,13 +75,13 @@ module _ (num : Numbering) (concerned : List ℕ) (old new : TreeState) (image :
               absurd (true_not_false (sym (is.from.entering one.0 one.1) ∙ ap (is_among concerned) one.2 ∙ aside))
 
   -- a node is rewritten from what its inode shows before
-  pointers_are : (seat : Seated) → Contains change.seats seat → (place : ℕ) → (rewrite_in seat).pointers place ≡ (seen_before commit image seat.node).blocks place
-  pointers_are seat there place = elim (seat_comes num concerned old new image plan grant is seat there) [
+  pointers_are : (seat : Seated) → Contains change.seats seat → (place : ℕ) → place < PLACES → (rewrite_in seat).pointers place ≡ (seen_before commit image seat.node).blocks place
+  pointers_are seat there place within = elim (seat_comes num concerned old new image plan grant is seat there) [
     | inl (entry, stay, same) ↦
         let kept = kept_in _ plan.old entry stay in
         let node = planned_node change.changes (begun_old entry) (begun_old entry).kind in
         ap (λ (s : Seated). (rewrite_in s).pointers place) (sym same) ∙ begun_pointers change.changes (begun_old entry) (begun_old entry).kind place
-        ∙ (is.from.shown entry kept.0).pointers place
+        ∙ (is.from.shown entry kept.0).pointers place within
         ∙ sym (ap (λ n. (seen_before commit image n).blocks place) (ap (λ (s : Seated). s.node) (sym same) ∙ node)
         ∙ ap (λ (o : Option ℕ). (option_map_or image.seen o blank).blocks place) (is.from.numbered.old_numbers entry kept.0))
     | inr (one, enter, same) ↦
@@ -91,9 +91,6 @@ module _ (num : Numbering) (concerned : List ℕ) (old new : TreeState) (image :
         ∙ sym (ap (λ n. (seen_before commit image n).blocks place) (ap (λ (s : Seated). s.node) (sym same) ∙ node)
         ∙ ap (λ (o : Option ℕ). (option_map_or image.seen o blank).blocks place) (is.from.numbered.enter_none one enter))
   ]
-
-  node_there : (m : ℕ) (seat : Seated) → slice_get change.seats m ≡ Some seat → slice_get (seated_nodes change) m ≡ Some seat.node
-  node_there m seat at = slice_get-map (λ (s : Seated). s.node) change.seats m ∙ ap (option_map (λ (s : Seated). s.node)) at
 
   is_commit_of : IsCommitOf commit change grant old new image concerned
   is_commit_of = record {
@@ -108,16 +105,16 @@ module _ (num : Numbering) (concerned : List ℕ) (old new : TreeState) (image :
         let number = number_at num concerned old new image plan grant is at.0 at.1 at.2 in (
           at.0,
           record {
-            node_there = node_there at.0 at.1 at.2 ∙ ap Some at.3;
+            node_there = node_there change at.0 at.1 at.2 ∙ ap Some at.3;
             inode_there = number.1 ∙ sym number.2 ∙ ap commit.after at.3 ∙ has;
           },
         );
     own = λ node i m has there.
         let at = seat_at num concerned old new image plan grant is m i there in
-        node_there m at.0 at.1 ∙ ap Some (after_once num concerned old new image plan grant is at.0.node node i at.2 has);
+        node_there change m at.0 at.1 ∙ ap Some (after_once num concerned old new image plan grant is at.0.node node i at.2 has);
     inodes_once = inodes_once num concerned old new image plan grant is;
     nodes_once = nodes_once num concerned old new image plan grant is;
-    pointers = λ m place seat at. pointers_are seat (there_is_in change.seats m seat at) place;
+    pointers = λ m place seat at within. pointers_are seat (there_is_in change.seats m seat at) place within;
   }
 
 pub plans_make_commits : PlansMakeCommits
@@ -127,6 +124,6 @@ plans_make_commits num concerned old new image plan grant is = record {
 }
 
 pub plans_leave_trees : PlansLeaveTrees
-plans_leave_trees num concerned old new image plan grant making is sound next_sound storable =
-    let made = plans_make_commits num concerned old new image plan grant is in
-    changes_leave_trees (commit_of num concerned plan grant) (change_planned plan) grant old new image concerned making is.stands sound made.is made.leads is.serves.blocks next_sound is.follows storable
+plans_leave_trees num concerned old new image plan grant making is =
+    let made = plans_make_commits num concerned old new image plan grant is.whole in
+    changes_leave_trees (commit_of num concerned plan grant) (change_planned plan) grant old new image concerned making is.whole.stands is.sound made.is made.leads is.whole.serves.blocks is.next_sound is.whole.follows is.storable

@@ -20,6 +20,7 @@ use Rattle.absorb.specs.declared.nets.NetRow.{NetRow}
 use Rattle.absorb.specs.Net.{IsNetRow, IsNet}
 use Rattle.image_tree.specs.Renamed.{Numbering, HasNumber}
 use Rattle.image_tree.proofs.Numbers.{granted}
+use Rattle.image_tree.proofs.Standing.{byte_directory}
 use Rattle.space_map.specs.Space.{GrantedNumbers}
 use Rattle.disk_change.specs.Directory.{is_among}
 use Rattle.disk_change.specs.Links.{directory_old, directory_entering, directories_concerned}
@@ -61,11 +62,6 @@ same_child None None e = refl
 same_child None (Some b) e = absurd (none_some e)
 same_child (Some a) None e = absurd (some_not_none e)
 same_child (Some a) (Some b) e = ap (λ (n : ℕ). Some (record { 0 = n })) (some_same e)
-
--- a kind's byte says whether it is that of directories
-directory_byte : (kind : Kind) → nat_eq (kind_byte kind) 2 ≡ is_directory_kind kind
-directory_byte File = refl
-directory_byte Directory = refl
 
 -- a node whose kind is said of an entry or of one that enters is among the directories exactly where it is one
 module _ (tree : TreeState) (old : List OldEntry) (enter : List Enter)
@@ -180,7 +176,7 @@ module _ (num : Numbering) (concerned : List ℕ) (old new : TreeState) (image :
   olds_known : (entry : OldEntry) → Contains plan.old entry → nat_eq entry.old.kept.inode.kind 2 ≡ is_directory new entry.node.0
   olds_known entry there =
       let own = is.stands.each entry.node.0 entry.old.number (is.from.numbered.old_numbers entry there) in
-      ap (λ n. nat_eq n 2) ((is.from.shown entry there).kind ∙ own.kind) ∙ directory_byte (kind_of old entry.node.0)
+      ap (λ n. nat_eq n 2) ((is.from.shown entry there).kind ∙ own.kind) ∙ byte_directory (kind_of old entry.node.0)
       ∙ ap is_directory_kind (sym (is.to.between.kinds entry.node.0)) ∙ sym (directory_by_kind new entry.node.0)
 
   enters_known : (one : Enter) → Contains plan.enter one → is_directory_kind one.kind ≡ is_directory new one.node.0

@@ -3,6 +3,7 @@ pub mod CommitOfPlan
 pub mod Counting
 pub mod Granted
 pub mod JoinedSlots
+pub mod KeptShown
 pub mod KnownDirectories
 pub mod NumbersGiven
 pub mod OwnInodes

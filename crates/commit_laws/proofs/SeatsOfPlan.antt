@@ -117,6 +117,10 @@ once_append xs ys one two apart m l i at also = by (split_there xs ys m i at) (s
     by (inr a) (inl b) = absurd (apart i (there_is_in xs l i b) (there_is_in ys a.0 i a.2))
     by (inr a) (inr b) = a.1 ∙ ap (λ k. length xs + k) (two a.0 b.0 i a.2 b.2) ∙ sym b.1
 
+-- a node that is built at a place stands there among the nodes
+pub node_there : (change : Planned) (m : ℕ) (seat : Seated) → slice_get change.seats m ≡ Some seat → slice_get (seated_nodes change) m ≡ Some seat.node
+node_there change m seat at = slice_get-map (λ (s : Seated). s.node) change.seats m ∙ ap (option_map (λ (s : Seated). s.node)) at
+
 module _ (num : Numbering) (concerned : List ℕ) (old new : TreeState) (image : SeenInodes) (plan : CommitPlan) (grant : GrantedNumbers) (is : IsCommitPlan num concerned old new image plan grant) where
   abbrev change : Planned
   change = change_planned plan
@@ -258,7 +262,4 @@ module _ (num : Numbering) (concerned : List ℕ) (old new : TreeState) (image :
   inodes_once m l i at also =
       let one = seat_at m i at in
       let two = seat_at l i also in
-      nodes_once m l one.0.node (seated_at m one.0 one.1) (seated_at l two.0 two.1 ∙ ap Some (after_once two.0.node one.0.node i two.2 one.2))
-    where
-      seated_at : (k : ℕ) (seat : Seated) → slice_get change.seats k ≡ Some seat → slice_get (seated_nodes change) k ≡ Some seat.node
-      seated_at k seat there = slice_get-map (λ (s : Seated). s.node) change.seats k ∙ ap (option_map (λ (s : Seated). s.node)) there
+      nodes_once m l one.0.node (node_there change m one.0 one.1) (node_there change l two.0 two.1 ∙ ap Some (after_once two.0.node one.0.node i two.2 one.2))

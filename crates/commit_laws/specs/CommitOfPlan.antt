@@ -1,7 +1,7 @@
 -- The commit that a plan makes with a grant, and that it is a commit.
 use Rattle.std.specs.Prelude.{◌≡◌, ℕ, true, false, List, map, Some, Contains}
 use Rattle.sfs_base.specs.declared.numbers.NodeId.{NodeId}
-use Rattle.sfs_image.specs.Seen.{Seen, SeenInodes}
+use Rattle.sfs_image.specs.Seen.{SeenInodes}
 use Rattle.sfs_tree.specs.Sound.{IsSound}
 use Rattle.sfs_tree.specs.Tree.{TreeState, kind_of, is_directory}
 use Rattle.image_tree.specs.Commit.{Commit, IsAside, MayFollow}
@@ -13,7 +13,6 @@ use Rattle.image_tree.specs.Need.{GrantServes}
 use Rattle.image_tree.specs.Numbers.{numbers_after, InodeGrantServes}
 use Rattle.image_tree.specs.Renamed.{Numbering}
 use Rattle.image_tree.specs.Stands.{StandsForTree, IsStorable}
-use Rattle.block_map.specs.Kept.{Kept, pointer_kept}
 use Rattle.space_map.specs.Space.{GrantedNumbers}
 use Rattle.disk_change.specs.Directory.{is_among}
 use Rattle.disk_change.specs.Lists.{AscendBy}
@@ -26,8 +25,8 @@ use Rattle.disk_change.specs.declared.files.FileChange.{FileChange}
 use Rattle.disk_change.specs.declared.old.OldEntry.{OldEntry}
 use Rattle.commit_laws.specs.CommitMade.{IsCommitOf, rewrites_seated, rewrites_of_change, takes_of_change, fresh_of_change}
 use Rattle.commit_laws.specs.Counting.{LeadTo}
+use Rattle.commit_laws.specs.KeptShown.{KeepsSeen}
 use Rattle.commit_laws.specs.NumbersGiven.{AreNumbered, node_leaves}
-use Rattle.commit_laws.specs.SlotsKept.{AreSlotBlocks, slots_joined}
 
 -- A commit's plan: what the disk has of the nodes that it concerns and that have an inode, the nets of directories, the changes of
 -- files, and the nodes that get and lose an inode.
@@ -57,20 +56,12 @@ commit_of num concerned plan grant = record {
   fresh = fresh_of_change (change_planned plan) grant;
 }
 
--- What is kept of a node is what its inode shows: kind, link count, size, its slots, block by block, and the block at each place.
-pub record KeepsSeen (kept : Kept) (seen : Seen) : Type 0 where
-  pub kind : kept.inode.kind ≡ seen.kind
-  pub links : kept.inode.links ≡ seen.links
-  pub size : kept.inode.size ≡ seen.size
-  pub slots : slots_joined kept.slots ≡ seen.slots
-  pub blocks : AreSlotBlocks kept.slots
-  pub pointers : (place : ℕ) → pointer_kept kept.inode kept.tables place ≡ seen.blocks place
-
--- A plan has what an image has of the nodes that it concerns: each of them that has an inode, with what this shows; and only such nodes
--- enter and leave.
+-- A plan has what an image has of the nodes that it concerns: exactly those of them that have an inode, each with what this shows; and only
+-- nodes that it concerns enter and leave.
 pub record PlansFrom (num : Numbering) (concerned : List ℕ) (image : SeenInodes) (plan : CommitPlan) : Type 0 where
   pub numbered : AreNumbered num plan.old plan.enter
   pub complete : (node i : ℕ) → is_among concerned node ≡ true → num node ≡ Some i → (entry : OldEntry) × Contains plan.old entry × (entry.node.0 ≡ node)
+  pub own : (entry : OldEntry) → Contains plan.old entry → is_among concerned entry.node.0 ≡ true
   pub shown : (entry : OldEntry) → Contains plan.old entry → KeepsSeen entry.old.kept (image.seen entry.old.number)
   pub entering : (one : Enter) → Contains plan.enter one → is_among concerned one.node.0 ≡ true
   pub leaving : (node : ℕ) → node_leaves plan.leave node ≡ true → is_among concerned node ≡ true
@@ -98,14 +89,14 @@ pub record IsCommitPlan (num : Numbering) (concerned : List ℕ) (old new : Tree
   pub follows : MayFollow (numbers_planned num plan grant.inodes) old new
 
 -- What a plan makes is a commit of its change, whose nets lead to the new tree.
-pub record MakesCommit (num : Numbering) (concerned : List ℕ) (old new : TreeState) (image : SeenInodes) (plan : CommitPlan) (grant : GrantedNumbers) : Type 0 where
+pub record CommitsPlan (num : Numbering) (concerned : List ℕ) (old new : TreeState) (image : SeenInodes) (plan : CommitPlan) (grant : GrantedNumbers) : Type 0 where
   pub is : IsCommitOf (commit_of num concerned plan grant) (change_planned plan) grant old new image concerned
   pub leads : LeadTo old new (change_planned plan).changes.directories plan.nets
 
 -- So it does.
 abbrev pub PlansMakeCommits : Type 0
 PlansMakeCommits = (num : Numbering) (concerned : List ℕ) (old new : TreeState) (image : SeenInodes) (plan : CommitPlan) (grant : GrantedNumbers)
-    → IsCommitPlan num concerned old new image plan grant → MakesCommit num concerned old new image plan grant
+    → IsCommitPlan num concerned old new image plan grant → CommitsPlan num concerned old new image plan grant
 
 -- the image that the commit of a plan makes
 abbrev pub image_planned : Numbering → List ℕ → TreeState → SeenInodes → CommitPlan → GrantedNumbers → SeenInodes
@@ -113,9 +104,15 @@ image_planned num concerned new image plan grant =
     let commit = commit_of num concerned plan grant in
     image_made commit new image (rewrites_of_change commit (change_planned plan) image) concerned
 
--- Where both trees are sound, and the new one is such that an image may stand for it, the image that the commit of a plan makes stands for
--- the new tree and shows it.
+-- A plan leads from a sound tree to a sound one, which is such that an image may stand for it.
+pub record IsSoundPlan (num : Numbering) (concerned : List ℕ) (old new : TreeState) (image : SeenInodes) (plan : CommitPlan) (grant : GrantedNumbers) : Type 0 where
+  pub whole : IsCommitPlan num concerned old new image plan grant
+  pub sound : IsSound old
+  pub next_sound : IsSound new
+  pub storable : IsStorable (numbers_planned num plan grant.inodes) new
+
+-- The image that the commit of such a plan makes stands for the new tree, and shows it.
 abbrev pub PlansLeaveTrees : Type 0
 PlansLeaveTrees = (num : Numbering) (concerned : List ℕ) (old new : TreeState) (image : SeenInodes) (plan : CommitPlan) (grant : GrantedNumbers) (making : Making)
-    → IsCommitPlan num concerned old new image plan grant → IsSound old → IsSound new → IsStorable (numbers_planned num plan grant.inodes) new
+    → IsSoundPlan num concerned old new image plan grant
     → LeavesTree (commit_of num concerned plan grant) new (image_planned num concerned new image plan grant) making

@@ -2,8 +2,10 @@ pub mod CommitMade
 pub mod CommitOfPlan
 pub mod Counting
 pub mod Granted
+pub mod KeptShown
 pub mod KnownKinds
 pub mod NumbersGiven
+pub mod PlanShown
 pub mod Ranked
 pub mod Shown
 pub mod SlotsKept
