@@ -1,3 +1,4 @@
+pub mod BegunShown
 pub mod CommitMade
 pub mod CommitOfPlan
 pub mod Counting
@@ -7,6 +8,7 @@ pub mod KeptShown
 pub mod KnownDirectories
 pub mod NumbersGiven
 pub mod OwnInodes
+pub mod PlanShown
 pub mod Ranked
 pub mod SeatsOfPlan
 pub mod Shown

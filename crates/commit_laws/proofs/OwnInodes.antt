@@ -53,7 +53,7 @@ in_ascending key (item ∷ items) found y has = elim (in_ascending key items (pu
     first (zero, within, is) = inl (0, omega arith, is)
     first (suc k, within, is) = inr (k, omega arith, is)
 
-ascending_is_in : {X : Type 0} (key : X → ℕ) (items : List X) (y : X) → Contains (ascending_by key items) y → Contains items y
+pub ascending_is_in : {X : Type 0} (key : X → ℕ) (items : List X) (y : X) → Contains (ascending_by key items) y → Contains items y
 ascending_is_in key items y has = elim (in_ascending key items [] y has) [
   | inl is ↦ is
   | inr (k, within, is) ↦ absurd (omega arith)

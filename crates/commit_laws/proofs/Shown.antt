@@ -53,7 +53,7 @@ children_of directories tree nets known node = by (item_with net_node node nets)
     by (Some one) e child is = known.children one (found_is_in _ nets one e) child is
 
 -- the slots in blocks up to the last one with a row are those of so many blocks
-length_in_blocks : (slots : Slots) → length (in_blocks slots) ≡ 15 * blocks_up_to_last slots
+pub length_in_blocks : (slots : Slots) → length (in_blocks slots) ≡ 15 * blocks_up_to_last slots
 length_in_blocks slots =
     let n : ℕ = 15 * blocks_up_to_last slots in
     length-take-le n (slots ++ replicate n None) (omega (arith, length-append slots (replicate n None), length-replicate {A = Option Row} n None))

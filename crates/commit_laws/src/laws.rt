@@ -3,7 +3,9 @@ ghost use Rattle.commit_laws.specs.CommitMade.{ChangesMakeCommits};
 ghost use Rattle.commit_laws.specs.CommitOfPlan.{PlansMakeCommits, PlansLeaveTrees};
 ghost use Rattle.commit_laws.specs.Counting.{NetsCountLinks};
 ghost use Rattle.commit_laws.specs.Granted.{FreshBlocksAreGranted, InodesAreGrantedOrOld};
+ghost use Rattle.commit_laws.specs.KeptShown.{KeptPartsShow};
 ghost use Rattle.commit_laws.specs.NumbersGiven.{GivenNumbersAreThose};
+ghost use Rattle.commit_laws.specs.PlanShown.{PlansShowInodes, PlansKeepShown};
 ghost use Rattle.commit_laws.specs.Ranked.{NodesAreBuiltByRank, NeedsAreThose};
 ghost use Rattle.commit_laws.specs.Shown.{BuiltNodesShow};
 ghost use Rattle.commit_laws.specs.SlotsKept.{NetSlotsAreThose};
@@ -72,4 +74,19 @@ pub fn plans_make_commits()
 /// The image that the commit of a plan makes stands for the new tree.
 pub fn plans_leave_trees()
     ensures { PlansLeaveTrees }
+{}
+
+/// What is kept of a part is what its inode shows.
+pub fn kept_parts_show()
+    ensures { KeptPartsShow }
+{}
+
+/// What a plan builds of a node shows what its inode shows in the image that the commit makes.
+pub fn plans_show_inodes()
+    ensures { PlansShowInodes }
+{}
+
+/// What the disk has of a node after the commit of a plan is what its inode then shows.
+pub fn plans_keep_shown()
+    ensures { PlansKeepShown }
 {}
