@@ -51,7 +51,7 @@ in_taken (suc n) [] x has = has
 in_taken (suc n) (y ∷ xs) x (zero, within, is) = (0, omega arith, is)
 in_taken (suc n) (y ∷ xs) x (suc k, within, is) = further_in y x xs (in_taken n xs x (k, omega arith, is))
 
-in_dropped : (n : ℕ) (xs : List ℕ) (x : ℕ) → Contains (drop n xs) x → Contains xs x
+pub in_dropped : {X : Type 0} (n : ℕ) (xs : List X) (x : X) → Contains (drop n xs) x → Contains xs x
 in_dropped zero [] x has = has
 in_dropped zero (y ∷ xs) x has = has
 in_dropped (suc n) [] x has = has

@@ -12,5 +12,7 @@ pub mod PlanShown
 pub mod Ranked
 pub mod SeatsOfPlan
 pub mod Shown
+pub mod SlotBlocks
 pub mod SlotsKept
+pub mod SlotsTouched
 pub mod Whole
