@@ -10,6 +10,7 @@ pub mod NumbersGiven
 pub mod OwnInodes
 pub mod PlanShown
 pub mod Ranked
+pub mod Rewritten
 pub mod SeatsOfPlan
 pub mod Shown
 pub mod SlotBlocks

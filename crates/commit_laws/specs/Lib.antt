@@ -7,6 +7,7 @@ pub mod KnownKinds
 pub mod NumbersGiven
 pub mod PlanShown
 pub mod Ranked
+pub mod Rewritten
 pub mod Shown
 pub mod SlotsKept
 pub mod Whole
