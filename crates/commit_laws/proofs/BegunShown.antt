@@ -19,7 +19,7 @@ use Rattle.sfs_tree.specs.Tree.{TreeState, row_of, kind_of, bytes_of, links_of, 
 use Rattle.sfs_tree.proofs.Counting.{count_none}
 use Rattle.sfs_tree.proofs.Readings.{directory_by_kind}
 use Rattle.absorb.specs.declared.nets.NetRow.{NetRow}
-use Rattle.image_tree.specs.Commit.{Commit, blank, seen_before, slots_after}
+use Rattle.image_tree.specs.Commit.{Commit, blank, seen_before, slots_after, IsCommitStep}
 use Rattle.image_tree.specs.Made.{image_made, seen_built, IsMadeFrom}
 use Rattle.image_tree.specs.Renamed.{Numbering}
 use Rattle.image_tree.specs.Slots.{blocks_up_to_last}
@@ -194,6 +194,17 @@ module _ (num : Numbering) (concerned : List ℕ) (old new : TreeState) (image :
           let here = eqb-true (file_node one) begun.node (found_passes (λ item. nat_eq (file_node item) begun.node) plan.files one e) in
           full.sizes.changed one (found_is_in (λ item. nat_eq (file_node item) begun.node) plan.files one e) ∙ ap (λ n. length (bytes_of new n)) here
 
+  -- what the plan makes is a commit's step
+  pub step : IsCommitStep commit old new image (image_planned num concerned new image plan grant)
+  step = record {
+    stands = is.stands;
+    sound = full.sound.sound;
+    commits = changes_make_commits commit change grant old new image concerned is.stands made.is made.leads is.serves.blocks;
+    next_sound = full.sound.next_sound;
+    follows = is.follows;
+    storable = full.sound.storable;
+  }
+
   -- a directory keeps within its blocks, and a file has none
   blocks_fit : (begun : Begun) (i : ℕ) → commit.after begun.node ≡ Some i → is_among concerned begun.node ≡ true → begun.kind ≡ kind_of old begun.node → IsPlain begun
       → (kind : Kind) → begun.kind ≡ kind → blocks_up_to_last (slots_after commit.after new (net_of_node plan.nets begun.node) (seen_before commit image begun.node).slots) ≤ DIRECTORY_BLOCKS
@@ -204,14 +215,7 @@ module _ (num : Numbering) (concerned : List ℕ) (old new : TreeState) (image :
   blocks_fit begun i has among kind plain Directory directory =
       let next : SeenInodes = image_planned num concerned new image plan grant in
       let seen = built_seen commit old new image (rewrites_of_change commit change image) concerned is.stands from begun.node i has among in
-      let fits = commits_keep_directories_fit commit old new image next (record {
-        stands = is.stands;
-        sound = full.sound.sound;
-        commits = changes_make_commits commit change grant old new image concerned is.stands made.is made.leads is.serves.blocks;
-        next_sound = full.sound.next_sound;
-        follows = is.follows;
-        storable = full.sound.storable;
-      }) full.room.directories i (number_within commit old image is.stands made.is.numbers begun.node i has, ap (λ (s : Seen). s.kind) seen ∙ ap kind_byte (is.to.between.kinds begun.node ∙ sym kind ∙ directory)) in
+      let fits = commits_keep_directories_fit commit old new image next step full.room.directories i (number_within commit old image is.stands made.is.numbers begun.node i has, ap (λ (s : Seen). s.kind) seen ∙ ap kind_byte (is.to.between.kinds begun.node ∙ sym kind ∙ directory)) in
       let slots = ap (λ (s : Seen). length s.slots) seen ∙ length_in_blocks (slots_after commit.after new (net_of_node plan.nets begun.node) (seen_before commit image begun.node).slots) in
       omega (arith, fits, slots)
 

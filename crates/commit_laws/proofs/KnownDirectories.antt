@@ -57,7 +57,7 @@ given_is_in f (z ∷ xs) x y (suc k, within, is) e = by (f z) (given_is_in f xs 
     by (Some w) rest = further_in w y (filter_map f xs) rest
 
 -- two nodes with one number are one
-same_child : (a b : Option NodeId) → number_of a ≡ number_of b → a ≡ b
+pub same_child : (a b : Option NodeId) → number_of a ≡ number_of b → a ≡ b
 same_child None None e = refl
 same_child None (Some b) e = absurd (none_some e)
 same_child (Some a) None e = absurd (some_not_none e)
@@ -124,12 +124,12 @@ module _ (num : Numbering) (concerned : List ℕ) (old new : TreeState) (image :
   own_net one there = ap (λ (o : Option DirectoryNet). option_map_or (λ (n : DirectoryNet). n.net.items) o []) (own_item net_node plan.nets is.to.ascend one there)
 
   -- a row of a net, in the two trees
-  record NetRowOf (directory : ℕ) (row : NetRow) : Type 0 where
-    before : number_of row.before ≡ row_of old directory row.name
-    after : number_of row.after ≡ row_of new directory row.name
-    differs : row.before ≢ row.after
+  pub record NetRowOf (directory : ℕ) (row : NetRow) : Type 0 where
+    pub before : number_of row.before ≡ row_of old directory row.name
+    pub after : number_of row.after ≡ row_of new directory row.name
+    pub differs : row.before ≢ row.after
 
-  net_row : (directory : ℕ) (row : NetRow) → Contains (net_of_node plan.nets directory) row → NetRowOf directory row
+  pub net_row : (directory : ℕ) (row : NetRow) → Contains (net_of_node plan.nets directory) row → NetRowOf directory row
   net_row directory row there =
       let own = All-contains (IsNetRow (names_of directory old.rows) (names_of directory new.rows)) (net_of_node plan.nets directory) row (is.to.between.each directory).each there in record {
         before = own.before ∙ get-names_where directory (λ _. true) old.rows row.name;

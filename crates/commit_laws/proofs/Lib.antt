@@ -11,6 +11,8 @@ pub mod OwnInodes
 pub mod PlanShown
 pub mod Ranked
 pub mod Rewritten
+pub mod RewrittenAsDefined
+pub mod RewrittenBlocks
 pub mod SeatsOfPlan
 pub mod Shown
 pub mod SlotBlocks

@@ -115,6 +115,13 @@ module _ (numbers : ℕ → Option ℕ) (directories : List ℕ) (net : List Net
   length_old [] rows = refl
   length_old (block ∷ blocks) rows = ap suc (length_old blocks (rows_left (block_moved directories net block) rows))
 
+  -- no block goes before its end is known
+  pub length_after : (blocks : List Slots) → length blocks ≤ length (slot_blocks_after directories net blocks)
+  length_after blocks =
+      let rest = rows_behind directories net blocks (rows_new directories net) in
+      let all = length-append (old_blocks_after directories net blocks (rows_new directories net)) (map (block_added rest) (range_with_len 0 (blocks_for rest))) in
+      omega (arith, length_old blocks (rows_new directories net))
+
   -- so it is of each block that there was
   old_touched : (blocks : List Slots) (rows : List Row) (n : ℕ) → TellsApart (slots_joined blocks) → AreBrought rows → n < length blocks
       → get_or (blocks_touched directories net blocks rows) n false ≡ changes (get_or blocks n empty_block) (get_or (old_blocks_after directories net blocks rows) n empty_block)

@@ -7,6 +7,7 @@ ghost use Rattle.commit_laws.specs.KeptShown.{KeptPartsShow};
 ghost use Rattle.commit_laws.specs.NumbersGiven.{GivenNumbersAreThose};
 ghost use Rattle.commit_laws.specs.PlanShown.{PlansShowInodes, PlansKeepShown};
 ghost use Rattle.commit_laws.specs.Ranked.{NodesAreBuiltByRank, NeedsAreThose};
+ghost use Rattle.commit_laws.specs.Rewritten.{SameRewritesTakeTheSame, PlansRewriteAsDefined, PlansNeedAsDefined};
 ghost use Rattle.commit_laws.specs.Shown.{BuiltNodesShow};
 ghost use Rattle.commit_laws.specs.SlotsKept.{NetSlotsAreThose};
 ghost use Rattle.commit_laws.specs.Whole.{BuiltNodesShowTheirInodes, ChangesLeaveTrees};
@@ -89,4 +90,19 @@ pub fn plans_show_inodes()
 /// What the disk has of a node after the commit of a plan is what its inode then shows.
 pub fn plans_keep_shown()
     ensures { PlansKeepShown }
+{}
+
+/// Rewritings that say the same take fresh blocks at the same places.
+pub fn same_rewrites_take_the_same()
+    ensures { SameRewritesTakeTheSame }
+{}
+
+/// What a plan rewrites of each node is what the definition says.
+pub fn plans_rewrite_as_defined()
+    ensures { PlansRewriteAsDefined }
+{}
+
+/// A plan needs as many fresh blocks as the definition says.
+pub fn plans_need_as_defined()
+    ensures { PlansNeedAsDefined }
 {}
