@@ -1,3 +1,4 @@
+pub mod AllWritten
 pub mod BegunShown
 pub mod CommitMade
 pub mod CommitOfPlan

@@ -2,7 +2,7 @@
 ghost use Rattle.commit_laws.specs.CommitMade.{ChangesMakeCommits};
 ghost use Rattle.commit_laws.specs.CommitOfPlan.{PlansMakeCommits, PlansLeaveTrees};
 ghost use Rattle.commit_laws.specs.Counting.{NetsCountLinks};
-ghost use Rattle.commit_laws.specs.Granted.{FreshBlocksAreGranted, InodesAreGrantedOrOld};
+ghost use Rattle.commit_laws.specs.Granted.{FreshBlocksAreGranted, InodesAreGrantedOrOld, GrantedBlocksAreWritten};
 ghost use Rattle.commit_laws.specs.KeptShown.{KeptPartsShow};
 ghost use Rattle.commit_laws.specs.NumbersGiven.{GivenNumbersAreThose};
 ghost use Rattle.commit_laws.specs.PlanShown.{PlansShowInodes, PlansKeepShown};
@@ -105,4 +105,9 @@ pub fn plans_rewrite_as_defined()
 /// A plan needs as many fresh blocks as the definition says.
 pub fn plans_need_as_defined()
     ensures { PlansNeedAsDefined }
+{}
+
+/// The fresh blocks that a commit writes are exactly those of its grant, in their order.
+pub fn granted_blocks_are_written()
+    ensures { GrantedBlocksAreWritten }
 {}

@@ -17,7 +17,8 @@ use Rattle.image_tree.specs.Commit.{brought_row, slot_after, new_rows, filled}
 use Rattle.image_tree.specs.Need.{slots_in_block, same_row, same_slots, rewrites_slots, KeepsBlock}
 use Rattle.image_tree.specs.Laws.{NetsKeepPlaces, BlocksAreKeptOrRewritten}
 
-le_true : (a b : ℕ) → a ≤ b → nat_le a b ≡ true
+-- a test of an order is true where this holds
+pub le_true : (a b : ℕ) → a ≤ b → nat_le a b ≡ true
 le_true a b le = grind (arith, nat_tests)
 
 true_le : (a b : ℕ) → nat_le a b ≡ true → a ≤ b
