@@ -1,6 +1,6 @@
 -- The fresh blocks that a commit writes are exactly those of its grant, in their order.
 use Rattle.std.proofs.Common.{◌≡◌, ◌≢◌, ℕ, zero, suc, ◌+◌, ◌-◌, ◌<◌, ◌≤◌, Bool, true, false, cond, not, ◌&&◌, ◌||◌, List, [], ◌∷◌, ◌++◌, length, get_or, map, take, drop, filter_map, Option, Some, None, is_some, inl, inr, refl, sym, ap, subst, ◌∙◌, arith, nat_lt, nat_eq, sum_by, count_by, Contains}
-use Rattle.std.specs.Prelude.{◌⊎◌, nat_le, slice_index, option_to_list}
+use Rattle.std.specs.Prelude.{◌⊎◌, nat_le, slice_get, slice_index, option_to_list}
 use Rattle.std.specs.List.{flat_map, range_with_len, find}
 use Rattle.std.specs.Option.{unwrap_or, option_map_or}
 use Rattle.std.proofs.lemmas.Bool.{cond-true, cond-false, cases_Bool, cases_lt, lt-ltb, le-ltb}
@@ -9,6 +9,7 @@ use Rattle.std.proofs.lemmas.List.{append-nil, map-append, take_more, take_all, 
 use Rattle.std.proofs.lemmas.List.Sums.{sum_by-cons}
 use Rattle.sfs_base.proofs.BasicLists.{take_none}
 use Rattle.sfs_base.proofs.BasicNumbers.{not_same, from_plus_zero}
+use Rattle.sfs_base.proofs.BasicOptions.{none_some, some_same}
 use Rattle.sfs_base.proofs.BasicTruth.{and_false, or_true}
 use Rattle.sfs_image.specs.Inode.{pointers_bytes}
 use Rattle.sfs_image.specs.Seen.{FILE_BLOCKS, PLACES}
@@ -37,9 +38,10 @@ use Rattle.disk_change.specs.Planned.{blocks_taken}
 use Rattle.disk_change.specs.Seated.{CommitChanges, Seated, net_of_node}
 use Rattle.disk_change.specs.declared.files.FileChange.{FileChange}
 use Rattle.disk_change.specs.declared.pages.Page.{Page}
-use Rattle.disk_change.proofs.Directories.{filter_map_more}
-use Rattle.disk_change.proofs.NumbersGiven.{first_in, further_in}
+use Rattle.disk_change.proofs.Directories.{filter_map_more, drop_twice}
+use Rattle.disk_change.proofs.NumbersGiven.{first_in, further_in, drop_zero}
 use Rattle.commit_laws.specs.Granted.{EachAscends, IsGrantFor, GrantedBlocksAreWritten}
+use Rattle.commit_laws.specs.Ranked.{fresh_cut}
 
 -- the number of a block that is written
 abbrev pub written_block : TxBlock → ℕ
@@ -150,6 +152,27 @@ module _ (numbers : ℕ → Option ℕ) (net : List NetRow) (number : ℕ) (fres
   table_is : (k : ℕ) → k < 16 → table_of_place one_built k ≡ indirect_block_written (table_fate rewrite k) (slice_index one_built.meta.indirect k) (find (λ t. nat_eq t.place k) one_built.tables)
   table_is k low = ap (λ fate. indirect_block_written fate (slice_index one_built.meta.indirect k) (find (λ t. nat_eq t.place k) one_built.tables)) (get_or-tabulate 16 (table_fate rewrite) k Stays low)
 
+  -- the block of an indirect block that is written
+  abbrev pub written_table : ℕ → TxBlock
+  written_table k = record { block = slice_index one_built.meta.indirect k; bytes = option_map_or (λ t. pointers_bytes t.pointers) (find (λ t. nat_eq t.place k) one_built.tables) zero_bytes }
+
+  table_below : (k : ℕ) → k < 16 → table_fate rewrite k ≡ IsWritten → rank (takes_place rewrite) (FILE_BLOCKS + k) < length fresh
+  table_below k low is =
+      let up = rank_up (takes_place rewrite) (FILE_BLOCKS + suc k) (16 - suc k) in
+      let whole : FILE_BLOCKS + suc k + (16 - suc k) ≡ PLACES = omega arith in
+      let one_more : suc k ≡ k + 1 = omega arith in
+      let more = ap (λ n. rank (takes_place rewrite) (FILE_BLOCKS + n)) one_more ∙ rank_next_table rewrite k ∙ ap (λ f. rank (takes_place rewrite) (FILE_BLOCKS + k) + fresh_by_fate f) is in
+      let all = ap (rank (takes_place rewrite)) whole in
+      omega (arith, up, more, all, enough)
+
+  pub table_given : (k : ℕ) → k < 16 → table_fate rewrite k ≡ IsWritten → (slice_index one_built.meta.indirect k ≢ 0) × (table_of_place one_built k ≡ Some (written_table k))
+  table_given k low is =
+      let there : slice_index one_built.meta.indirect k ≢ 0 = λ hole. some (rank (takes_place rewrite) (FILE_BLOCKS + k)) (table_below k low is) (sym (table_pointer k low is) ∙ hole) in (
+        there,
+        table_is k low ∙ ap (λ fate. indirect_block_written fate (slice_index one_built.meta.indirect k) (find (λ t. nat_eq t.place k) one_built.tables)) is
+            ∙ cond-false (nat_eq (slice_index one_built.meta.indirect k) 0) None (Some (written_table k)) (not_same (slice_index one_built.meta.indirect k) 0 there),
+      )
+
   -- all data, and the first of the indirect blocks, have the first blocks
   tables_first : (k : ℕ) → k ≤ 16 → map written_block (filter_map (data_written one_built pages) seat.changed ++ filter_map (table_of_place one_built) (range_with_len 0 k)) ≡ take (rank (takes_place rewrite) (FILE_BLOCKS + k)) fresh
   tables_first zero low =
@@ -185,18 +208,12 @@ module _ (numbers : ℕ → Option ℕ) (net : List NetRow) (number : ℕ) (fres
       next Goes is rest = stays Goes is refl (table_is k (omega arith) ∙ ap (λ fate. indirect_block_written fate (slice_index one_built.meta.indirect k) (find (λ t. nat_eq t.place k) one_built.tables)) is) rest
       next IsWritten is rest =
           let at = table_pointer k (omega arith) is in
-          let up = rank_up (takes_place rewrite) (FILE_BLOCKS + suc k) (16 - suc k) in
-          let whole : FILE_BLOCKS + suc k + (16 - suc k) ≡ PLACES = omega arith in
-          let below : before < length fresh = (let more = ranked IsWritten is in let all = ap (rank (takes_place rewrite)) whole in omega (arith, up, more, all, enough)) in
-          let there : nat_eq (slice_index one_built.meta.indirect k) 0 ≡ false = not_same (slice_index one_built.meta.indirect k) 0 (λ hole. some before below (sym at ∙ hole)) in
-          let bytes = option_map_or (λ t. pointers_bytes t.pointers) (find (λ t. nat_eq t.place k) one_built.tables) zero_bytes in
-          let given : table_of_place one_built k ≡ Some (record { block = slice_index one_built.meta.indirect k; bytes = bytes }) =
-          table_is k (omega arith) ∙ ap (λ fate. indirect_block_written fate (slice_index one_built.meta.indirect k) (find (λ t. nat_eq t.place k) one_built.tables)) is
-          ∙ cond-false (nat_eq (slice_index one_built.meta.indirect k) 0) None (Some (record { block = slice_index one_built.meta.indirect k; bytes = bytes })) there in
+          let below = table_below k (omega arith) is in
+          let given = (table_given k (omega arith) is).1 in
           ap (λ n. map written_block (Those n)) one_more
           ∙ ap (λ those. map written_block (filter_map (data_written one_built pages) seat.changed ++ those)) (one_more_given (table_of_place one_built) k _ given)
-          ∙ ap (map written_block) (sym (append_assoc (filter_map (data_written one_built pages) seat.changed) (filter_map (table_of_place one_built) (range_with_len 0 k)) (record { block = slice_index one_built.meta.indirect k; bytes = bytes } ∷ [])))
-          ∙ map-append written_block (Those k) (record { block = slice_index one_built.meta.indirect k; bytes = bytes } ∷ [])
+          ∙ ap (map written_block) (sym (append_assoc (filter_map (data_written one_built pages) seat.changed) (filter_map (table_of_place one_built) (range_with_len 0 k)) (written_table k ∷ [])))
+          ∙ map-append written_block (Those k) (written_table k ∷ [])
           ∙ (λ j. rest j ++ at j ∷ [])
           ∙ sym (take_next fresh before below)
           ∙ ap (λ n. take n fresh) (sym (ranked IsWritten is))
@@ -205,33 +222,56 @@ module _ (numbers : ℕ → Option ℕ) (net : List NetRow) (number : ℕ) (fres
   pub node_written : map written_block (fresh_written one_built pages) ≡ fresh
   node_written = tables_first 16 (omega arith) ∙ ap (λ n. take n fresh) (sym enough) ∙ take_all (length fresh) fresh (omega arith)
 
+-- the blocks that a node has of a grant: as many as it takes, none of them 0
+pub record IsCutFor (seat : Seated) (own : List ℕ) : Type 0 where
+  pub enough : length own ≡ blocks_taken seat
+  pub some : (k : ℕ) → k < length own → slice_index own k ≢ 0
+
+module _ (seat : Seated) (seats : List Seated) (fresh : List ℕ) (grant : IsGrantFor (seat ∷ seats) fresh) where
+  counted : sum_by blocks_taken (seat ∷ seats) ≡ blocks_taken seat + sum_by blocks_taken seats
+  counted = sum_by-cons blocks_taken seat seats
+
+  -- the first node has the first of them
+  pub first_cut : IsCutFor seat (take (blocks_taken seat) fresh)
+  first_cut = record {
+    enough = own_long;
+    some = λ k within hole. grant.some k (let long = grant.enough in omega (arith, counted, long, own_long)) (sym (get_or-take (blocks_taken seat) fresh k 0 (omega (arith, own_long))) ∙ hole);
+  }
+    where
+      own_long : length (take (blocks_taken seat) fresh) ≡ blocks_taken seat
+      own_long = length-take-le (blocks_taken seat) fresh (let long = grant.enough in omega (arith, counted, long))
+
+  -- and the others have the rest
+  pub rest_cut : IsGrantFor seats (drop (blocks_taken seat) fresh)
+  rest_cut = record {
+    enough = rest_long;
+    some = λ k within hole. grant.some (blocks_taken seat + k) (let long = grant.enough in omega (arith, counted, long, rest_long)) (sym (get_or-drop (blocks_taken seat) fresh k 0) ∙ hole);
+  }
+    where
+      rest_long : length (drop (blocks_taken seat) fresh) ≡ sum_by blocks_taken seats
+      rest_long = let long = grant.enough in omega (arith, counted, long, length-drop (blocks_taken seat) fresh)
+
+-- so each has its own
+pub cut_of : (seats : List Seated) (fresh : List ℕ) (m : ℕ) (seat : Seated) → slice_get seats m ≡ Some seat → IsGrantFor seats fresh → IsCutFor seat (fresh_cut seats fresh m seat)
+cut_of [] fresh m seat at grant = absurd (none_some at)
+cut_of (first ∷ seats) fresh zero seat at grant =
+    subst (λ those. IsCutFor seat (take (blocks_taken seat) those)) (sym (drop_zero fresh)) (subst (λ (s : Seated). IsCutFor s (take (blocks_taken s) fresh)) (some_same at) (first_cut first seats fresh grant))
+cut_of (first ∷ seats) fresh (suc m) seat at grant =
+    subst (λ those. IsCutFor seat (take (blocks_taken seat) those))
+    (drop_twice (sum_by blocks_taken (take m seats)) (blocks_taken first) fresh ∙ ap (λ n. drop n fresh) (sym (sum_by-cons blocks_taken first (take m seats))))
+    (cut_of seats (drop (blocks_taken first) fresh) m seat at (rest_cut first seats fresh grant))
+
 all_written : (changes : CommitChanges) (numbers : ℕ → Option ℕ) (files : List FileChange) (seats : List Seated) (fresh : List ℕ) → EachAscends seats → IsGrantFor seats fresh
     → map written_block (flat_map (fresh_of_node files) (nodes_built changes numbers seats fresh)) ≡ fresh
 all_written changes numbers files [] [] each grant = refl
 all_written changes numbers files [] (block ∷ fresh) each grant = absurd (let long = grant.enough in omega arith)
 all_written changes numbers files (seat ∷ seats) fresh each grant =
+    let own : List ℕ = take (blocks_taken seat) fresh in
+    let cut = first_cut seat seats fresh grant in
     map-append written_block (fresh_of_node files (built_by changes numbers own seat)) (flat_map (fresh_of_node files) (nodes_built changes numbers seats (drop (blocks_taken seat) fresh)))
-    ∙ (λ i. node_written numbers (net_of_node changes.nets seat.node) (unwrap_or (numbers seat.node) 0) own seat (pages_of_node files seat.node) (each seat (first_in seat seats)) own_long own_some i
-    ++ all_written changes numbers files seats (drop (blocks_taken seat) fresh) (λ other there. each other (further_in seat other seats there)) (record { enough = rest_long; some = rest_some }) i)
+    ∙ (λ i. node_written numbers (net_of_node changes.nets seat.node) (unwrap_or (numbers seat.node) 0) own seat (pages_of_node files seat.node) (each seat (first_in seat seats)) cut.enough cut.some i
+    ++ all_written changes numbers files seats (drop (blocks_taken seat) fresh) (λ other there. each other (further_in seat other seats there)) (rest_cut seat seats fresh grant) i)
     ∙ take-append-drop (blocks_taken seat) fresh
-  where
-    own : List ℕ
-    own = take (blocks_taken seat) fresh
-
-    counted : sum_by blocks_taken (seat ∷ seats) ≡ blocks_taken seat + sum_by blocks_taken seats
-    counted = sum_by-cons blocks_taken seat seats
-
-    own_long : length own ≡ blocks_taken seat
-    own_long = length-take-le (blocks_taken seat) fresh (let long = grant.enough in omega (arith, counted, long))
-
-    own_some : (k : ℕ) → k < length own → slice_index own k ≢ 0
-    own_some k within hole = grant.some k (let long = grant.enough in omega (arith, counted, long, own_long)) (sym (get_or-take (blocks_taken seat) fresh k 0 (omega (arith, own_long))) ∙ hole)
-
-    rest_long : length (drop (blocks_taken seat) fresh) ≡ sum_by blocks_taken seats
-    rest_long = let long = grant.enough in omega (arith, counted, long, length-drop (blocks_taken seat) fresh)
-
-    rest_some : (k : ℕ) → k < length (drop (blocks_taken seat) fresh) → slice_index (drop (blocks_taken seat) fresh) k ≢ 0
-    rest_some k within hole = grant.some (blocks_taken seat + k) (let long = grant.enough in omega (arith, counted, long, rest_long)) (sym (get_or-drop (blocks_taken seat) fresh k 0) ∙ hole)
 
 pub granted_blocks_are_written : GrantedBlocksAreWritten
 granted_blocks_are_written change grant each enough = all_written change.changes (numbers_with change grant.inodes) change.changes.files change.seats grant.blocks each enough

@@ -86,6 +86,9 @@ module _ (num : Numbering) (concerned : List ℕ) (old new : TreeState) (image :
       empty = count_none (holds_directory old node) old.rows (λ k y row. ap (λ b. b && is_directory old y) (not_same k.0 node (λ here.
           let has = holder_number num old image full.sound.sound is.stands node k.1 y (subst (λ d. row_of old d k.1 ≡ Some y) here row) in none_some (sym none ∙ has.1))))
 
+  old_had : (entry : OldEntry) → Contains plan.old entry → num entry.node.0 ≡ Some entry.old.number
+  old_had entry there = is.from.numbered.old_numbers entry there
+
   -- what a node begins with
   old_begins : (entry : OldEntry) → Contains plan.old entry → BeginsWith old (seen_before commit image entry.node.0) (begun_old entry)
   old_begins entry there = subst (λ (seen : Seen). BeginsWith old seen (begun_old entry)) (sym seen_is) (record {
@@ -96,17 +99,14 @@ module _ (num : Numbering) (concerned : List ℕ) (old new : TreeState) (image :
     pointers = shown.pointers;
   })
     where
-      had : num entry.node.0 ≡ Some entry.old.number
-      had = is.from.numbered.old_numbers entry there
-
       seen_is : seen_before commit image entry.node.0 ≡ image.seen entry.old.number
-      seen_is = ap (λ (o : Option ℕ). option_map_or image.seen o blank) had
+      seen_is = ap (λ (o : Option ℕ). option_map_or image.seen o blank) (old_had entry there)
 
       shown : KeepsSeen entry.old.kept (image.seen entry.old.number)
       shown = is.from.shown entry there
 
       own : ShowsNode num old entry.node.0 (image.seen entry.old.number)
-      own = is.stands.each entry.node.0 entry.old.number had
+      own = is.stands.each entry.node.0 entry.old.number (old_had entry there)
 
   entering_begins : (one : Enter) → Contains plan.enter one → BeginsWith old (seen_before commit image one.node.0) (begun_entering one)
   entering_begins one there = subst (λ (seen : Seen). BeginsWith old seen (begun_entering one)) (sym seen_is) (record {
@@ -134,17 +134,14 @@ module _ (num : Numbering) (concerned : List ℕ) (old new : TreeState) (image :
   old_plain : (entry : OldEntry) → Contains plan.old entry → IsPlain (begun_old entry)
   old_plain entry there = record {
     size = λ file. shown.size ∙ own.size ∙ ap (λ k. cond (nat_eq k 2) (4096 * (length (image.seen entry.old.number).slots / 15)) (length (image.seen entry.old.number).bytes)) (seen_file file) ∙ ap length own.bytes;
-    slots = λ file. ap (λ (o : Option ℕ). (option_map_or image.seen o blank).slots) had ∙ sym shown.slots ∙ ap slots_joined (shown.plain (seen_file file));
+    slots = λ file. ap (λ (o : Option ℕ). (option_map_or image.seen o blank).slots) (old_had entry there) ∙ sym shown.slots ∙ ap slots_joined (shown.plain (seen_file file));
   }
     where
-      had : num entry.node.0 ≡ Some entry.old.number
-      had = is.from.numbered.old_numbers entry there
-
       shown : KeepsSeen entry.old.kept (image.seen entry.old.number)
       shown = is.from.shown entry there
 
       own : ShowsNode num old entry.node.0 (image.seen entry.old.number)
-      own = is.stands.each entry.node.0 entry.old.number had
+      own = is.stands.each entry.node.0 entry.old.number (old_had entry there)
 
       seen_file : (begun_old entry).kind ≡ File → (image.seen entry.old.number).kind ≡ kind_byte File
       seen_file file = own.kind ∙ ap kind_byte (sym (kind_again (kind_of old entry.node.0)) ∙ ap kind_at (sym (shown.kind ∙ own.kind)) ∙ file)

@@ -38,7 +38,7 @@ use Rattle.disk_change.proofs.NumbersGiven.{first_in, further_in}
 use Rattle.commit_laws.specs.Granted.{FreshBlocksAreGranted}
 
 -- what is not 0 in a list of numbers is in it
-is_in : (xs : List ℕ) (i : ℕ) → get_or xs i 0 ≢ 0 → Contains xs (get_or xs i 0)
+pub is_in : (xs : List ℕ) (i : ℕ) → get_or xs i 0 ≢ 0 → Contains xs (get_or xs i 0)
 is_in [] i some = absurd (some (get_or_past [] i 0 (omega arith)))
 is_in (x ∷ xs) zero some = first_in x xs
 is_in (x ∷ xs) (suc i) some = further_in x _ xs (is_in xs i some)

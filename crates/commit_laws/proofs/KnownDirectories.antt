@@ -43,7 +43,7 @@ pub own_item : {X : Type 0} (key : X → ℕ) (items : List X) → AscendBy key 
 own_item key items up x (k, within, is) = ap (λ y. item_with key (key y) items) (sym is) ∙ item_at key items up k x within ∙ ap Some is
 
 -- what a function gives of an item is in what it gives of the list
-given_is_in : {X Y : Type 0} (f : X → Option Y) (xs : List X) (x : X) (y : Y) → Contains xs x → f x ≡ Some y → Contains (filter_map f xs) y
+pub given_is_in : {X Y : Type 0} (f : X → Option Y) (xs : List X) (x : X) (y : Y) → Contains xs x → f x ≡ Some y → Contains (filter_map f xs) y
 given_is_in f [] x y (k, within, is) e = absurd (omega arith)
 given_is_in f (z ∷ xs) x y (zero, within, is) e = by (f z) (ap f is ∙ e)
   where

@@ -3,12 +3,14 @@ pub mod BegunShown
 pub mod CommitMade
 pub mod CommitOfPlan
 pub mod Counting
+pub mod GrantWritten
 pub mod Granted
 pub mod JoinedSlots
 pub mod KeptShown
 pub mod KnownDirectories
 pub mod NumbersGiven
 pub mod OwnInodes
+pub mod PartsMade
 pub mod PlanShown
 pub mod Ranked
 pub mod Rewritten

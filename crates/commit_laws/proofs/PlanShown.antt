@@ -79,15 +79,16 @@ module _ (num : Numbering) (concerned : List ℕ) (old new : TreeState) (image :
   next = image_planned num concerned new image plan grant
 
   -- a node that is built, at its place, from what its inode shows before
-  record IsBuiltNode (one : Built) : Type 0 where
-    m : ℕ
-    seat : Seated
-    of : IsSeatOf num concerned old new image plan grant full m seat
-    is : one ≡ built_by change.changes (numbers_with change grant.inodes) (fresh_cut change.seats grant.blocks m seat) seat
-    inode : one.number ≡ of.inode
-    shows : ShowsInode one (next.seen one.number)
+  pub record IsBuiltNode (one : Built) : Type 0 where
+    pub m : ℕ
+    pub seat : Seated
+    pub at : slice_get change.seats m ≡ Some seat
+    pub of : IsSeatOf num concerned old new image plan grant full m seat
+    pub is : one ≡ built_by change.changes (numbers_with change grant.inodes) (fresh_cut change.seats grant.blocks m seat) seat
+    pub inode : one.number ≡ of.inode
+    pub shows : ShowsInode one (next.seen one.number)
 
-  node_built : (one : Built) → Contains (nodes_with_grant change grant) one → IsBuiltNode one
+  pub node_built : (one : Built) → Contains (nodes_with_grant change grant) one → IsBuiltNode one
   node_built one there =
       let at = in_is_there (nodes_with_grant change grant) one there in
       let within = slice_get_within (nodes_with_grant change grant) at.0 one at.1 in
@@ -103,6 +104,7 @@ module _ (num : Numbering) (concerned : List ℕ) (old new : TreeState) (image :
       record {
         m = at.0;
         seat = seat.0;
+        at = seat.1;
         of = of;
         is = some_same (sym at.1 ∙ ranked.built);
         inode = number;

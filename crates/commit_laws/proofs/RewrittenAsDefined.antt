@@ -10,7 +10,7 @@ use Rattle.std.proofs.lemmas.List.{get_or_past, length-append, length-map, get_o
 use Rattle.sfs_base.proofs.BasicLists.{same_bytes}
 use Rattle.sfs_base.proofs.BasicNumbers.{zero_plus}
 use Rattle.sfs_base.proofs.BasicOptions.{none_some, some_same, some_not_none}
-use Rattle.sfs_base.proofs.BasicTruth.{true_not_false}
+use Rattle.sfs_base.proofs.BasicTruth.{and_false, true_not_false}
 use Rattle.sfs_base.specs.declared.numbers.Kind.{Kind}
 use Rattle.sfs_base.specs.declared.numbers.Kind.TheVariants.{File, Directory}
 use Rattle.sfs_image.proofs.Basics.{found_passes}
@@ -210,7 +210,7 @@ module _ (num : Numbering) (concerned : List ℕ) (old new : TreeState) (image :
     -- behind its blocks nothing is rewritten
     none_behind : begun.kind ≡ Directory → (n : ℕ) → n < FILE_BLOCKS → length after ≤ n → rewrites_slots seen slots n ≡ false
     none_behind kind n low behind =
-        (λ i. not (same_slots (old_empty i) (new_empty i)) || (nat_le (blocks_up_to_last slots) n && not (nat_eq (hole (num of.begun.node) refl i) 0))) ∙ no_more (nat_le (blocks_up_to_last slots) n)
+        (λ i. not (same_slots (old_empty i) (new_empty i)) || (nat_le (blocks_up_to_last slots) n && not (nat_eq (hole (num of.begun.node) refl i) 0))) ∙ and_false (nat_le (blocks_up_to_last slots) n)
       where
         few : length of.begun.slots ≤ n
         few = let all = length_after numbers directories net of.begun.slots in omega arith
@@ -220,10 +220,6 @@ module _ (num : Numbering) (concerned : List ℕ) (old new : TreeState) (image :
 
         new_empty : slots_in_block n slots ≡ empty_block
         new_empty = new_block n ∙ ap (block_numbered numbers net) (get_or_past after n empty_block behind)
-
-        no_more : (b : Bool) → (b && false) ≡ false
-        no_more true = refl
-        no_more false = refl
 
         hole : (o : Option ℕ) → num of.begun.node ≡ o → seen.blocks n ≡ 0
         hole None e = ap (λ (o : Option ℕ). (option_map_or image.seen o blank).blocks n) e
@@ -284,17 +280,14 @@ module _ (num : Numbering) (concerned : List ℕ) (old new : TreeState) (image :
         some_mapped None = refl
         some_mapped (Some page) = refl
 
+    is_kind : (k : Kind) → begun.kind ≡ k → is_directory new of.begun.node ≡ is_directory_kind k
+    is_kind k e = directory_by_kind new of.begun.node ∙ ap is_directory_kind (of.built.leads.nets.between.kinds of.begun.node ∙ sym of.built.begins.kind ∙ e)
+
     says_by_kind : (kind : Kind) → begun.kind ≡ kind → SayTheSame (rewrite_in (seated_as kind change.changes of.begun)) (rewrite_defined commit new image plan.files (seated_as kind change.changes of.begun).node)
     says_by_kind Directory kind = subst (SayTheSame (rewrite_in (seated_as Directory change.changes of.begun)))
         (sym (cond-true (is_directory new of.begun.node) (directory_rewrite seen slots) (file_rewrite (has_page plan.files of.begun.node) seen (bytes_of new of.begun.node)) (is_kind Directory kind))) (directory_says kind)
-      where
-        is_kind : (k : Kind) → begun.kind ≡ k → is_directory new of.begun.node ≡ is_directory_kind k
-        is_kind k e = directory_by_kind new of.begun.node ∙ ap is_directory_kind (of.built.leads.nets.between.kinds of.begun.node ∙ sym of.built.begins.kind ∙ e)
     says_by_kind File kind = subst (SayTheSame (rewrite_in (seated_as File change.changes of.begun)))
         (sym (cond-false (is_directory new of.begun.node) (directory_rewrite seen slots) (file_rewrite (has_page plan.files of.begun.node) seen (bytes_of new of.begun.node)) (is_kind File kind))) (file_says kind)
-      where
-        is_kind : (k : Kind) → begun.kind ≡ k → is_directory new of.begun.node ≡ is_directory_kind k
-        is_kind k e = directory_by_kind new of.begun.node ∙ ap is_directory_kind (of.built.leads.nets.between.kinds of.begun.node ∙ sym of.built.begins.kind ∙ e)
 
     pub says : SayTheSame (rewrite_in seat) (rewrite_defined commit new image plan.files seat.node)
     says = subst (λ (s : Seated). SayTheSame (rewrite_in s) (rewrite_defined commit new image plan.files s.node)) of.begins (says_by_kind begun.kind refl)

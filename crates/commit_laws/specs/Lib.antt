@@ -5,6 +5,7 @@ pub mod Granted
 pub mod KeptShown
 pub mod KnownKinds
 pub mod NumbersGiven
+pub mod PartsMade
 pub mod PlanShown
 pub mod Ranked
 pub mod Rewritten

@@ -5,6 +5,7 @@ ghost use Rattle.commit_laws.specs.Counting.{NetsCountLinks};
 ghost use Rattle.commit_laws.specs.Granted.{FreshBlocksAreGranted, InodesAreGrantedOrOld, GrantedBlocksAreWritten};
 ghost use Rattle.commit_laws.specs.KeptShown.{KeptPartsShow};
 ghost use Rattle.commit_laws.specs.NumbersGiven.{GivenNumbersAreThose};
+ghost use Rattle.commit_laws.specs.PartsMade.{PlansMakeParts, PlansWriteApart};
 ghost use Rattle.commit_laws.specs.PlanShown.{PlansShowInodes, PlansKeepShown};
 ghost use Rattle.commit_laws.specs.Ranked.{NodesAreBuiltByRank, NeedsAreThose};
 ghost use Rattle.commit_laws.specs.Rewritten.{SameRewritesTakeTheSame, PlansRewriteAsDefined, PlansNeedAsDefined};
@@ -110,4 +111,14 @@ pub fn plans_need_as_defined()
 /// The fresh blocks that a commit writes are exactly those of its grant, in their order.
 pub fn granted_blocks_are_written()
     ensures { GrantedBlocksAreWritten }
+{}
+
+/// The part of a node after a commit is made of the fresh blocks and of the part before.
+pub fn plans_make_parts()
+    ensures { PlansMakeParts }
+{}
+
+/// No two fresh blocks are one, and none is one that a part points to.
+pub fn plans_write_apart()
+    ensures { PlansWriteApart }
 {}

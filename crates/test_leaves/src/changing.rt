@@ -1,9 +1,7 @@
 // What a commit needs, writes and gives up, in the root of a disk whose data begins at block 29.
-ghost use Rattle.std.specs.Prelude.{◌≡◌, IfOk};
-ghost use Rattle.space_map.specs.Space.{AllGranted};
-
 pub(crate) mod drawn;
 
+use crate::space::reserve;
 use absorb::net_of;
 use disk_change::{
     Built, DirectoryNet, DiskChange, Enter, EnterList, FileChange, FileChangeList, NetList,
@@ -105,10 +103,8 @@ pub(crate) fn built(
     change: DiskChange,
     space: &mut SpaceMap,
 ) -> Result<Built, Fail> {
-    let grant = match space.reserve(need(&change)) {
-        Ok(grant) => grant,
-        Err(fault) => panic!(rt; "{fault:?}"),
-    };
+    let due = need(&change);
+    let grant = reserve(rt, space, due.inodes, due.blocks);
     match build(alloc, change, &grant) {
         Ok(built) => {
             let blocks = built.tx.freed_blocks.as_slice();
@@ -193,6 +189,17 @@ fn a_largest_file_with_its_last_block_needs_three_blocks(rt: HostRuntime) -> Res
     Ok(())
 }
 
+// What a need is refused for, where it is.
+fn refused(space: &mut SpaceMap, need: Need) -> Option<SpaceFault> {
+    match space.reserve(need) {
+        Ok(grant) => {
+            space.give_back(grant);
+            None
+        }
+        Err(fault) => Some(fault),
+    }
+}
+
 // After a file with one block stands on a disk of so many blocks, what a block more is refused for.
 fn second_block(rt: &impl Abort, alloc: Global, blocks: u32) -> Result<Option<SpaceFault>, Fail> {
     let mut space = SpaceMap::new(alloc, 29, blocks, 64, &[], &[0])?;
@@ -206,13 +213,7 @@ fn second_block(rt: &impl Abort, alloc: Global, blocks: u32) -> Result<Option<Sp
     );
     let first = built(rt, alloc, change, &mut space)?;
     let change = touched(alloc, first.after, 8_193, 2, b'b')?;
-    match space.reserve(need(&change)) {
-        Ok(grant) => {
-            space.give_back(grant);
-            Ok(None)
-        }
-        Err(fault) => Ok(Some(fault)),
-    }
+    Ok(refused(&mut space, need(&change)))
 }
 
 #[test]

@@ -181,7 +181,7 @@ fn assert_like(
     }
     assert_eq!(rt;
         (root.old.slots.len(), root.old.meta.size),
-        (blocks, blocks * 4_096)
+        (blocks, blocks.wrapping_mul(4_096))
     );
     for place in 0..60usize {
         assert!(rt; stands(alloc, &shelf.disk, root, place, shelf.slots[place])?);
