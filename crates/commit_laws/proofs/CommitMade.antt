@@ -60,12 +60,19 @@ place_found numbers once i m is = by (place_among numbers i) refl
     by (Some k) e = ap Some (once k m i (found_at numbers i k e) is)
 
 -- what stands in a list of what a function gives
-map_there : {X Y : Type 0} (f : X → Y) (xs : List X) (m : ℕ) (y : Y) → slice_get (map f xs) m ≡ Some y → (x : X) × (slice_get xs m ≡ Some x) × (f x ≡ y)
+pub map_there : {X Y : Type 0} (f : X → Y) (xs : List X) (m : ℕ) (y : Y) → slice_get (map f xs) m ≡ Some y → (x : X) × (slice_get xs m ≡ Some x) × (f x ≡ y)
 map_there f [] m y e = absurd (none_some e)
 map_there f (x ∷ xs) zero y e = (x, refl, some_same e)
 map_there f (x ∷ xs) (suc m) y e = map_there f xs m y e
 
-length_built : (changes : CommitChanges) (numbers : ℕ → Option ℕ) (seats : List Seated) (fresh : List ℕ) → length (nodes_built changes numbers seats fresh) ≡ length seats
+-- each place of a list has an item
+pub some_there : {X : Type 0} (xs : List X) (m : ℕ) → m < length xs → (x : X) × (slice_get xs m ≡ Some x)
+some_there [] m within = absurd (omega arith)
+some_there (x ∷ xs) zero within = (x, refl)
+some_there (x ∷ xs) (suc m) within = some_there xs m (omega arith)
+
+-- as many nodes are built as there are seats
+pub length_built : (changes : CommitChanges) (numbers : ℕ → Option ℕ) (seats : List Seated) (fresh : List ℕ) → length (nodes_built changes numbers seats fresh) ≡ length seats
 length_built changes numbers [] fresh = refl
 length_built changes numbers (seat ∷ seats) fresh = ap suc (length_built changes numbers seats (drop (blocks_taken seat) fresh))
 
@@ -122,11 +129,11 @@ module _ (commit : Commit) (change : Planned) (grant : GrantedNumbers) (old new 
     takes = takes_at;
     only = takes_only;
     fresh = λ i m place there. is.fresh i place ∙ ap (λ (o : Option ℕ). option_map_or (λ m. granted_block rewrites grant.blocks (place_in_row m place)) o 0) (place_found inodes is.inodes_once i m there);
-    before = λ node i m place rewrite has listed.
+    before = λ node i m place rewrite has listed within.
         let seat = map_there rewrite_in change.seats m rewrite listed.rewritten in
         let own = map_there (λ (s : Seated). s.node) change.seats m node (is.own node i m has listed.inode) in
         let same : seat.0 ≡ own.0 = some_same (sym seat.1 ∙ own.1) in
-        ap (λ (r : Rewrite). r.pointers place) (sym seat.2) ∙ is.pointers m place seat.0 seat.1 ∙ ap (λ n. (seen_before commit image n).blocks place) (ap (λ (s : Seated). s.node) same ∙ own.2);
+        ap (λ (r : Rewrite). r.pointers place) (sym seat.2) ∙ is.pointers m place seat.0 seat.1 within ∙ ap (λ n. (seen_before commit image n).blocks place) (ap (λ (s : Seated). s.node) same ∙ own.2);
     after = λ i m place rewrite listed within. ap (λ (r : Rewrite). pointer_after r (commit.fresh i) place) (rewrite_found i m rewrite listed);
   }
 
@@ -136,8 +143,8 @@ module _ (commit : Commit) (change : Planned) (grant : GrantedNumbers) (old new 
       ap (λ (o : Option ℕ). option_map_or (λ m. unwrap_or (slice_get rewrites m) (rewrite_still (seen_before commit image node).blocks)) o (rewrite_still (seen_before commit image node).blocks)) (place_found (seated_nodes change) is.nodes_once node m there)
       ∙ ap (λ (o : Option Rewrite). unwrap_or o (rewrite_still (seen_before commit image node).blocks)) at
 
-  pointers_are : (node place : ℕ) → (rewrites_of_change commit change image node).pointers place ≡ (seen_before commit image node).blocks place
-  pointers_are node place = by (place_among (seated_nodes change) node) refl
+  pointers_are : (node place : ℕ) → place < PLACES → (rewrites_of_change commit change image node).pointers place ≡ (seen_before commit image node).blocks place
+  pointers_are node place within = by (place_among (seated_nodes change) node) refl
     where
       still : Rewrite
       still = rewrite_still (seen_before commit image node).blocks
@@ -147,9 +154,10 @@ module _ (commit : Commit) (change : Planned) (grant : GrantedNumbers) (old new 
       by (Some m) e =
           let seat = map_there (λ (s : Seated). s.node) change.seats m node (found_at (seated_nodes change) node m e) in
           ap (λ (o : Option Rewrite). (unwrap_or o still).pointers place) (slice_get-map rewrite_in change.seats m ∙ ap (option_map rewrite_in) seat.1)
-          ∙ is.pointers m place seat.0 seat.1 ∙ ap (λ n. (seen_before commit image n).blocks place) seat.2
+          ∙ is.pointers m place seat.0 seat.1 within ∙ ap (λ n. (seen_before commit image n).blocks place) seat.2
 
-  made_from : LeadTo old new change.changes.directories change.changes.nets → GrantServes image rewrites grant.blocks → IsMadeFrom commit old new image (rewrites_of_change commit change image) concerned
+  -- and so the image is made from the change
+  pub made_from : LeadTo old new change.changes.directories change.changes.nets → GrantServes image rewrites grant.blocks → IsMadeFrom commit old new image (rewrites_of_change commit change image) concerned
   made_from leads serves =
       let blocks : TakesBlocks commit image blocks_next = ranks_take_free_blocks commit image blocks_next inodes rewrites grant.blocks serves by_rank in
       record {
@@ -161,7 +169,7 @@ module _ (commit : Commit) (change : Planned) (grant : GrantedNumbers) (old new 
             let at = is.seated node i has concerns in
             let found = listed_at i at.0 at.1.inode_there in
             takes_at i at.0 place found.0 found.1 within ∙ ap (λ (r : Rewrite). takes_place r place) (sym (rewrite_of_node node at.0 found.0 at.1.node_there found.1.rewritten));
-        pointers = λ node place concerns. pointers_are node place;
+        pointers = λ node place concerns within. pointers_are node place within;
         unheld = blocks.unheld;
         once = blocks.once;
       }

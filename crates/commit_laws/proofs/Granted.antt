@@ -38,7 +38,7 @@ use Rattle.disk_change.proofs.NumbersGiven.{first_in, further_in}
 use Rattle.commit_laws.specs.Granted.{FreshBlocksAreGranted}
 
 -- what is not 0 in a list of numbers is in it
-is_in : (xs : List ℕ) (i : ℕ) → get_or xs i 0 ≢ 0 → Contains xs (get_or xs i 0)
+pub is_in : (xs : List ℕ) (i : ℕ) → get_or xs i 0 ≢ 0 → Contains xs (get_or xs i 0)
 is_in [] i some = absurd (some (get_or_past [] i 0 (omega arith)))
 is_in (x ∷ xs) zero some = first_in x xs
 is_in (x ∷ xs) (suc i) some = further_in x _ xs (is_in xs i some)
@@ -51,7 +51,7 @@ in_taken (suc n) [] x has = has
 in_taken (suc n) (y ∷ xs) x (zero, within, is) = (0, omega arith, is)
 in_taken (suc n) (y ∷ xs) x (suc k, within, is) = further_in y x xs (in_taken n xs x (k, omega arith, is))
 
-in_dropped : (n : ℕ) (xs : List ℕ) (x : ℕ) → Contains (drop n xs) x → Contains xs x
+pub in_dropped : {X : Type 0} (n : ℕ) (xs : List X) (x : X) → Contains (drop n xs) x → Contains xs x
 in_dropped zero [] x has = has
 in_dropped zero (y ∷ xs) x has = has
 in_dropped (suc n) [] x has = has

@@ -35,7 +35,7 @@ unfolding AreLong
 long_blocks [] long = tt
 long_blocks (block ∷ blocks) long = (long block (0, omega arith, refl), long_blocks blocks (λ other (k, within, is). long other (suc k, omega arith, is)))
 
-length_joined : (blocks : List Slots) → AreLong blocks → length (slots_joined blocks) ≡ 15 * length blocks
+pub length_joined : (blocks : List Slots) → AreLong blocks → length (slots_joined blocks) ≡ 15 * length blocks
 unfolding AreLong
 length_joined [] long = refl
 length_joined (block ∷ blocks) long = let rest = length_joined blocks long.1 in let first = long.0 in omega (arith, length-append block (slots_joined blocks))

@@ -12,7 +12,7 @@ use Rattle.disk_change.proofs.NumbersGiven.{first_in, further_in, stays_numbered
 use Rattle.commit_laws.specs.NumbersGiven.{node_leaves, GivenNumbersAreThose}
 
 -- what passes a test is in the list
-kept_in : {X : Type 0} (p : X → Bool) (xs : List X) (x : X) → Contains (filter p xs) x → Contains xs x × (p x ≡ true)
+pub kept_in : {X : Type 0} (p : X → Bool) (xs : List X) (x : X) → Contains (filter p xs) x → Contains xs x × (p x ≡ true)
 kept_in p [] x (k, within, is) = absurd (omega arith)
 kept_in p (y ∷ ys) x has = by (p y) refl has (λ rest. kept_in p ys x rest)
   where

@@ -53,7 +53,7 @@ in_ascending key (item ∷ items) found y has = elim (in_ascending key items (pu
     first (zero, within, is) = inl (0, omega arith, is)
     first (suc k, within, is) = inr (k, omega arith, is)
 
-ascending_is_in : {X : Type 0} (key : X → ℕ) (items : List X) (y : X) → Contains (ascending_by key items) y → Contains items y
+pub ascending_is_in : {X : Type 0} (key : X → ℕ) (items : List X) (y : X) → Contains (ascending_by key items) y → Contains items y
 ascending_is_in key items y has = elim (in_ascending key items [] y has) [
   | inl is ↦ is
   | inr (k, within, is) ↦ absurd (omega arith)
@@ -68,7 +68,8 @@ seat_of_built changes numbers (seat ∷ seats) fresh one (suc k, within, is) =
     let rest = seat_of_built changes numbers seats (drop (blocks_taken seat) fresh) one (k, omega arith, is) in
     (rest.0, further_in seat rest.0 seats rest.1, rest.2)
 
-mapped_is_in : {X Y : Type 0} (f : X → Y) (xs : List X) (y : Y) → Contains (map f xs) y → (x : X) × Contains xs x × (f x ≡ y)
+-- an item of what a function gives is that of an item of the list
+pub mapped_is_in : {X Y : Type 0} (f : X → Y) (xs : List X) (y : Y) → Contains (map f xs) y → (x : X) × Contains xs x × (f x ≡ y)
 mapped_is_in f [] y (k, within, is) = absurd (omega arith)
 mapped_is_in f (x ∷ xs) y (zero, within, is) = (x, first_in x xs, is)
 mapped_is_in f (x ∷ xs) y (suc k, within, is) = let rest = mapped_is_in f xs y (k, omega arith, is) in (rest.0, further_in x rest.0 xs rest.1, rest.2)

@@ -53,7 +53,7 @@ children_of directories tree nets known node = by (item_with net_node node nets)
     by (Some one) e child is = known.children one (found_is_in _ nets one e) child is
 
 -- the slots in blocks up to the last one with a row are those of so many blocks
-length_in_blocks : (slots : Slots) → length (in_blocks slots) ≡ 15 * blocks_up_to_last slots
+pub length_in_blocks : (slots : Slots) → length (in_blocks slots) ≡ 15 * blocks_up_to_last slots
 length_in_blocks slots =
     let n : ℕ = 15 * blocks_up_to_last slots in
     length-take-le n (slots ++ replicate n None) (omega (arith, length-append slots (replicate n None), length-replicate {A = Option Row} n None))
@@ -72,13 +72,13 @@ module _ (old new : TreeState) (numbers : ℕ → Option ℕ) (num : Numbering) 
   links_are : links_by_nets changes.directories changes.nets begun.node begun.base.links ≡ links_of new begun.node
   links_are = ap (links_by_nets changes.directories changes.nets begun.node) begins.links ∙ nets_count_links old new changes.directories changes.nets begun.node leads.nets leads.links
 
-  slots_are : slots_joined (blocks_kept numbers changes.directories net begun.slots) ≡ in_blocks (slots_after num new net seen.slots)
+  pub slots_are : slots_joined (blocks_kept numbers changes.directories net begun.slots) ≡ in_blocks (slots_after num new net seen.slots)
   slots_are =
       net_slots_are_those numbers num new changes.directories net begun.slots begins.blocks (children_of changes.directories new changes.nets leads.nets.kinds begun.node) agree
       ∙ ap (λ slots. in_blocks (slots_after num new net slots)) begins.slots
 
   -- a directory is as large as the blocks that it keeps
-  kept_long : length (slots_joined (blocks_kept numbers changes.directories net begun.slots)) ≡ 15 * blocks_to_last_row blocks
+  pub kept_long : length (slots_joined (blocks_kept numbers changes.directories net begun.slots)) ≡ 15 * blocks_to_last_row blocks
   kept_long =
       let long = long_after changes.directories net begun.slots (long_blocks begun.slots begins.blocks) in
       ap length (joined_mapped (slot_numbered numbers net) (take (blocks_to_last_row blocks) blocks)) ∙ length-map (slots_joined (take (blocks_to_last_row blocks) blocks)) (slot_numbered numbers net)

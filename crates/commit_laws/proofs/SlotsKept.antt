@@ -31,28 +31,28 @@ use Rattle.commit_laws.specs.SlotsKept.{AreSlotBlocks, slots_joined, blocks_kept
 use Rattle.disk_change.proofs.NumbersGiven.{first_in, further_in}
 use Rattle.commit_laws.proofs.JoinedSlots.{Slots, joined_kept, in_blocks_padded, in_blocks_mapped, joined_mapped, AreLong, long_blocks, filled_is, filled_mapped, added_blocks}
 
+-- a row of the net is found under its name
+found_in : (rest : List NetRow) (change : NetRow) → Contains rest change → is_some (row_in_net change.name rest) ≡ true
+found_in [] change (k, within, is) = absurd (omega arith)
+found_in (row ∷ rest) change (zero, within, is) = ap (λ (it : NetRow). is_some (cond (bytes_eq change.name it.name) (Some row) (row_in_net change.name rest))) is ∙ ap (λ b. is_some (cond b (Some row) (row_in_net change.name rest))) (same_bytes change.name)
+found_in (row ∷ rest) change (suc k, within, is) = by (bytes_eq change.name row.name) (found_in rest change (k, omega arith, is))
+  where
+    by : (b : Bool) → is_some (row_in_net change.name rest) ≡ true → is_some (cond b (Some row) (row_in_net change.name rest)) ≡ true
+    by true t = refl
+    by false t = t
+
+-- and what is found is one of its rows
+pub found_there : (name : List ℕ) (rest : List NetRow) (change : NetRow) → row_in_net name rest ≡ Some change → Contains rest change
+found_there name [] change e = absurd (none_some e)
+found_there name (row ∷ rest) change e = by (bytes_eq name row.name) e (found_there name rest change)
+  where
+    by : (b : Bool) → cond b (Some row) (row_in_net name rest) ≡ Some change → (row_in_net name rest ≡ Some change → Contains rest change) → Contains (row ∷ rest) change
+    by true e later = subst (λ (it : NetRow). Contains (row ∷ rest) it) (some_same e) (first_in row rest)
+    by false e later = further_in row change rest (later e)
+
 module _ (numbers : ℕ → Option ℕ) (num : Numbering) (tree : TreeState) (directories : List ℕ) (net : List NetRow) (known : KnowsChildren directories tree net) (agree : NumbersChildren numbers num net) where
-  -- a row of the net is found under its name
-  found_in : (rest : List NetRow) (change : NetRow) → Contains rest change → is_some (row_in_net change.name rest) ≡ true
-  found_in [] change (k, within, is) = absurd (omega arith)
-  found_in (row ∷ rest) change (zero, within, is) = ap (λ (it : NetRow). is_some (cond (bytes_eq change.name it.name) (Some row) (row_in_net change.name rest))) is ∙ ap (λ b. is_some (cond b (Some row) (row_in_net change.name rest))) (same_bytes change.name)
-  found_in (row ∷ rest) change (suc k, within, is) = by (bytes_eq change.name row.name) (found_in rest change (k, omega arith, is))
-    where
-      by : (b : Bool) → is_some (row_in_net change.name rest) ≡ true → is_some (cond b (Some row) (row_in_net change.name rest)) ≡ true
-      by true t = refl
-      by false t = t
-
-  -- and what is found is one of its rows
-  found_there : (name : List ℕ) (rest : List NetRow) (change : NetRow) → row_in_net name rest ≡ Some change → Contains rest change
-  found_there name [] change e = absurd (none_some e)
-  found_there name (row ∷ rest) change e = by (bytes_eq name row.name) e (found_there name rest change)
-    where
-      by : (b : Bool) → cond b (Some row) (row_in_net name rest) ≡ Some change → (row_in_net name rest ≡ Some change → Contains rest change) → Contains (row ∷ rest) change
-      by true e later = subst (λ (it : NetRow). Contains (row ∷ rest) it) (some_same e) (first_in row rest)
-      by false e later = further_in row change rest (later e)
-
   -- the row that a name of the net gets has its child's number and kind
-  brought_is : (change : NetRow) → Contains net change → slot_numbered numbers net (row_brought directories change) ≡ brought_row num tree change
+  pub brought_is : (change : NetRow) → Contains net change → slot_numbered numbers net (row_brought directories change) ≡ brought_row num tree change
   brought_is change there = by change.after (λ child e. known child (record { row = change; one = there; names = inr e })) (λ child e. agree child (record { row = change; one = there; names = inr e }))
     where
       kind_is : (child : ℕ) → is_among directories child ≡ is_directory tree child → kind_if (is_among directories child) ≡ kind_of tree child
@@ -95,7 +95,7 @@ module _ (numbers : ℕ → Option ℕ) (num : Numbering) (tree : TreeState) (di
       by false = refl
 
   -- all slots after the net, with the numbers
-  all_are : (slots : Slots) → map (slot_numbered numbers net) (filled (map (slot_moved directories net) slots) (rows_new directories net)) ≡ slots_after num tree net slots
+  pub all_are : (slots : Slots) → map (slot_numbered numbers net) (filled (map (slot_moved directories net) slots) (rows_new directories net)) ≡ slots_after num tree net slots
   all_are slots = filled_mapped (row_numbered numbers net) (map (slot_moved directories net) slots) (rows_new directories net) ∙ (λ i. filled (slots_are slots i) (rows_are net (λ change is. is) i))
 
 long_append : (front back : List Slots) → AreLong front → AreLong back → AreLong (front ++ back)
@@ -138,7 +138,7 @@ module _ (directories : List ℕ) (net : List NetRow) where
   long_after blocks long = long_append _ _ (long_old blocks (rows_new directories net) long) (long_added (rows_behind directories net blocks (rows_new directories net)) (range_with_len 0 (blocks_for (rows_behind directories net blocks (rows_new directories net)))))
 
   -- all blocks are the slots after the net, filled up with empty ones
-  joined_after : (blocks : List Slots) → (j : ℕ) × (slots_joined (slot_blocks_after directories net blocks) ≡ filled (map (slot_moved directories net) (slots_joined blocks)) (rows_new directories net) ++ replicate j None)
+  pub joined_after : (blocks : List Slots) → (j : ℕ) × (slots_joined (slot_blocks_after directories net blocks) ≡ filled (map (slot_moved directories net) (slots_joined blocks)) (rows_new directories net) ++ replicate j None)
   joined_after blocks =
       let rest = rows_behind directories net blocks (rows_new directories net) in
       let moved = map (slot_moved directories net) (slots_joined blocks) in

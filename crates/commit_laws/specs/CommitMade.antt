@@ -1,5 +1,5 @@
 -- That a change with a grant is a commit.
-use Rattle.std.specs.Prelude.{◌≡◌, ℕ, ◌==◌, ◌&&◌, nat_lt, Bool, true, false, List, [], ◌∷◌, map, suc, slice_get, Option, None, Some, option_map, if◌then◌else◌}
+use Rattle.std.specs.Prelude.{◌≡◌, ℕ, ◌<◌, ◌==◌, ◌&&◌, nat_lt, Bool, true, false, List, [], ◌∷◌, map, suc, slice_get, Option, None, Some, option_map, if◌then◌else◌}
 use Rattle.std.specs.List.{list_any}
 use Rattle.std.specs.Option.{option_map_or, unwrap_or}
 use Rattle.sfs_tree.specs.Tree.{TreeState}
@@ -75,7 +75,8 @@ pub record IsCommitOf (commit : Commit) (change : Planned) (grant : GrantedNumbe
   pub own : (node i m : ℕ) → commit.after node ≡ Some i → slice_get (inodes_built change grant) m ≡ Some i → slice_get (seated_nodes change) m ≡ Some node
   pub inodes_once : StandOnce (inodes_built change grant)
   pub nodes_once : StandOnce (seated_nodes change)
-  pub pointers : (m place : ℕ) (seat : Seated) → slice_get change.seats m ≡ Some seat → (rewrite_in seat).pointers place ≡ (seen_before commit image seat.node).blocks place
+  pub pointers : (m place : ℕ) (seat : Seated) → slice_get change.seats m ≡ Some seat → place < PLACES
+      → (rewrite_in seat).pointers place ≡ (seen_before commit image seat.node).blocks place
 
 -- A change with a grant that serves is a commit: it makes of an image that stands for the old tree the one that is made from it.
 abbrev pub ChangesMakeCommits : Type 0

@@ -1,9 +1,14 @@
 pub mod CommitMade
+pub mod CommitOfPlan
 pub mod Counting
 pub mod Granted
+pub mod KeptShown
 pub mod KnownKinds
 pub mod NumbersGiven
+pub mod PartsMade
+pub mod PlanShown
 pub mod Ranked
+pub mod Rewritten
 pub mod Shown
 pub mod SlotsKept
 pub mod Whole

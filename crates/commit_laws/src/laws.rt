@@ -1,9 +1,14 @@
 // What is proved of the definitions: each function's contract is a law.
 ghost use Rattle.commit_laws.specs.CommitMade.{ChangesMakeCommits};
+ghost use Rattle.commit_laws.specs.CommitOfPlan.{PlansMakeCommits, PlansLeaveTrees};
 ghost use Rattle.commit_laws.specs.Counting.{NetsCountLinks};
-ghost use Rattle.commit_laws.specs.Granted.{FreshBlocksAreGranted, InodesAreGrantedOrOld};
+ghost use Rattle.commit_laws.specs.Granted.{FreshBlocksAreGranted, InodesAreGrantedOrOld, GrantedBlocksAreWritten};
+ghost use Rattle.commit_laws.specs.KeptShown.{KeptPartsShow};
 ghost use Rattle.commit_laws.specs.NumbersGiven.{GivenNumbersAreThose};
+ghost use Rattle.commit_laws.specs.PartsMade.{PlansMakeParts, PlansWriteApart};
+ghost use Rattle.commit_laws.specs.PlanShown.{PlansShowInodes, PlansKeepShown};
 ghost use Rattle.commit_laws.specs.Ranked.{NodesAreBuiltByRank, NeedsAreThose};
+ghost use Rattle.commit_laws.specs.Rewritten.{SameRewritesTakeTheSame, PlansRewriteAsDefined, PlansNeedAsDefined};
 ghost use Rattle.commit_laws.specs.Shown.{BuiltNodesShow};
 ghost use Rattle.commit_laws.specs.SlotsKept.{NetSlotsAreThose};
 ghost use Rattle.commit_laws.specs.Whole.{BuiltNodesShowTheirInodes, ChangesLeaveTrees};
@@ -61,4 +66,59 @@ pub fn fresh_blocks_are_granted()
 /// Each inode in the records and in what the disk then has is one of the grant, or an old one.
 pub fn inodes_are_granted_or_old()
     ensures { InodesAreGrantedOrOld }
+{}
+
+/// What a plan makes over an image with a grant is a commit.
+pub fn plans_make_commits()
+    ensures { PlansMakeCommits }
+{}
+
+/// The image that the commit of a plan makes stands for the new tree.
+pub fn plans_leave_trees()
+    ensures { PlansLeaveTrees }
+{}
+
+/// What is kept of a part is what its inode shows.
+pub fn kept_parts_show()
+    ensures { KeptPartsShow }
+{}
+
+/// What a plan builds of a node shows what its inode shows in the image that the commit makes.
+pub fn plans_show_inodes()
+    ensures { PlansShowInodes }
+{}
+
+/// What the disk has of a node after the commit of a plan is what its inode then shows.
+pub fn plans_keep_shown()
+    ensures { PlansKeepShown }
+{}
+
+/// Rewritings that say the same take fresh blocks at the same places.
+pub fn same_rewrites_take_the_same()
+    ensures { SameRewritesTakeTheSame }
+{}
+
+/// What a plan rewrites of each node is what the definition says.
+pub fn plans_rewrite_as_defined()
+    ensures { PlansRewriteAsDefined }
+{}
+
+/// A plan needs as many fresh blocks as the definition says.
+pub fn plans_need_as_defined()
+    ensures { PlansNeedAsDefined }
+{}
+
+/// The fresh blocks that a commit writes are exactly those of its grant, in their order.
+pub fn granted_blocks_are_written()
+    ensures { GrantedBlocksAreWritten }
+{}
+
+/// The part of a node after a commit is made of the fresh blocks and of the part before.
+pub fn plans_make_parts()
+    ensures { PlansMakeParts }
+{}
+
+/// No two fresh blocks are one, and none is one that a part points to.
+pub fn plans_write_apart()
+    ensures { PlansWriteApart }
 {}

@@ -1,15 +1,18 @@
 -- The rows of a net ascend by their names, so a search finds the row of a name.
-use Rattle.std.proofs.Common.{◌≡◌, ℕ, zero, suc, ◌<◌, Bool, true, false, List, [], ◌∷◌, length, get_or, Some, None, inl, inr, refl, sym, ap, ◌∙◌, arith, bytes_eq}
+use Rattle.std.proofs.Common.{◌≡◌, ℕ, zero, suc, ◌<◌, Bool, true, false, List, [], ◌∷◌, length, get_or, map, Some, None, inl, inr, refl, sym, ap, ◌∙◌, arith, bytes_eq}
 use Rattle.std.specs.Ordering.{is_lt, ordering_reverse}
 use Rattle.std.specs.declared.cmp.Ordering.{Ordering}
 use Rattle.std.specs.declared.cmp.Ordering.TheVariants.{Less, Equal, Greater}
-use Rattle.std.specs.List.Sorted.{IsPartitionPoint, IsPartitionedBy}
+use Rattle.std.specs.List.Sorted.{IsPartitionPoint, IsPartitionedBy, IsStrictlySortedBy}
 use Rattle.std.proofs.lemmas.Bool.{cond-true, cond-false, cases_lt, cases_Bool}
 use Rattle.std.proofs.lemmas.Cmp.{nat_list_cmp_total}
+use Rattle.std.proofs.lemmas.List.{get_or-map, length-map}
+use Rattle.std.proofs.lemmas.Map.Keys.{Less-from_sorted}
 use Rattle.sfs_base.proofs.BasicTruth.{not_both_of}
 use Rattle.sfs_base.proofs.BasicLists.{bytes_same, same_bytes}
 use Rattle.sfs_tree.specs.Order.{name_cmp}
 use Rattle.sfs_tree.proofs.RowsByName.{less_true}
+use Rattle.absorb.specs.Net.{net_name}
 use Rattle.absorb.specs.declared.nets.NetRow.{NetRow}
 use Rattle.image_tree.specs.Commit.{row_in_net}
 use Rattle.disk_change.specs.Lists.{NamesAscend}
@@ -84,3 +87,12 @@ module _ (name : List ℕ) where
           ]
         ]
       ]
+
+-- names that are sorted ascend
+pub net_ascends : (net : List NetRow) → IsStrictlySortedBy name_cmp (map net_name net) → NamesAscend net
+net_ascends net sorted i j d lt within =
+    let long = length-map net net_name in
+    let first = get_or-map net_name net i d (net_name d) (omega arith) in
+    let later = get_or-map net_name net j d (net_name d) within in
+    let less = Less-from_sorted name_cmp (map net_name net) i j (net_name d) sorted lt (omega (arith, within, long)) in
+    ap (λ name. name_cmp name (net_name (get_or net j d))) (sym first) ∙ ap (name_cmp (get_or (map net_name net) i (net_name d))) (sym later) ∙ less

@@ -156,6 +156,10 @@ module _ (changes : CommitChanges) (entries : List OldEntry) (enter : List Enter
   enters_granted up one is apart =
       all one.node.0 ∙ ap (λ o. fold (step one.node.0) o (enters_numbered enter grant)) (olds_without one.node.0 entries None apart) ∙ enter_found enter up one is grant None
 
+  -- no other node has a number
+  pub unnumbered : (node : ℕ) → ((entry : OldEntry) → Contains entries entry → entry.node.0 ≢ node) → ((one : Enter) → Contains enter one → one.node.0 ≢ node) → numbered node ≡ None
+  unnumbered node olds enters = all node ∙ enters_without node enter grant _ enters ∙ olds_without node entries None olds
+
 -- a number is a node's own, or one of a grant
 abbrev pub IsOwnOrGranted : List Seated → List ℕ → ℕ → Type 0
 IsOwnOrGranted seats grant n = ((seat : Seated) × Contains seats seat × (seat.number ≡ Some n)) ⊎ Contains grant n

@@ -77,7 +77,7 @@ module _ (commit : Commit) (old new : TreeState) (image : SeenInodes) (rewrites 
   is_concerned p node found = from.concerns node ∙ found.listed
 
   -- the inode of a concerned node is built
-  built_seen : (node i : ℕ) → commit.after node ≡ Some i → commit.concerns node ≡ true → next.seen i ≡ seen_built commit new image rewrites i node
+  pub built_seen : (node i : ℕ) → commit.after node ≡ Some i → commit.concerns node ≡ true → next.seen i ≡ seen_built commit new image rewrites i node
   built_seen node i is listed = by_found (find (has_number commit.after i) concerned) refl
     where
       by_found : (o : Option ℕ) → find (has_number commit.after i) concerned ≡ o → next.seen i ≡ seen_built commit new image rewrites i node
@@ -146,7 +146,7 @@ module _ (commit : Commit) (old new : TreeState) (image : SeenInodes) (rewrites 
     stays = λ node i is other. (sym (from.others node other).0 ∙ is, other_seen node i is other, (from.others node other).1);
     rest = rests;
     blocks = record {
-      has = λ node i place small is listed. pointer_has_block commit i place (rewrites node) (seen_before commit image node) (next.seen i) (ap (λ (seen : Seen). seen.blocks place) (built_seen node i is listed)) (from.takes node i place is listed small) (from.pointers node place listed);
+      has = λ node i place small is listed. pointer_has_block commit i place (rewrites node) (seen_before commit image node) (next.seen i) (ap (λ (seen : Seen). seen.blocks place) (built_seen node i is listed)) (from.takes node i place is listed small) (from.pointers node place listed small);
       unheld = from.unheld;
       once = from.once;
     };

@@ -12,13 +12,13 @@ use Rattle.image_tree.specs.Numbers.{grant_for, numbers_after, InodeGrantServes,
 use Rattle.image_tree.specs.Laws.{GrantsGiveNumbers}
 
 -- where a node enters, and the number that it gets
-record IsGranted (entering grant : List ℕ) (node i : ℕ) : Type 0 where
-  place : ℕ
-  enters_there : slice_get entering place ≡ Some node
-  within : place < length grant
-  number : slice_index grant place ≡ i
+pub record IsGranted (entering grant : List ℕ) (node i : ℕ) : Type 0 where
+  pub place : ℕ
+  pub enters_there : slice_get entering place ≡ Some node
+  pub within : place < length grant
+  pub number : slice_index grant place ≡ i
 
-granted : (entering grant : List ℕ) (node i : ℕ) → grant_for entering grant node ≡ Some i → IsGranted entering grant node i
+pub granted : (entering grant : List ℕ) (node i : ℕ) → grant_for entering grant node ≡ Some i → IsGranted entering grant node i
 granted [] grant node i e = absurd (none_some e)
 granted (x ∷ entering) [] node i e = absurd (none_some e)
 granted (x ∷ entering) (j ∷ grant) node i e = elim (nat_eq x node) as (λ b. nat_eq x node ≡ b → cond b (Some j) (grant_for entering grant node) ≡ Some i → IsGranted (x ∷ entering) (j ∷ grant) node i) [

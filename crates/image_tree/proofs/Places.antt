@@ -17,7 +17,8 @@ use Rattle.image_tree.specs.Commit.{brought_row, slot_after, new_rows, filled}
 use Rattle.image_tree.specs.Need.{slots_in_block, same_row, same_slots, rewrites_slots, KeepsBlock}
 use Rattle.image_tree.specs.Laws.{NetsKeepPlaces, BlocksAreKeptOrRewritten}
 
-le_true : (a b : ℕ) → a ≤ b → nat_le a b ≡ true
+-- a test of an order is true where this holds
+pub le_true : (a b : ℕ) → a ≤ b → nat_le a b ≡ true
 le_true a b le = grind (arith, nat_tests)
 
 true_le : (a b : ℕ) → nat_le a b ≡ true → a ≤ b
@@ -78,13 +79,14 @@ row_itself a =
     ∙ ap (λ b. b && bytes_eq a.name a.name) (same_number (kind_byte a.kind))
     ∙ same_bytes a.name
 
-slot_is : (a b : Option Row) → option_eq same_row a b ≡ true → a ≡ b
+pub slot_is : (a b : Option Row) → option_eq same_row a b ≡ true → a ≡ b
 slot_is None None e = refl
 slot_is None (Some b) e = absurd (cc)
 slot_is (Some a) None e = absurd (cc)
 slot_is (Some a) (Some b) e = ap Some (rows_are a b e)
 
-slot_itself : (a : Option Row) → option_eq same_row a a ≡ true
+-- and each slot is itself
+pub slot_itself : (a : Option Row) → option_eq same_row a a ≡ true
 slot_itself None = refl
 slot_itself (Some a) = row_itself a
 

@@ -160,7 +160,7 @@ module _ (commit : Commit) (image next : SeenInodes) (inodes : List ℕ) (rewrit
       HasBlock commit i place (seen_before commit image node) (next.seen i)
   has_block node i place small is concerned =
       let l = t.listed node i is concerned in
-      pointer_has_block commit i place l.1 (seen_before commit image node) (next.seen i) (t.after i l.0 place l.1 l.2 small) (t.takes i l.0 place l.1 l.2 small) (t.before node i l.0 place l.1 is l.2)
+      pointer_has_block commit i place l.1 (seen_before commit image node) (next.seen i) (t.after i l.0 place l.1 l.2 small) (t.takes i l.0 place l.1 l.2 small) (t.before node i l.0 place l.1 is l.2 small)
 
   pub taken_by_rank : TakesBlocks commit image next
   taken_by_rank = record {

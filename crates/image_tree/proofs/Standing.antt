@@ -69,7 +69,8 @@ pub not_used : (k : Kind) → kind_byte k ≡ 0 → ⊥
 not_used File e = cc
 not_used Directory e = cc
 
-byte_directory : (k : Kind) → nat_eq (kind_byte k) (kind_byte Directory) ≡ is_directory_kind k
+-- a kind's byte says whether it is that of directories
+pub byte_directory : (k : Kind) → nat_eq (kind_byte k) (kind_byte Directory) ≡ is_directory_kind k
 byte_directory File = refl
 byte_directory Directory = refl
 

@@ -51,7 +51,7 @@ pub record IsMadeFrom (commit : Commit) (old new : TreeState) (image : SeenInode
   pub others : (node : ℕ) → commit.concerns node ≡ false → (commit.after node ≡ commit.before node) × IsAside old new node
   pub takes : (node i place : ℕ) → commit.after node ≡ Some i → commit.concerns node ≡ true → place < PLACES
       → commit.takes i place ≡ takes_place (rewrites node) place
-  pub pointers : (node place : ℕ) → commit.concerns node ≡ true → (rewrites node).pointers place ≡ (seen_before commit image node).blocks place
+  pub pointers : (node place : ℕ) → commit.concerns node ≡ true → place < PLACES → (rewrites node).pointers place ≡ (seen_before commit image node).blocks place
   pub unheld : (i place j other : ℕ) → commit.takes i place ≡ true → j < image.count → other < PLACES → (image.seen j).blocks other ≢ commit.fresh i place
   pub once : (i place j other : ℕ) → commit.takes i place ≡ true → commit.takes j other ≡ true → commit.fresh i place ≡ commit.fresh j other
       → (i ≡ j) × (place ≡ other)

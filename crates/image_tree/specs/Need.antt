@@ -150,7 +150,7 @@ pub record TakesByRank (commit : Commit) (image next : SeenInodes) (inodes : Lis
   pub takes : (i m place : ℕ) (rewrite : Rewrite) → IsListed inodes rewrites i m rewrite → place < PLACES → commit.takes i place ≡ takes_place rewrite place
   pub only : (i place : ℕ) → commit.takes i place ≡ true → (m : ℕ) × (rewrite : Rewrite) × IsListed inodes rewrites i m rewrite × (place < PLACES)
   pub fresh : (i m place : ℕ) → slice_get inodes m ≡ Some i → commit.fresh i place ≡ granted_block rewrites grant (place_in_row m place)
-  pub before : (node i m place : ℕ) (rewrite : Rewrite) → commit.after node ≡ Some i → IsListed inodes rewrites i m rewrite
+  pub before : (node i m place : ℕ) (rewrite : Rewrite) → commit.after node ≡ Some i → IsListed inodes rewrites i m rewrite → place < PLACES
       → rewrite.pointers place ≡ (seen_before commit image node).blocks place
   pub after : (i m place : ℕ) (rewrite : Rewrite) → IsListed inodes rewrites i m rewrite → place < PLACES
       → (next.seen i).blocks place ≡ pointer_after rewrite (commit.fresh i) place

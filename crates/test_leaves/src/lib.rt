@@ -5,6 +5,8 @@
 #[cfg(test)]
 mod areas;
 #[cfg(test)]
+mod changing;
+#[cfg(test)]
 mod commits;
 #[cfg(test)]
 mod device;

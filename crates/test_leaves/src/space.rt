@@ -27,7 +27,7 @@ fn assert_granted(rt: &impl Abort, grant: &Grant, inodes: &[u32], blocks: &[u32]
 }
 
 // A need that is met.
-fn reserve(rt: &impl Abort, map: &mut SpaceMap, inodes: u32, blocks: u32) -> Grant
+pub(crate) fn reserve(rt: &impl Abort, map: &mut SpaceMap, inodes: u32, blocks: u32) -> Grant
     ensures inodes { AllGranted map.new.inodes result.inodes }
     ensures blocks { AllGranted map.new.blocks result.blocks }
 {

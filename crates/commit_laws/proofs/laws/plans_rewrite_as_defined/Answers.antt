@@ -1,0 +1,5 @@
+use Rattle.commit_laws.proofs.RewrittenAsDefined.{plans_rewrite_as_defined as law}
+use Rattle.commit_laws.proofs.laws.plans_rewrite_as_defined.Goals as goal
+
+pub returns : goal.returns
+returns c = law
