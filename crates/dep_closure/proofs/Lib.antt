@@ -1,0 +1,7 @@
+pub mod Closed
+pub mod Ends
+pub mod Growing
+pub mod Looked
+pub mod Parts
+pub mod Searches
+pub mod Tying

@@ -1,0 +1,13 @@
+//! The nodes that one fsync flushes, from what it has gathered of the logs.
+#![tactic(auto)]
+
+mod births;
+mod closing;
+mod following;
+mod gathered;
+mod lookup;
+mod members;
+mod spans;
+
+pub use closing::closure;
+pub use gathered::{BirthList, CutList, DirectoryChanges, Gathered, LogList, NodeBirth, NodeCut};
