@@ -14,7 +14,7 @@ use Rattle.flush_core.specs.Rules.{IsOneOf}
 use Rattle.flush_core.proofs.Basics.{in_left, in_right, in_either}
 use Rattle.flush_ties.specs.Look.{Look, Gathers, itself, other_side, ended, ancestor, birth_place}
 use Rattle.dep_closure.specs.declared.members.Found.{Found}
-use Rattle.dep_closure.specs.Brought.{ChangeBrings, MemberBrings, Grows}
+use Rattle.dep_closure.specs.Brought.{ChangeBrings, MemberBrings, GrowsBy}
 
 -- what a gathered node brings in is gathered
 pub brought : (look : Look) (member node : ℕ) → Gathers look member → MemberBrings look member node → Gathers look node
@@ -47,7 +47,7 @@ pub record Closes (look : Look) (found : Found) : Type 0 where
   pub small : All (λ number. number < 2 ^ 32) found.members.keys
 
 -- at first the fsync's node alone
-pub closes_first : (look : Look) (empty found : Found) → empty.members.keys ≡ [] → empty.due.items ≡ [] → IsOrdered nat_cmp empty.members → Grows empty found (λ node. look.flush.node ≡ node) → Closes look found
+pub closes_first : (look : Look) (empty found : Found) → empty.members.keys ≡ [] → empty.due.items ≡ [] → IsOrdered nat_cmp empty.members → GrowsBy empty found (λ node. look.flush.node ≡ node) → Closes look found
 closes_first look empty found none none_due order grows = record {
   sound = λ node one. subst (Gathers look) (first node one) itself;
   start = (grows.members look.flush.node).1 (inr refl);
@@ -61,7 +61,7 @@ closes_first look empty found none none_due order grows = record {
     first node one = elim ((grows.members node).0 one) [ inl old ↦ absurd (subst (λ l. IsOneOf l node) none old) | inr same ↦ same ]
 
 -- one of them was due and is followed
-pub closes_next : (look : Look) (old mid new : Found) (member : ℕ) → Closes look old → mid.members.keys ≡ old.members.keys → old.due.items ≡ mid.due.items ++ member ∷ [] → Grows mid new (MemberBrings look member) → Closes look new
+pub closes_next : (look : Look) (old mid new : Found) (member : ℕ) → Closes look old → mid.members.keys ≡ old.members.keys → old.due.items ≡ mid.due.items ++ member ∷ [] → GrowsBy mid new (MemberBrings look member) → Closes look new
 closes_next look old mid new member closes keys due grows = record {
   sound = λ node one. elim ((grows.members node).0 one) [
     | inl there ↦ closes.sound node (subst (λ l. IsOneOf l node) keys there)
@@ -96,7 +96,7 @@ closes_next look old mid new member closes keys due grows = record {
     member_old = closes.due member (subst (λ l. IsOneOf l member) (sym due) (in_right mid.due.items (member ∷ []) member (inl refl)))
 
 -- and what is left to be done is less
-pub closes_sooner : (look : Look) (old mid new : Found) (member : ℕ) → Closes look new → mid.members.keys ≡ old.members.keys → old.due.items ≡ mid.due.items ++ member ∷ [] → Grows mid new (MemberBrings look member)
+pub closes_sooner : (look : Look) (old mid new : Found) (member : ℕ) → Closes look new → mid.members.keys ≡ old.members.keys → old.due.items ≡ mid.due.items ++ member ∷ [] → GrowsBy mid new (MemberBrings look member)
     → 2 * (2 ^ 32 - length new.members.keys) + length new.due.items < 2 * (2 ^ 32 - length old.members.keys) + length old.due.items
 closes_sooner look old mid new member closes keys due grows =
     let many = ap length keys in

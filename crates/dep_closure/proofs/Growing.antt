@@ -16,7 +16,7 @@ use Rattle.flush_core.specs.Engine.{OfSome}
 use Rattle.flush_core.proofs.Listed.{one_more, still_one, next_one}
 use Rattle.flush_core.proofs.Basics.{in_left, in_right, in_either}
 use Rattle.dep_closure.specs.declared.members.Found.{Found}
-use Rattle.dep_closure.specs.Brought.{SetGrows, Grows}
+use Rattle.dep_closure.specs.Brought.{AddsTo, GrowsBy}
 
 -- a number that is put among others
 pub put_in : (numbers : List ℕ) (number : ℕ) → IsOneOf (insert_key nat_cmp numbers number) number
@@ -73,14 +73,14 @@ one_has set number = among set.keys
     ]
 
 -- a set grows by nothing new
-pub set_same : (old new : BTreeSet ℕ) (Comes : ℕ → Type 0) → new.keys ≡ old.keys → ((number : ℕ) → Comes number → IsOneOf old.keys number) → SetGrows old new Comes
+pub set_same : (old new : BTreeSet ℕ) (Comes : ℕ → Type 0) → new.keys ≡ old.keys → ((number : ℕ) → Comes number → IsOneOf old.keys number) → AddsTo old new Comes
 set_same old new Comes keys there number = (
   λ one. inl (subst (λ l. IsOneOf l number) keys one),
   λ from. subst (λ l. IsOneOf l number) (sym keys) (elim from [ inl one ↦ one | inr comes ↦ there number comes ]),
 )
 
 -- by one number
-pub set_one : (old new : BTreeSet ℕ) (number : ℕ) → new.keys ≡ insert_key nat_cmp old.keys number → SetGrows old new (λ other. number ≡ other)
+pub set_one : (old new : BTreeSet ℕ) (number : ℕ) → new.keys ≡ insert_key nat_cmp old.keys number → AddsTo old new (λ other. number ≡ other)
 set_one old new number keys other = (
   λ one. was_in old.keys number other (subst (λ l. IsOneOf l other) keys one),
   λ from. subst (λ l. IsOneOf l other) (sym keys) (elim from [
@@ -90,7 +90,7 @@ set_one old new number keys other = (
 )
 
 -- by one step after the other
-pub set_both : (start mid end : BTreeSet ℕ) (Comes Further : ℕ → Type 0) → SetGrows start mid Comes → SetGrows mid end Further → SetGrows start end (λ number. Comes number ⊎ Further number)
+pub set_both : (start mid end : BTreeSet ℕ) (Comes Further : ℕ → Type 0) → AddsTo start mid Comes → AddsTo mid end Further → AddsTo start end (λ number. Comes number ⊎ Further number)
 set_both start mid end Comes Further first second number = (
   λ one. elim ((second number).0 one) [
     | inl mid_one ↦ elim ((first number).0 mid_one) [ inl old ↦ inl old | inr early ↦ inr (inl early) ]
@@ -103,14 +103,14 @@ set_both start mid end Comes Further first second number = (
 )
 
 -- and by the same numbers, said in another way
-pub set_as : (old new : BTreeSet ℕ) (Comes Other : ℕ → Type 0) → SetGrows old new Comes → ((number : ℕ) → Comes number → Other number) → ((number : ℕ) → Other number → Comes number) → SetGrows old new Other
+pub set_as : (old new : BTreeSet ℕ) (Comes Other : ℕ → Type 0) → AddsTo old new Comes → ((number : ℕ) → Comes number → Other number) → ((number : ℕ) → Other number → Comes number) → AddsTo old new Other
 set_as old new Comes Other grows there back number = (
   λ one. elim ((grows number).0 one) [ inl old_one ↦ inl old_one | inr comes ↦ inr (there number comes) ],
   λ from. (grows number).1 (elim from [ inl old_one ↦ inl old_one | inr other ↦ inr (back number other) ]),
 )
 
 -- the members grow by nothing new
-pub grows_same : (old new : Found) (Comes : ℕ → Type 0) → new.members.keys ≡ old.members.keys → new.due.items ≡ old.due.items → ((node : ℕ) → Comes node → IsOneOf old.members.keys node) → Grows old new Comes
+pub grows_same : (old new : Found) (Comes : ℕ → Type 0) → new.members.keys ≡ old.members.keys → new.due.items ≡ old.due.items → ((node : ℕ) → Comes node → IsOneOf old.members.keys node) → GrowsBy old new Comes
 grows_same old new Comes keys due there = record {
   members = set_same old.members new.members Comes keys there;
   due_kept = λ node one. subst (λ l. IsOneOf l node) (sym due) one;
@@ -123,7 +123,7 @@ grows_same old new Comes keys due there = record {
 }
 
 -- by a node that was none of them
-pub grows_one : (old new : Found) (node : ℕ) → node < 2 ^ 32 → new.members.keys ≡ insert_key nat_cmp old.members.keys node → length new.members.keys ≡ length old.members.keys + 1 → IsOrdered nat_cmp new.members → new.due.items ≡ old.due.items ++ node ∷ [] → Grows old new (λ other. node ≡ other)
+pub grows_one : (old new : Found) (node : ℕ) → node < 2 ^ 32 → new.members.keys ≡ insert_key nat_cmp old.members.keys node → length new.members.keys ≡ length old.members.keys + 1 → IsOrdered nat_cmp new.members → new.due.items ≡ old.due.items ++ node ∷ [] → GrowsBy old new (λ other. node ≡ other)
 grows_one old new node fits keys long order due = record {
   members = set_one old.members new.members node keys;
   due_kept = λ other one. subst (λ l. IsOneOf l other) (sym due) (in_left old.due.items (node ∷ []) other one);
@@ -145,7 +145,7 @@ grows_one old new node fits keys long order due = record {
 }
 
 -- by one step after the other
-pub grows_both : (start mid end : Found) (Comes Further : ℕ → Type 0) → Grows start mid Comes → Grows mid end Further → Grows start end (λ node. Comes node ⊎ Further node)
+pub grows_both : (start mid end : Found) (Comes Further : ℕ → Type 0) → GrowsBy start mid Comes → GrowsBy mid end Further → GrowsBy start end (λ node. Comes node ⊎ Further node)
 grows_both start mid end Comes Further first second = record {
   members = set_both start.members mid.members end.members Comes Further first.members second.members;
   due_kept = λ node one. second.due_kept node (first.due_kept node one);
@@ -164,7 +164,7 @@ grows_both start mid end Comes Further first second = record {
 }
 
 -- and by the same nodes, said in another way
-pub grows_as : (old new : Found) (Comes Other : ℕ → Type 0) → Grows old new Comes → ((node : ℕ) → Comes node → Other node) → ((node : ℕ) → Other node → Comes node) → Grows old new Other
+pub grows_as : (old new : Found) (Comes Other : ℕ → Type 0) → GrowsBy old new Comes → ((node : ℕ) → Comes node → Other node) → ((node : ℕ) → Other node → Comes node) → GrowsBy old new Other
 grows_as old new Comes Other grows there back = record {
   members = set_as old.members new.members Comes Other grows.members there back;
   due_kept = grows.due_kept;
@@ -189,9 +189,9 @@ module _ {S : Type 0} (By : S → S → (ℕ → Type 0) → Type 0)
       (λ number some. elim (one_more things i d thing some.0 within is some.1) [ inl early ↦ inl (some.0, early, some.2) | inr same ↦ inr (subst (λ (x : X). Brings x number) (sym same) some.2) ])
 
 pub grows_more : {X : Type 0} (Brings : X → ℕ → Type 0) (things : List X) (i : ℕ) (d thing : X) (start before after : Found) → i < length things → thing ≡ get_or things i d
-    → Grows start before (OfSome (take i things) Brings) → Grows before after (Brings thing) → Grows start after (OfSome (take (i + 1) things) Brings)
-grows_more = by_one_more Grows grows_both grows_as
+    → GrowsBy start before (OfSome (take i things) Brings) → GrowsBy before after (Brings thing) → GrowsBy start after (OfSome (take (i + 1) things) Brings)
+grows_more = by_one_more GrowsBy grows_both grows_as
 
 pub set_more : {X : Type 0} (Brings : X → ℕ → Type 0) (things : List X) (i : ℕ) (d thing : X) (start before after : BTreeSet ℕ) → i < length things → thing ≡ get_or things i d
-    → SetGrows start before (OfSome (take i things) Brings) → SetGrows before after (Brings thing) → SetGrows start after (OfSome (take (i + 1) things) Brings)
-set_more = by_one_more SetGrows set_both set_as
+    → AddsTo start before (OfSome (take i things) Brings) → AddsTo before after (Brings thing) → AddsTo start after (OfSome (take (i + 1) things) Brings)
+set_more = by_one_more AddsTo set_both set_as

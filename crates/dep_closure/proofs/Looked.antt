@@ -6,7 +6,6 @@ use Rattle.std.proofs.lemmas.Bool.{cond-true, cond-false}
 use Rattle.std.proofs.lemmas.Bool.Decides.{nat_tests}
 use Rattle.std.specs.List.Sorted.{IsStrictlyIncreasing}
 use Rattle.sfs_base.proofs.BasicNumbers.{same_number, suc_joins}
-use Rattle.sfs_base.proofs.BasicOptions.{some_same, none_some}
 use Rattle.flush_core.specs.Rules.{IsOneOf}
 use Rattle.flush_core.proofs.Basics.{in_left, in_right, in_either}
 use Rattle.dep_closure.proofs.Searches.{numbers_rise}
@@ -26,15 +25,7 @@ to_flat f (first ∷ xs) x y one own = elim one [
   | inr later ↦ in_right (f first) (flat_map f xs) y (to_flat f xs x y later own)
 ]
 
--- one that passes a test
-pub from_filter : {X : Type 0} (test : X → Bool) (xs : List X) (x : X) → IsOneOf (filter test xs) x → IsOneOf xs x × (test x ≡ true)
-from_filter test [] x one = absurd one
-from_filter test (first ∷ xs) x one =
-    elim (test first) as (λ b. test first ≡ b → IsOneOf (cond b (first ∷ filter test xs) (filter test xs)) x → IsOneOf (first ∷ xs) x × (test x ≡ true)) [
-      | true ↦ λ passes own. elim own [ inl same ↦ (inl same, ap test (sym same) ∙ passes) | inr later ↦ let rest = from_filter test xs x later in (inr rest.0, rest.1) ]
-      | false ↦ λ fails own. let rest = from_filter test xs x own in (inr rest.0, rest.1)
-    ] refl one
-
+-- one that passes a test is kept
 pub to_filter : {X : Type 0} (test : X → Bool) (xs : List X) (x : X) → IsOneOf xs x → test x ≡ true → IsOneOf (filter test xs) x
 to_filter test [] x one passes = absurd one
 to_filter test (first ∷ xs) x one passes = elim one [
@@ -51,15 +42,6 @@ one_of_all P (first ∷ xs) x all one = elim one [
   | inl same ↦ subst P same (all 0 first (omega arith))
   | inr later ↦ one_of_all P xs x (λ k d within. all (suc k) d (omega arith)) later
 ]
-
--- an item that is found
-pub found_one : {X : Type 0} (test : X → Bool) (xs : List X) (x : X) → find test xs ≡ Some x → IsOneOf xs x × (test x ≡ true)
-found_one test [] x e = absurd (none_some e)
-found_one test (first ∷ xs) x e =
-    elim (test first) as (λ b. test first ≡ b → cond b (Some first) (find test xs) ≡ Some x → IsOneOf (first ∷ xs) x × (test x ≡ true)) [
-      | true ↦ λ passes is. (inl (some_same is), ap test (sym (some_same is)) ∙ passes)
-      | false ↦ λ fails is. let rest = found_one test xs x is in (inr rest.0, rest.1)
-    ] refl e
 
 -- there is something before a map where there is something behind it
 pub some_mapped : {X Y : Type 0} (f : X → Y) (o : Option X) → is_some o ≡ is_some (option_map f o)

@@ -19,6 +19,7 @@ use Rattle.flush_core.specs.Rules.{IsOneOf}
 use Rattle.flush_core.specs.Engine.{OfSome}
 use Rattle.flush_core.proofs.Listed.{from_map, to_map}
 use Rattle.flush_ties.specs.Look.{Noted, Born, Look, SeesNaming}
+use Rattle.flush_core.proofs.RunFacts.{found_in, in_filter}
 use Rattle.dep_closure.specs.declared.gathered.DirectoryChanges.{DirectoryChanges}
 use Rattle.mem_cells.specs.Log.{is_from}
 use Rattle.dep_closure.specs.declared.gathered.NodeCut.{NodeCut}
@@ -26,20 +27,20 @@ use Rattle.dep_closure.specs.declared.gathered.NodeBirth.{NodeBirth}
 use Rattle.dep_closure.specs.declared.gathered.Gathered.{Gathered}
 use Rattle.dep_closure.specs.Brought.{ChangeBrings, SpanBrings, BirthBrings, AreOfOneDirectory, birthplace_due}
 use Rattle.dep_closure.specs.Gathered.{look_of, noted_as, noted_in, born_as, cut_in, log_directory, birth_node, IsOrderly, IsNamedByLog}
-use Rattle.dep_closure.specs.Spans.{is_between, is_of_stamp}
-use Rattle.dep_closure.proofs.Looked.{from_flat, to_flat, from_filter, to_filter, one_of_all, found_one, only_one}
+use Rattle.dep_closure.specs.Spans.{is_in_span, is_of_stamp}
+use Rattle.dep_closure.proofs.Looked.{from_flat, to_flat, to_filter, one_of_all, only_one}
 use Rattle.dep_closure.proofs.Parts.{pass_both}
 
 -- a change of a span is noted as it is by the whole log
-pub noted_alike : (changes : List Change) (from below : ℕ) (change : Change) → is_between from below change ≡ true → noted_as (filter (is_between from below) changes) change ≡ noted_as changes change
+pub noted_alike : (changes : List Change) (from below : ℕ) (change : Change) → is_in_span from below change ≡ true → noted_as (filter (is_in_span from below) changes) change ≡ noted_as changes change
 noted_alike changes from below change between =
-    let same : filter (is_of_stamp change.stamp.0) (filter (is_between from below) changes) ≡ filter (is_of_stamp change.stamp.0) changes = pass_both (is_between from below) (is_of_stamp change.stamp.0) (is_of_stamp change.stamp.0) asks changes in
+    let same : filter (is_of_stamp change.stamp.0) (filter (is_in_span from below) changes) ≡ filter (is_of_stamp change.stamp.0) changes = pass_both (is_in_span from below) (is_of_stamp change.stamp.0) (is_of_stamp change.stamp.0) asks changes in
     ap (λ l. record { change = erased l change; above = change.above }) same
   where
-    asks : (x : Change) → is_of_stamp change.stamp.0 x ≡ (is_between from below x && is_of_stamp change.stamp.0 x)
-    asks x = elim (nat_eq x.stamp.0 change.stamp.0) as (λ b. nat_eq x.stamp.0 change.stamp.0 ≡ b → b ≡ (is_between from below x && b)) [
+    asks : (x : Change) → is_of_stamp change.stamp.0 x ≡ (is_in_span from below x && is_of_stamp change.stamp.0 x)
+    asks x = elim (nat_eq x.stamp.0 change.stamp.0) as (λ b. nat_eq x.stamp.0 change.stamp.0 ≡ b → b ≡ (is_in_span from below x && b)) [
       | true ↦ λ same. sym (ap (λ b. b && true) (subst (λ s. (nat_le from s && nat_lt s below) ≡ true) (sym (eqb-true x.stamp.0 change.stamp.0 same)) between))
-      | false ↦ λ other. sym (and_false (is_between from below x))
+      | false ↦ λ other. sym (and_false (is_in_span from below x))
     ] refl
 
 -- the changes of a span are of one directory
@@ -89,10 +90,10 @@ module _ (gathered : Gathered) (orderly : IsOrderly gathered) (start : NodeId) (
   module _ (node : ℕ) where
     -- what a span's change brings in, the member brings in
     pub span_there : (log : DirectoryChanges) (other : ℕ) → find (λ one. nat_eq (log_directory one) node) gathered.logs.items ≡ Some log
-        → OfSome (filter (is_between (cut_in gathered.cuts.items node) below.0) log.changes.items) (λ change. ChangeBrings (noted_as (filter (is_between (cut_in gathered.cuts.items node) below.0) log.changes.items) change)) other → SpanBrings look node other
+        → OfSome (filter (is_in_span (cut_in gathered.cuts.items node) below.0) log.changes.items) (λ change. ChangeBrings (noted_as (filter (is_in_span (cut_in gathered.cuts.items node) below.0) log.changes.items) change)) other → SpanBrings look node other
     span_there log other found (change, among, brings) =
-        let there = found_one (λ one. nat_eq (log_directory one) node) gathered.logs.items log found in
-        let logged = from_filter (is_between (cut_in gathered.cuts.items node) below.0) log.changes.items change among in
+        let there = found_in (λ one. nat_eq (log_directory one) node) gathered.logs.items log found in
+        let logged = in_filter (is_in_span (cut_in gathered.cuts.items node) below.0) log.changes.items change among in
         let own : change.dir.0 ≡ node = own_directory log change there.0 logged.0 ∙ eqb-true (log_directory log) node there.1 in
         record {
           noted = noted_as log.changes.items change;
@@ -117,7 +118,7 @@ module _ (gathered : Gathered) (orderly : IsOrderly gathered) (start : NodeId) (
         )
 
     pub span_back : (log : DirectoryChanges) (other : ℕ) → find (λ one. nat_eq (log_directory one) node) gathered.logs.items ≡ Some log → SpanBrings look node other
-        → OfSome (filter (is_between (cut_in gathered.cuts.items node) below.0) log.changes.items) (λ change. ChangeBrings (noted_as (filter (is_between (cut_in gathered.cuts.items node) below.0) log.changes.items) change)) other
+        → OfSome (filter (is_in_span (cut_in gathered.cuts.items node) below.0) log.changes.items) (λ change. ChangeBrings (noted_as (filter (is_in_span (cut_in gathered.cuts.items node) below.0) log.changes.items) change)) other
     span_back log other found brings =
         let sight = log_of_sight other brings in
         let same : sight.0 ≡ log = some_same (sym sight.1 ∙ found) in
@@ -126,9 +127,9 @@ module _ (gathered : Gathered) (orderly : IsOrderly gathered) (start : NodeId) (
         let is : noted_as log.changes.items change ≡ brings.noted = logged.2 in
         let from : cut_in gathered.cuts.items node ≤ change.stamp.0 = subst (λ n. n ≤ change.stamp.0) (ap (cut_in gathered.cuts.items) (ap (λ (noted : Noted). noted.change.directory) is ∙ brings.own)) (subst (λ (noted : Noted). cut_in gathered.cuts.items noted.change.directory ≤ noted.change.stamp) (sym is) brings.in_sight.from) in
         let under : change.stamp.0 < below.0 = subst (λ (noted : Noted). noted.change.stamp < below.0) (sym is) brings.in_sight.below in
-        let between : is_between (cut_in gathered.cuts.items node) below.0 change ≡ true = both_true (cut_in gathered.cuts.items node) change.stamp.0 below.0 from under in (
+        let between : is_in_span (cut_in gathered.cuts.items node) below.0 change ≡ true = both_true (cut_in gathered.cuts.items node) change.stamp.0 below.0 from under in (
           change,
-          to_filter (is_between (cut_in gathered.cuts.items node) below.0) log.changes.items change logged.1 between,
+          to_filter (is_in_span (cut_in gathered.cuts.items node) below.0) log.changes.items change logged.1 between,
           subst (λ noted. ChangeBrings noted other) (sym is ∙ sym (noted_alike log.changes.items (cut_in gathered.cuts.items node) below.0 change between)) brings.brings,
         )
       where
@@ -150,7 +151,7 @@ module _ (gathered : Gathered) (orderly : IsOrderly gathered) (start : NodeId) (
         by false false birth listed_is has_is birth_is e = absurd (none_some e)
         by false true None listed_is has_is birth_is e = absurd (none_some e)
         by false true (Some birth) listed_is has_is birth_is e =
-            let there = found_one (λ one. nat_eq (birth_node one) node) gathered.births.items birth birth_is in
+            let there = found_in (λ one. nat_eq (birth_node one) node) gathered.births.items birth birth_is in
             let own : birth.node.0 ≡ node = eqb-true (birth_node birth) node there.1 in
             let place : birth.dir.0 ≡ other = some_same e in
             record {
@@ -172,7 +173,7 @@ module _ (gathered : Gathered) (orderly : IsOrderly gathered) (start : NodeId) (
 -- what a log names from its directory's cut on
 pub named_from : (cuts : List NodeCut) (log : DirectoryChanges) (from : ℕ) → from ≡ cut_in cuts log.dir.0 → (node : ℕ) → OfSome (filter (is_from from) log.changes.items) (λ change other. change.child.0 ≡ other) node → IsNamedByLog cuts log node
 named_from cuts log from is node (change, among, child) =
-    let own = from_filter (is_from from) log.changes.items change among in
+    let own = in_filter (is_from from) log.changes.items change among in
     record { change = change; is_logged = own.0; child = child; unflushed = subst (λ n. n ≤ change.stamp.0) is (leb-true _ _ own.1) }
 
 pub from_named : (cuts : List NodeCut) (log : DirectoryChanges) (from : ℕ) → from ≡ cut_in cuts log.dir.0 → (node : ℕ) → IsNamedByLog cuts log node → OfSome (filter (is_from from) log.changes.items) (λ change other. change.child.0 ≡ other) node

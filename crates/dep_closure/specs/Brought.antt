@@ -50,12 +50,12 @@ birthplace_due gathered named node =
     option_map (λ birth. birth.dir) (find (λ birth. birth_node birth == node) gathered.births.items)
 
 -- A set grows by some numbers: these come, and no others do.
-abbrev pub SetGrows : BTreeSet ℕ → BTreeSet ℕ → (ℕ → Type 0) → Type 0
-SetGrows old new Comes = (number : ℕ) → IsOneOf new.keys number ↔ (IsOneOf old.keys number ⊎ Comes number)
+abbrev pub AddsTo : BTreeSet ℕ → BTreeSet ℕ → (ℕ → Type 0) → Type 0
+AddsTo old new Comes = (number : ℕ) → IsOneOf new.keys number ↔ (IsOneOf old.keys number ⊎ Comes number)
 
 -- The members grow by some nodes, and those that are new are due.
-pub record Grows (old new : Found) (Comes : ℕ → Type 0) : Type 0 where
-  pub members : SetGrows old.members new.members Comes
+pub record GrowsBy (old new : Found) (Comes : ℕ → Type 0) : Type 0 where
+  pub members : AddsTo old.members new.members Comes
   pub due_kept : (node : ℕ) → IsOneOf old.due.items node → IsOneOf new.due.items node
   pub due : (node : ℕ) → IsOneOf new.members.keys node → IsOneOf old.members.keys node ⊎ IsOneOf new.due.items node
   pub due_only : (node : ℕ) → IsOneOf new.due.items node → IsOneOf old.due.items node ⊎ IsOneOf new.members.keys node

@@ -9,8 +9,8 @@ abbrev pub is_of_stamp : ℕ → Change → Bool
 is_of_stamp stamp change = change.stamp.0 == stamp
 
 -- whether a change lies from one stamp to below another
-abbrev pub is_between : ℕ → ℕ → Change → Bool
-is_between from below change = nat_le from change.stamp.0 && nat_lt change.stamp.0 below
+abbrev pub is_in_span : ℕ → ℕ → Change → Bool
+is_in_span from below change = nat_le from change.stamp.0 && nat_lt change.stamp.0 below
 
 -- the directory that a change ends, by its directory's changes of which some have its stamp
 abbrev pub ended_by : List Change → Change → Option NodeId

@@ -8,7 +8,7 @@ ghost use Rattle.sfs_base.specs.declared.numbers.Stamp.{Stamp};
 ghost use Rattle.mem_cells.specs.Log.{IsInOrder};
 ghost use Rattle.flush_core.specs.Engine.{OfSome};
 ghost use Rattle.flush_ties.specs.Look.{SeesNaming};
-ghost use Rattle.dep_closure.specs.Brought.{SetGrows, birthplace_due};
+ghost use Rattle.dep_closure.specs.Brought.{AddsTo, birthplace_due};
 ghost use Rattle.dep_closure.specs.Gathered.{IsOrderly, look_of, IsNamedByLog};
 
 use crate::gathered::{DirectoryChanges, Gathered};
@@ -41,7 +41,7 @@ fn add_named(
 ) -> Result<(), NoMemory>
     requires gathered { IsOrderly gathered.now }
     requires in_order { IsInOrder log.now.changes.items }
-    ensures { OnOk result (SetGrows named.old named.new (IsNamedByLog gathered.now.cuts.items log.now)) }
+    ensures { OnOk result (AddsTo named.old named.new (IsNamedByLog gathered.now.cuts.items log.now)) }
 {
     let cut = cut_of(gathered.cuts.as_slice(), log.dir);
     add_children(named, from_stamp(log.changes.as_slice(), cut))
@@ -49,7 +49,7 @@ fn add_named(
 
 // Adds the children of changes.
 fn add_children(named: &mut BTreeSet<u32>, changes: &[Change]) -> Result<(), NoMemory>
-    ensures { OnOk result (SetGrows named.old named.new (OfSome changes.now (λ change node. change.child.0 ≡ node))) }
+    ensures { OnOk result (AddsTo named.old named.new (OfSome changes.now (λ change node. change.child.0 ≡ node))) }
 {
     for change in changes {
         add_child(named, change.child)?;
@@ -59,7 +59,7 @@ fn add_children(named: &mut BTreeSet<u32>, changes: &[Change]) -> Result<(), NoM
 
 // Adds one node.
 fn add_child(named: &mut BTreeSet<u32>, child: NodeId) -> Result<(), NoMemory>
-    ensures { OnOk result (SetGrows named.old named.new (λ node. child.0 ≡ node)) }
+    ensures { OnOk result (AddsTo named.old named.new (λ node. child.0 ≡ node)) }
 {
     named.insert(child.0)?;
     Ok(())

@@ -6,7 +6,7 @@ ghost use Rattle.sfs_base.specs.declared.numbers.NodeId.{NodeId};
 ghost use Rattle.mem_cells.specs.Log.{IsInOrder};
 ghost use Rattle.flush_core.specs.Engine.{OfSome};
 ghost use Rattle.flush_ties.specs.Look.{SeesNaming};
-ghost use Rattle.dep_closure.specs.Brought.{Grows, ChangeBrings, LoggedBrings, AreOfOneDirectory, SpanBrings, MemberBrings};
+ghost use Rattle.dep_closure.specs.Brought.{GrowsBy, ChangeBrings, LoggedBrings, AreOfOneDirectory, SpanBrings, MemberBrings};
 ghost use Rattle.dep_closure.specs.Gathered.{IsOrderly, look_of, noted_as};
 
 use crate::births::birthplace;
@@ -29,7 +29,7 @@ pub(crate) fn follow(
     requires gathered { IsOrderly gathered.now }
     requires named { (start : NodeId) (other : ℕ) →
         (contains nat_cmp named.now other ≡ true) ↔ SeesNaming (look_of start below gathered.now) (look_of start below gathered.now).cut other }
-    ensures { OnOk result ((start : NodeId) → Grows found.old found.new (MemberBrings (look_of start below gathered.now) node.0)) }
+    ensures { OnOk result ((start : NodeId) → GrowsBy found.old found.new (MemberBrings (look_of start below gathered.now) node.0)) }
 {
     follow_log(found, gathered, below, node)?;
     found.add_some(birthplace(gathered, named, node))
@@ -43,7 +43,7 @@ fn follow_log(
     node: NodeId,
 ) -> Result<(), NoMemory>
     requires { IsOrderly gathered.now }
-    ensures { OnOk result ((start : NodeId) → Grows found.old found.new (SpanBrings (look_of start below gathered.now) node.0)) }
+    ensures { OnOk result ((start : NodeId) → GrowsBy found.old found.new (SpanBrings (look_of start below gathered.now) node.0)) }
 {
     match find_node(gathered.logs.as_slice(), node) {
         Some(log) => {
@@ -58,7 +58,7 @@ fn follow_log(
 fn follow_span(found: &mut Found, span: &[Change]) -> Result<(), NoMemory>
     requires in_order { IsInOrder span.now }
     requires own { AreOfOneDirectory span.now }
-    ensures { OnOk result (Grows found.old found.new (OfSome span.now (λ change. ChangeBrings (noted_as span.now change)))) }
+    ensures { OnOk result (GrowsBy found.old found.new (OfSome span.now (λ change. ChangeBrings (noted_as span.now change)))) }
 {
     for at in 0..span.len() {
         follow_change(found, &span[at], &span[at + 1..])?;
@@ -69,7 +69,7 @@ fn follow_span(found: &mut Found, span: &[Change]) -> Result<(), NoMemory>
 // Adds what a change brings in, by the changes of its directory that stand behind it.
 fn follow_change(found: &mut Found, change: &Change, later: &[Change]) -> Result<(), NoMemory>
     requires { IsInOrder (change.now ∷ later.now) }
-    ensures { OnOk result (Grows found.old found.new (LoggedBrings change.now later.now)) }
+    ensures { OnOk result (GrowsBy found.old found.new (LoggedBrings change.now later.now)) }
 {
     found.add_some(change.other)?;
     found.add_some(ended_child(change, later))?;

@@ -6,7 +6,7 @@ ghost use Rattle.std.specs.BTreeSet.{IsOrdered};
 ghost use Rattle.std.specs.List.Sorted.{IsStrictlyIncreasing};
 ghost use Rattle.sfs_tree.specs.NameRow.{node_number};
 ghost use Rattle.flush_core.specs.Engine.{OfSome};
-ghost use Rattle.dep_closure.specs.Brought.{Grows};
+ghost use Rattle.dep_closure.specs.Brought.{GrowsBy};
 
 use sfs_base::{NoMemory, NodeId, NodeList, RoomyList};
 use std::alloc::Global;
@@ -34,7 +34,7 @@ impl Found {
 
     // Makes a node a member, and it is due where it wasn't one before.
     pub(crate) fn add(&mut self, node: NodeId) -> Result<(), NoMemory>
-        ensures { OnOk result (Grows self.old self.new (λ other. node.0 ≡ other)) }
+        ensures { OnOk result (GrowsBy self.old self.new (λ other. node.0 ≡ other)) }
     {
         if self.members.insert(node.0)? {
             self.due.push(node.0)?;
@@ -44,7 +44,7 @@ impl Found {
 
     // The same of a node that may be there.
     pub(crate) fn add_some(&mut self, node: Option<NodeId>) -> Result<(), NoMemory>
-        ensures { OnOk result (Grows self.old self.new (λ other. option_map node_number node ≡ Some other)) }
+        ensures { OnOk result (GrowsBy self.old self.new (λ other. option_map node_number node ≡ Some other)) }
     {
         if let Some(node) = node {
             self.add(node)?;
@@ -54,7 +54,7 @@ impl Found {
 
     // The same of several nodes.
     pub(crate) fn add_all(&mut self, nodes: &[NodeId]) -> Result<(), NoMemory>
-        ensures { OnOk result (Grows self.old self.new (OfSome nodes.now (λ node other. node.0 ≡ other))) }
+        ensures { OnOk result (GrowsBy self.old self.new (OfSome nodes.now (λ node other. node.0 ≡ other))) }
     {
         for node in nodes {
             self.add(*node)?;

@@ -3,7 +3,7 @@ ghost use Rattle.std.specs.Prelude.{◌≡◌, ◌≤◌, ◌+◌, ◌∷◌, �
 ghost use Rattle.std.specs.List.{list_any};
 ghost use Rattle.mem_cells.specs.Log.{IsInOrder, is_from};
 ghost use Rattle.sfs_tree.specs.Logged.{is_end_of, adds_any, adds_name};
-ghost use Rattle.dep_closure.specs.Spans.{is_of_stamp, is_between, ended_by};
+ghost use Rattle.dep_closure.specs.Spans.{is_of_stamp, is_in_span, ended_by};
 
 use sfs_base::{Kind, NodeId, Stamp};
 use sfs_tree::{Act, Change};
@@ -11,7 +11,7 @@ use sfs_tree::{Act, Change};
 // The changes from one stamp to below another. It takes time in proportion to the logarithm of their number.
 pub(crate) fn span(changes: &[Change], from: Stamp, below: Stamp) -> &[Change]
     requires { IsInOrder changes.now }
-    ensures items { result.now ≡ filter (is_between from.0 below.0) changes.now }
+    ensures items { result.now ≡ filter (is_in_span from.0 below.0) changes.now }
     ensures in_order { IsInOrder result.now }
 {
     let late = from_stamp(changes, from);

@@ -2,7 +2,7 @@ use Rattle.std.proofs.Common.{◌≡◌, ℕ, refl, take, subst}
 use Rattle.std.proofs.lemmas.List.{take_all}
 use Rattle.sfs_tree.specs.declared.changes.Change.{Change}
 use Rattle.flush_core.specs.Engine.{OfSome}
-use Rattle.dep_closure.specs.Brought.{SetGrows}
+use Rattle.dep_closure.specs.Brought.{AddsTo}
 use Rattle.dep_closure.proofs.Growing.{set_more, set_same}
 use Rattle.dep_closure.proofs.births.add_children.Goals as goal
 
@@ -18,4 +18,4 @@ loop-change-preserved c =
     set_more brings c.args.changes.now c.loop-change.change-index c.change-item.result c.change-item.result c.args.named.now c.loop-change.named c.add_child.new.named c.loop-change-test.true c.change-item.is c.loop-change.invariant c.in_ok-add_child.ensures
 
 pub returns : goal.returns
-returns c = subst (λ (l : _). SetGrows c.args.named.now c.loop-change.named (OfSome l (λ change node. change.child.0 ≡ node))) (take_all c.loop-change.change-index c.args.changes.now c.loop-change-test.false) c.loop-change.invariant
+returns c = subst (λ (l : _). AddsTo c.args.named.now c.loop-change.named (OfSome l (λ change node. change.child.0 ≡ node))) (take_all c.loop-change.change-index c.args.changes.now c.loop-change-test.false) c.loop-change.invariant

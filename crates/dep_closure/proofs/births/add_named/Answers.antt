@@ -3,7 +3,7 @@ use Rattle.std.proofs.lemmas.Result.{on_ok_weaker}
 use Rattle.sfs_tree.specs.declared.changes.Change.{Change}
 use Rattle.mem_cells.specs.Log.{is_from}
 use Rattle.flush_core.specs.Engine.{OfSome}
-use Rattle.dep_closure.specs.Brought.{SetGrows}
+use Rattle.dep_closure.specs.Brought.{AddsTo}
 use Rattle.dep_closure.specs.Gathered.{IsNamedByLog, cut_in}
 use Rattle.dep_closure.proofs.Growing.{set_as}
 use Rattle.dep_closure.proofs.Tying.{named_from, from_named}
@@ -19,6 +19,6 @@ returns c =
     on_ok_weaker c.add_children.result
     (λ grows.
     set_as c.args.named.now c.add_children.new.named (OfSome (filter (is_from from) log.changes.items) (λ change other. change.child.0 ≡ other)) (IsNamedByLog cuts log)
-    (subst (λ (l : List Change). SetGrows c.args.named.now c.add_children.new.named (OfSome l (λ change other. change.child.0 ≡ other))) is grows)
+    (subst (λ (l : List Change). AddsTo c.args.named.now c.add_children.new.named (OfSome l (λ change other. change.child.0 ≡ other))) is grows)
     (named_from cuts log from cut) (from_named cuts log from cut))
     c.add_children.ensures

@@ -5,7 +5,7 @@ use Rattle.flush_core.specs.Engine.{OfSome}
 use Rattle.flush_core.specs.Rules.{IsOneOf}
 use Rattle.flush_core.proofs.Listed.{one_at}
 use Rattle.dep_closure.specs.declared.gathered.DirectoryChanges.{DirectoryChanges}
-use Rattle.dep_closure.specs.Brought.{SetGrows}
+use Rattle.dep_closure.specs.Brought.{AddsTo}
 use Rattle.dep_closure.specs.Gathered.{IsNamedByLog}
 use Rattle.dep_closure.proofs.Growing.{set_more, has_one, one_has}
 use Rattle.dep_closure.proofs.Looked.{one_of_all}
@@ -26,7 +26,7 @@ loop-log-preserved c =
 pub returns : goal.returns
 returns c = λ start below node.
     let gathered = c.args.gathered.now in
-    let grown = subst (λ (l : List DirectoryChanges). SetGrows c.new-named.result c.loop-log.named (OfSome l (IsNamedByLog gathered.cuts.items)))
+    let grown = subst (λ (l : List DirectoryChanges). AddsTo c.new-named.result c.loop-log.named (OfSome l (IsNamedByLog gathered.cuts.items)))
     (take_all c.loop-log.log-index c.as_slice-logs.result.now c.loop-log-test.false ∙ c.as_slice-logs.ensures) c.loop-log.invariant in (
       λ has. elim ((grown node).0 (has_one c.loop-log.named node has)) [
         | inl old ↦ absurd (subst (λ (l : List ℕ). IsOneOf l node) c.new-named.ensures.empty old)
