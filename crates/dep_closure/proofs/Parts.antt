@@ -1,5 +1,5 @@
 -- Parts of changes in order, by their stamps.
-use Rattle.std.proofs.Common.{◌≡◌, ℕ, zero, suc, ◌<◌, ◌≤◌, Bool, true, false, cond, not, List, [], ◌∷◌, length, take, drop, get_or, filter, Some, None, refl, sym, ap, ◌∙◌, subst, arith, nat_lt}
+use Rattle.std.proofs.Common.{◌≡◌, ℕ, zero, suc, ◌+◌, ◌-◌, ◌<◌, ◌≤◌, Bool, true, false, cond, not, List, [], ◌∷◌, ◌++◌, length, take, drop, get_or, filter, Some, None, refl, sym, ap, ◌∙◌, subst, arith, nat_lt}
 use Rattle.std.specs.Prelude.{All, ◌&&◌, position}
 use Rattle.std.specs.List.{position_or_len}
 use Rattle.std.specs.List.Sorted.{IsPartitionPoint, IsPartitionedBy}
@@ -7,13 +7,13 @@ use borrow.Author.Tests.{ltb-true, ltb-false}
 use Rattle.std.proofs.lemmas.Bool.{cond-true, cond-false}
 use Rattle.std.proofs.lemmas.Bool.Decides.{nat_tests}
 use Rattle.std.proofs.lemmas.List.Sums.{fails_before_first, passes_at_first, prefix_len-le-length}
-use Rattle.std.proofs.lemmas.List.{take_all}
+use Rattle.std.proofs.lemmas.List.{take_all, take_more, get_or_default, get_or-take, length-take}
 use Rattle.sfs_base.proofs.BasicNumbers.{not_same}
 use Rattle.sfs_base.proofs.BasicTruth.{not_false, not_true}
 use Rattle.sfs_base.proofs.BasicOptions.{some_same, none_some}
 use Rattle.sfs_tree.specs.declared.changes.Change.{Change}
-use Rattle.mem_cells.specs.Log.{IsInOrder, is_from}
-use Rattle.mem_cells.proofs.Order.{stamps_rise}
+use Rattle.mem_cells.specs.Log.{IsInOrder, is_from, log_place}
+use Rattle.mem_cells.proofs.Order.{in_order-push, stamps_rise}
 use Rattle.dep_closure.specs.Spans.{is_of_stamp}
 
 module _ {X : Type 0} (test : X → Bool) where
@@ -99,3 +99,23 @@ module _ (changes : List Change) (order : IsInOrder changes) where
               let all : place ≡ length changes = omega arith in
               sym (take_all place changes (omega arith)) ∙ front_is place (omega arith) is
         ] refl
+
+-- Whether changes stand in order is seen at neighbours.
+pub falls_in_order : (changes : List Change) → IsInOrder changes → (at : ℕ) → 0 < at → at < length changes → (first second : Change) → first ≡ get_or changes (at - 1) first → second ≡ get_or changes at second → log_place second < log_place first → ⊥
+falls_in_order changes order at some within first second first_is second_is less =
+    let rise = order.rises (at - 1) at first (omega arith) within in
+    let one = ap log_place first_is in
+    let two = ap log_place (second_is ∙ get_or_default changes at second first within) in
+    omega arith
+
+pub one_more_in_order : (changes : List Change) (at : ℕ) → IsInOrder (take at changes) → 0 < at → at < length changes → (first second : Change) → first ≡ get_or changes (at - 1) first → second ≡ get_or changes at second → log_place first ≤ log_place second → IsInOrder (take (at + 1) changes)
+one_more_in_order changes at order some within first second first_is second_is le =
+    subst IsInOrder (sym (take_more changes at second within ∙ ap (λ (c : Change). take at changes ++ c ∷ []) (sym second_is))) (in_order-push (take at changes) second order last)
+  where
+    last : All (λ other. log_place other ≤ log_place second) (take at changes)
+    last k d below =
+        let short = length-take at changes in
+        let rise = order.rises k (at - 1) first (omega arith) (omega arith) in
+        let there = ap log_place (get_or-take at changes (at - 1) first (omega arith) ∙ sym first_is) in
+        let here = ap log_place (get_or_default (take at changes) k d first below) in
+        omega arith

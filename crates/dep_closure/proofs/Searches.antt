@@ -1,12 +1,12 @@
 -- A search in a list that ascends by a number finds the item with a number.
-use Rattle.std.proofs.Common.{◌≡◌, ◌≢◌, ℕ, ◌<◌, ◌≤◌, true, false, List, length, map, get_or, Some, None, inl, inr, refl, sym, ap, ◌∙◌, subst, arith, nat_eq, nat_lt}
+use Rattle.std.proofs.Common.{◌≡◌, ◌≢◌, ℕ, ◌+◌, ◌-◌, ◌<◌, ◌≤◌, true, false, List, length, map, get_or, Some, None, inl, inr, refl, sym, ap, ◌∙◌, subst, arith, nat_eq, nat_lt}
 use Rattle.std.specs.Prelude.{slice_get}
 use Rattle.std.specs.List.{find, position_or_len}
 use Rattle.std.specs.List.Sorted.{IsStrictlyIncreasing, IsPartitionPoint, IsPartitionedBy}
-use Rattle.std.proofs.Math.ListN.{get_or-map}
+use Rattle.std.proofs.Math.ListN.{get_or-map as get_or-mapped}
 use Rattle.std.proofs.lemmas.Bool.{cases_lt}
 use Rattle.std.proofs.lemmas.Bool.Decides.{nat_tests}
-use Rattle.std.proofs.lemmas.List.{length-map}
+use Rattle.std.proofs.lemmas.List.{length-map, get_or-map}
 use Rattle.std.proofs.lemmas.List.Folds.{find_at}
 use Rattle.std.proofs.lemmas.List.Kept.{AllPairs-from_increasing}
 use Rattle.std.proofs.lemmas.List.Sums.{position_or_len_is, passes_at_first}
@@ -20,7 +20,7 @@ module _ {X : Type 0} (number : X → ℕ) (items : List X) (up : IsStrictlyIncr
   pub numbers_rise : (i j : ℕ) (d : X) → i < j → j < length items → number (get_or items i d) < number (get_or items j d)
   numbers_rise i j d less within =
       let pairs = AllPairs-from_increasing (map number items) up i j (number d) less (rw length-map within) in
-      rw (get_or-map number items i d, get_or-map number items j d) at pairs
+      rw (get_or-mapped number items i d, get_or-mapped number items j d) at pairs
 
   -- those below a number stand in front
   pub parted_by : (n : ℕ) → IsPartitionedBy (λ item. nat_lt (number item) n) items
@@ -67,3 +67,31 @@ module _ {X : Type 0} (number : X → ℕ) (items : List X) (up : IsStrictlyIncr
           let same : get_or items k d ≡ item = ap (λ j. get_or items j d) here ∙ some_same (sym (slice_get-get_or items at d within) ∙ slice_get_read items (length items) at item refl within read) in
           subst (λ (i : X). nat_eq (number i) n ≡ false) (sym same) (not_same (number item) n other)
     ]))
+
+-- Whether numbers ascend is seen at neighbours.
+module _ {X : Type 0} (number : X → ℕ) (items : List X) (at : ℕ) (some : 0 < at) (within : at < length items) (first second : X) (first_is : first ≡ get_or items (at - 1) first) (second_is : second ≡ get_or items at second) where
+  read_first : get_or (map number items) (at - 1) 0 ≡ number first
+  read_first = get_or-map number items (at - 1) first 0 (omega arith) ∙ ap number (sym first_is)
+
+  read_second : get_or (map number items) at 0 ≡ number second
+  read_second = get_or-map number items at second 0 within ∙ ap number (sym second_is)
+
+  -- one that is no less than the next
+  pub falls_there : number second ≤ number first → IsStrictlyIncreasing (map number items) → ⊥
+  falls_there le up =
+      let rise = up (at - 1) (omega (arith, length-map items number)) in
+      let next : get_or (map number items) (at - 1 + 1) 0 ≡ number second = ap (λ k. get_or (map number items) k 0) (again at some) ∙ read_second in
+      omega (arith, rise, next, read_first)
+    where
+      again : (n : ℕ) → 0 < n → n - 1 + 1 ≡ n
+      again n more = omega arith
+
+  -- one that is less
+  pub rises_there : number first < number second → ((k : ℕ) → k + 1 < at → get_or (map number items) k 0 < get_or (map number items) (k + 1) 0) → (k : ℕ) → k + 1 < at + 1 → get_or (map number items) k 0 < get_or (map number items) (k + 1) 0
+  rises_there less before k below = elim (cases_lt (k + 1) at) [
+    | inl earlier ↦ before k earlier
+    | inr here ↦
+        let same : k + 1 ≡ at = omega arith in
+        let own : k ≡ at - 1 = omega arith in
+        omega (arith, ap (λ i. get_or (map number items) i 0) same, ap (λ i. get_or (map number items) i 0) own, read_first, read_second)
+  ]

@@ -26,7 +26,7 @@ use Rattle.dep_closure.specs.declared.gathered.NodeCut.{NodeCut}
 use Rattle.dep_closure.specs.declared.gathered.NodeBirth.{NodeBirth}
 use Rattle.dep_closure.specs.declared.gathered.Gathered.{Gathered}
 use Rattle.dep_closure.specs.Brought.{ChangeBrings, SpanBrings, BirthBrings, AreOfOneDirectory, birthplace_due}
-use Rattle.dep_closure.specs.Gathered.{look_of, noted_as, noted_in, born_as, cut_in, log_directory, birth_node, IsOrderly, IsNamedByLog}
+use Rattle.dep_closure.specs.Gathered.{look_of, noted_as, noted_in, born_as, cut_in, log_directory, birth_node, IsOwnLog, IsOrderly, IsNamedByLog}
 use Rattle.dep_closure.specs.Spans.{is_in_span, is_of_stamp}
 use Rattle.dep_closure.proofs.Looked.{from_flat, to_flat, to_filter, one_of_all, only_one}
 use Rattle.dep_closure.proofs.Parts.{pass_both}
@@ -59,7 +59,7 @@ module _ (gathered : Gathered) (orderly : IsOrderly gathered) (start : NodeId) (
 
   own_directory : (log : DirectoryChanges) (change : Change) → IsOneOf gathered.logs.items log → IsOneOf log.changes.items change → change.dir.0 ≡ log.dir.0
   own_directory log change one own =
-      one_of_all (λ other. other.dir.0 ≡ log.dir.0) log.changes.items change (one_of_all (λ other. All (λ c. c.dir.0 ≡ other.dir.0) other.changes.items) gathered.logs.items log orderly.own one) own
+      one_of_all (λ other. other.dir.0 ≡ log.dir.0) log.changes.items change (one_of_all IsOwnLog gathered.logs.items log orderly.own_logs one).own own
 
   -- what a log names is seen
   pub seen_named : (node : ℕ) → OfSome gathered.logs.items (IsNamedByLog gathered.cuts.items) node → SeesNaming look look.cut node

@@ -64,11 +64,15 @@ pub record IsNamedByLog (cuts : List NodeCut) (log : DirectoryChanges) (node : �
   pub child : change.child.0 ≡ node
   pub unflushed : cut_in cuts log.dir.0 ≤ change.stamp.0
 
--- What was gathered stands in order: each list ascends by node, and each log has changes of its own directory alone, by their stamps.
+-- A log has changes of its own directory alone, by their stamps, and within one stamp removals before additions.
+pub record IsOwnLog (log : DirectoryChanges) : Type 0 where
+  pub own : All (λ change. change.dir.0 ≡ log.dir.0) log.changes.items
+  pub in_order : IsInOrder log.changes.items
+
+-- What was gathered stands in order: each list ascends by node, and each log is one of its directory.
 pub record IsOrderly (gathered : Gathered) : Type 0 where
   pub logs : IsStrictlyIncreasing (map log_directory gathered.logs.items)
   pub cuts : IsStrictlyIncreasing (map cut_node gathered.cuts.items)
   pub births : IsStrictlyIncreasing (map birth_node gathered.births.items)
   pub inodes : IsStrictlyIncreasing (map node_number gathered.inodes.items)
-  pub own : All (λ log. All (λ change. change.dir.0 ≡ log.dir.0) log.changes.items) gathered.logs.items
-  pub in_order : All (λ log. IsInOrder log.changes.items) gathered.logs.items
+  pub own_logs : All IsOwnLog gathered.logs.items

@@ -7,6 +7,7 @@ mod following;
 mod gathered;
 mod lookup;
 mod members;
+mod orderly;
 mod spans;
 
 pub use closing::closure;

@@ -1,12 +1,11 @@
 use Rattle.std.proofs.Common.{ℕ, ◌∙◌, subst, List, inl, inr}
 use Rattle.std.proofs.lemmas.List.{take_all}
-use Rattle.mem_cells.specs.Log.{IsInOrder}
 use Rattle.flush_core.specs.Engine.{OfSome}
 use Rattle.flush_core.specs.Rules.{IsOneOf}
 use Rattle.flush_core.proofs.Listed.{one_at}
 use Rattle.dep_closure.specs.declared.gathered.DirectoryChanges.{DirectoryChanges}
 use Rattle.dep_closure.specs.Brought.{AddsTo}
-use Rattle.dep_closure.specs.Gathered.{IsNamedByLog}
+use Rattle.dep_closure.specs.Gathered.{IsNamedByLog, IsOwnLog}
 use Rattle.dep_closure.proofs.Growing.{set_more, has_one, one_has}
 use Rattle.dep_closure.proofs.Looked.{one_of_all}
 use Rattle.dep_closure.proofs.Tying.{seen_named, named_seen}
@@ -16,7 +15,7 @@ pub add_named-requires-clause-in_order : goal.add_named-requires-clause-in_order
 add_named-requires-clause-in_order c =
     let log = c.log-item.result in
     let one = subst (λ (l : List DirectoryChanges). IsOneOf l log) c.as_slice-logs.ensures (one_at c.as_slice-logs.result.now c.loop-log.log-index log log c.loop-log-test.true c.log-item.is) in
-    one_of_all (λ (one : DirectoryChanges). IsInOrder one.changes.items) c.args.gathered.now.logs.items log c.requires.in_order one
+    (one_of_all IsOwnLog c.args.gathered.now.logs.items log c.requires.own_logs one).in_order
 
 pub loop-log-preserved : goal.loop-log-preserved
 loop-log-preserved c =

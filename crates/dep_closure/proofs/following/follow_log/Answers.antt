@@ -1,14 +1,12 @@
-use Rattle.std.proofs.Common.{◌≡◌, List, filter, sym, ap, subst, refl, ◌∙◌, nat_eq}
-use Rattle.std.specs.Prelude.{All}
+use Rattle.std.proofs.Common.{List, filter, sym, ap, subst, refl, ◌∙◌, nat_eq}
 use Rattle.std.specs.List.{find}
 use Rattle.std.proofs.lemmas.Result.{on_ok_weaker}
 use Rattle.sfs_tree.specs.declared.changes.Change.{Change}
 use Rattle.mem_cells.specs.Log.{IsInOrder}
 use Rattle.flush_core.specs.Engine.{OfSome}
 use Rattle.flush_core.proofs.RunFacts.{found_in}
-use Rattle.dep_closure.specs.declared.gathered.DirectoryChanges.{DirectoryChanges}
 use Rattle.dep_closure.specs.Brought.{GrowsBy, ChangeBrings, SpanBrings, AreOfOneDirectory}
-use Rattle.dep_closure.specs.Gathered.{look_of, noted_as, cut_in, log_directory}
+use Rattle.dep_closure.specs.Gathered.{IsOwnLog, look_of, noted_as, cut_in, log_directory}
 use Rattle.dep_closure.specs.Spans.{is_in_span}
 use Rattle.dep_closure.proofs.Growing.{grows_as, grows_same}
 use Rattle.dep_closure.proofs.Looked.{one_of_all}
@@ -39,7 +37,7 @@ pub span-requires : goal.span-requires
 span-requires c =
     let found = ap (find (λ one. nat_eq (log_directory one) c.args.node.0)) (sym c.as_slice.ensures) ∙ sym c.in-Some.ensures in
     let there = found_in (λ one. nat_eq (log_directory one) c.args.node.0) c.args.gathered.now.logs.items c.in-Some.log.now found in
-    subst IsInOrder (sym c.as_slice-in-Some-2.ensures) (one_of_all (λ (log : DirectoryChanges). IsInOrder log.changes.items) c.args.gathered.now.logs.items c.in-Some.log.now c.requires.in_order there.0)
+    subst IsInOrder (sym c.as_slice-in-Some-2.ensures) (one_of_all IsOwnLog c.args.gathered.now.logs.items c.in-Some.log.now c.requires.own_logs there.0).in_order
 
 pub follow_span-requires-clause-own : goal.follow_span-requires-clause-own
 follow_span-requires-clause-own c =
@@ -47,4 +45,4 @@ follow_span-requires-clause-own c =
     let there = found_in (λ one. nat_eq (log_directory one) c.args.node.0) c.args.gathered.now.logs.items c.in-Some.log.now found in
     let test = is_in_span c.cut_of-cut.result.0 c.args.below.0 in
     subst AreOfOneDirectory (sym (c.span.ensures.items ∙ ap (filter test) c.as_slice-in-Some-2.ensures))
-    (span_own c.in-Some.log.now.changes.items c.in-Some.log.now.dir.0 test (one_of_all (λ (log : DirectoryChanges). All (λ change. change.dir.0 ≡ log.dir.0) log.changes.items) c.args.gathered.now.logs.items c.in-Some.log.now c.requires.own there.0))
+    (span_own c.in-Some.log.now.changes.items c.in-Some.log.now.dir.0 test (one_of_all IsOwnLog c.args.gathered.now.logs.items c.in-Some.log.now c.requires.own_logs there.0).own)
