@@ -4,4 +4,5 @@ pub mod Growing
 pub mod Looked
 pub mod Parts
 pub mod Searches
+pub mod True
 pub mod Tying

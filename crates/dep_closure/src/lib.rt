@@ -5,6 +5,7 @@ mod births;
 mod closing;
 mod following;
 mod gathered;
+pub mod laws;
 mod lookup;
 mod members;
 mod orderly;
