@@ -1,0 +1,78 @@
+-- What an fsync goes by, made of what it has gathered.
+use Rattle.std.specs.Prelude.{◌≡◌, ℕ, ◌≤◌, ◌==◌, List, map, filter, flat_map, option_map, All}
+use Rattle.std.specs.Option.{unwrap_or}
+use Rattle.std.specs.List.{find}
+use Rattle.std.specs.List.Sorted.{IsStrictlyIncreasing}
+use Rattle.sfs_base.specs.declared.numbers.NodeId.{NodeId}
+use Rattle.sfs_base.specs.declared.numbers.Stamp.{Stamp}
+use Rattle.sfs_base.specs.Listed.{is_listed}
+use Rattle.sfs_tree.specs.declared.changes.Change.{Change}
+use Rattle.sfs_tree.specs.Logged.{erased}
+use Rattle.sfs_tree.specs.NameRow.{node_number}
+use Rattle.mem_cells.specs.Log.{IsInOrder}
+use Rattle.flush_core.specs.Rules.{IsOneOf}
+use Rattle.flush_ties.specs.Look.{Noted, Born, Look}
+use Rattle.dep_closure.specs.declared.gathered.DirectoryChanges.{DirectoryChanges}
+use Rattle.dep_closure.specs.declared.gathered.NodeCut.{NodeCut}
+use Rattle.dep_closure.specs.declared.gathered.NodeBirth.{NodeBirth}
+use Rattle.dep_closure.specs.declared.gathered.Gathered.{Gathered}
+use Rattle.dep_closure.specs.Spans.{is_of_stamp}
+
+-- the directory of a log
+abbrev pub log_directory : DirectoryChanges → ℕ
+log_directory log = log.dir.0
+
+-- the node of a cut
+abbrev pub cut_node : NodeCut → ℕ
+cut_node one = one.node.0
+
+-- the node of a birth
+abbrev pub birth_node : NodeBirth → ℕ
+birth_node birth = birth.node.0
+
+-- the stamp in a node's cut, 0 for a node that is not in the list
+abbrev pub cut_in : List NodeCut → ℕ → ℕ
+cut_in cuts node = unwrap_or (option_map (λ one. one.cut.0) (find (λ one. cut_node one == node) cuts)) 0
+
+-- A directory's change as it was gathered: as a change of a row, by the changes that the directory has at its stamp, and with the
+-- directories that are recorded with it.
+abbrev pub noted_as : List Change → Change → Noted
+noted_as changes change = record { change = erased (filter (is_of_stamp change.stamp.0) changes) change; above = change.above }
+
+-- the changes of a log as they were gathered
+abbrev pub noted_in : DirectoryChanges → List Noted
+noted_in log = map (noted_as log.changes.items) log.changes.items
+
+-- a birth as it was gathered
+abbrev pub born_as : NodeBirth → Born
+born_as birth = record { node = birth.node.0; directory = birth.dir.0 }
+
+-- what an fsync of a node at a stamp goes by
+abbrev pub look_of : NodeId → Stamp → Gathered → Look
+look_of start below gathered = record {
+  flush = record { node = start.0; stamp = below.0 };
+  cut = cut_in gathered.cuts.items;
+  inodes = is_listed (map node_number gathered.inodes.items);
+  born = map born_as gathered.births.items;
+  noted = flat_map noted_in gathered.logs.items;
+}
+
+-- A change of a log names a node and does not lie below the directory's cut.
+pub record IsNamedByLog (cuts : List NodeCut) (log : DirectoryChanges) (node : ℕ) : Type 0 where
+  pub change : Change
+  pub is_logged : IsOneOf log.changes.items change
+  pub child : change.child.0 ≡ node
+  pub unflushed : cut_in cuts log.dir.0 ≤ change.stamp.0
+
+-- A log has changes of its own directory alone, by their stamps, and within one stamp removals before additions.
+pub record IsOwnLog (log : DirectoryChanges) : Type 0 where
+  pub own : All (λ change. change.dir.0 ≡ log.dir.0) log.changes.items
+  pub in_order : IsInOrder log.changes.items
+
+-- What was gathered stands in order: each list ascends by node, and each log is one of its directory.
+pub record IsOrderly (gathered : Gathered) : Type 0 where
+  pub logs : IsStrictlyIncreasing (map log_directory gathered.logs.items)
+  pub cuts : IsStrictlyIncreasing (map cut_node gathered.cuts.items)
+  pub births : IsStrictlyIncreasing (map birth_node gathered.births.items)
+  pub inodes : IsStrictlyIncreasing (map node_number gathered.inodes.items)
+  pub own_logs : All IsOwnLog gathered.logs.items

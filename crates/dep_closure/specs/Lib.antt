@@ -1,0 +1,5 @@
+pub mod Brought
+pub mod Gathered
+pub mod History
+pub mod Laws
+pub mod Spans
