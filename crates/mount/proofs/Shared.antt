@@ -1,8 +1,6 @@
 -- A tree with another share of new nodes for each core.
 use Rattle.std.proofs.Common.{◌≡◌, ℕ, ◌<◌, ◌≤◌, List, [], ◌∷◌, length, replicate, Option, None, Some, cond, refl, sym, ap, ◌∙◌, arith, inl, inr}
 use Rattle.std.specs.Prelude.{is_none, slice_index}
-use Rattle.std.proofs.lemmas.Bool.{cases_lt}
-use Rattle.std.proofs.lemmas.List.{get_or-replicate, get_or_past, length-replicate}
 use Rattle.sfs_base.proofs.BasicOptions.{some_same}
 use Rattle.sfs_tree.specs.Sound.{Above, at_root, below, IsSound, IsWithinLimits}
 use Rattle.sfs_tree.specs.Tree.{TreeState}
@@ -39,10 +37,3 @@ shared_tree_of image share tree is =
     sym (ap (λ (o : Option ImageFault). cond (is_none o) (Some (image_tree (image_inodes image) (making_at_mount image 0))) None) none) ∙ is in
     ap (λ (o : Option ImageFault). cond (is_none o) (Some (image_tree (image_inodes image) (making_at_mount image share))) None) none
     ∙ ap (λ (t : TreeState). Some (record t { share = share })) (some_same first)
-
--- no core has made a node
-pub none_made : (cores core : ℕ) → slice_index (replicate cores 0) core ≡ 0
-none_made cores core = elim (cases_lt core cores) [
-  | inl within ↦ get_or-replicate cores core 0 0 within
-  | inr past ↦ get_or_past (replicate cores 0) core 0 (let same = length-replicate {A = ℕ} cores 0 in omega (arith, same, past))
-]

@@ -19,12 +19,12 @@ use Rattle.recovery.specs.Freed.{without_unlinked}
 use Rattle.mount.specs.declared.begin.Mounted.{Mounted}
 
 -- the entry of an inode: its node has the inode's number
-abbrev pub entry_kept : NumberedKept → OldEntry
-entry_kept one = old_entry (record { 0 = one.number }) one.number one.kept.inode one.kept.tables one.kept.slots
+abbrev pub entry_mounted : NumberedKept → OldEntry
+entry_mounted one = old_entry (record { 0 = one.number }) one.number one.kept.inode one.kept.tables one.kept.slots
 
 -- the entries of the parts that are in use, ascending
-abbrev pub entries_of : Layout → (ℕ → Part) → List OldEntry
-entries_of layout parts = map entry_kept (kept_in_use layout.inodes parts)
+abbrev pub entries_mounted : Layout → (ℕ → Part) → List OldEntry
+entries_mounted layout parts = map entry_mounted (kept_in_use layout.inodes parts)
 
 -- What is free on a disk whose nodes have these entries: the blocks of the data area that none of them holds, and the inodes of the disk
 -- that none of them has. All others are taken, and nothing is granted.
@@ -46,7 +46,7 @@ making_with nodes layout = record (making_when_read layout) { share = share_of_n
 pub record IsMountOf (nodes : ℕ) (image : List ℕ) (mounted : Mounted) : Type 0 where
   pub layout_is : mounted.layout ≡ layout_of image
   pub tree : tree_of image (share_of_nodes nodes mounted.layout) ≡ Some mounted.tree
-  pub entries : mounted.old.items ≡ entries_of mounted.layout (without_unlinked (parts_of mounted.layout image))
+  pub entries : mounted.old.items ≡ entries_mounted mounted.layout (without_unlinked (parts_of mounted.layout image))
 
 -- What is mounted of any disk: a layout that the disk can have, and a sound tree within its limits. There are parts without fault that show
 -- this tree; the disk has of each node what they have without orphans, and that is what is not free.
@@ -57,5 +57,5 @@ pub record IsSoundMount (nodes size : ℕ) (mounted : Mounted) : Type 0 where
   pub parts : ℕ → Part
   pub faultless : fault_of_parts mounted.layout parts ≡ None
   pub shown : mounted.tree ≡ image_tree (inodes_shown mounted.layout parts) (making_with nodes mounted.layout)
-  pub entries : mounted.old.items ≡ entries_of mounted.layout (without_unlinked parts)
+  pub entries : mounted.old.items ≡ entries_mounted mounted.layout (without_unlinked parts)
   pub space : IsFreeSpace mounted.layout mounted.old.items mounted.space

@@ -2,7 +2,7 @@
 ghost use Rattle.std.specs.Prelude.{◌≡◌, map, IfOk};
 ghost use Rattle.disk_change.specs.Lists.{AscendBy};
 ghost use Rattle.disk_change.specs.Nodes.{entry_node};
-ghost use Rattle.mount.specs.Mounted.{entry_kept};
+ghost use Rattle.mount.specs.Mounted.{entry_mounted};
 
 use disk_change::{OldDisk, OldEntry, OldNode};
 use disk_tree::{KeptPart, PartList};
@@ -11,8 +11,8 @@ use std::alloc::Global;
 
 /// The entries of these parts, which ascend by inode: each node has the number of its inode.
 pub fn entries_of(alloc: Global, parts: PartList) -> Result<OldDisk, NoMemory>
-    requires { AscendBy entry_node (map entry_kept parts.items) }
-    ensures { IfOk result (λ old. old.items ≡ map entry_kept parts.items) }
+    requires { AscendBy entry_node (map entry_mounted parts.items) }
+    ensures { IfOk result (λ old. old.items ≡ map entry_mounted parts.items) }
 {
     let mut entries = Vec::new(alloc);
     for part in parts.into_vec() {
@@ -23,7 +23,7 @@ pub fn entries_of(alloc: Global, parts: PartList) -> Result<OldDisk, NoMemory>
 
 // The entry of a part.
 fn entry_of(part: KeptPart) -> OldEntry
-    ensures { result ≡ entry_kept part }
+    ensures { result ≡ entry_mounted part }
 {
     let KeptPart {
         inode,

@@ -14,15 +14,16 @@ use Rattle.disk_tree.specs.KeptParts.{NumberedKept}
 use Rattle.recovery.specs.Freed.{without_unlinked}
 use Rattle.recovery.specs.Recovered.{IsSoundReport}
 use Rattle.recovery.specs.declared.whole.Report.{Report}
-use Rattle.mount.specs.Mounted.{entry_kept, share_of_nodes}
+use Rattle.mount.specs.Mounted.{entry_mounted, share_of_nodes}
 use Rattle.mount.proofs.EntriesAscend.{entries_ascend}
-use Rattle.mount.proofs.Shared.{sound_shared, limits_shared, shared_tree_of, none_made}
+use Rattle.mount.proofs.Shared.{sound_shared, limits_shared, shared_tree_of}
+use Rattle.sfs_base.proofs.BasicLists.{zeros_read}
 use Rattle.mount.proofs.begin.mount.Goals as goal
 
 pub entries_of-requires : goal.entries_of-requires
 entries_of-requires g c =
     let sound = c.in_ok-layout.ensures.sound in
-    subst (λ (kept : List NumberedKept). AscendBy entry_node (map entry_kept kept)) (sym sound.kept) (entries_ascend c.in_ok-layout.field-0.layout.inodes (without_unlinked sound.parts))
+    subst (λ (kept : List NumberedKept). AscendBy entry_node (map entry_mounted kept)) (sym sound.kept) (entries_ascend c.in_ok-layout.field-0.layout.inodes (without_unlinked sound.parts))
 
 pub returns-clause-ok : goal.returns-clause-ok
 returns-clause-ok g c image told =
@@ -32,7 +33,7 @@ returns-clause-ok g c image told =
     record {
       layout_is = own.layout_is;
       tree = shared_tree_of image (share_of_nodes c.args.nodes report.layout) report.tree own.tree ∙ ap Some (sym shared);
-      entries = c.in_ok-old.ensures ∙ ap (map entry_kept) own.kept;
+      entries = c.in_ok-old.ensures ∙ ap (map entry_mounted) own.kept;
     }
 
 pub returns-clause-sound : goal.returns-clause-sound
@@ -48,7 +49,7 @@ returns-clause-sound g c =
       parts = own.parts;
       faultless = own.faultless;
       shown = shared ∙ ap (λ (tree : TreeState). record tree { share = share }) own.shown;
-      entries = c.in_ok-old.ensures ∙ ap (map entry_kept) own.kept;
+      entries = c.in_ok-old.ensures ∙ ap (map entry_mounted) own.kept;
       space = c.in_ok-space.ensures;
     }
 
@@ -56,7 +57,7 @@ pub allow-requires-clause-unmade : goal.allow-requires-clause-unmade
 allow-requires-clause-unmade g c core =
     let report = c.in_ok-layout.field-0 in
     let own = c.in_ok-layout.ensures.sound in
-    ap (λ (tree : TreeState). slice_index tree.made core) own.shown ∙ none_made report.layout.cores core
+    ap (λ (tree : TreeState). slice_index tree.made core) own.shown ∙ zeros_read report.layout.cores core
 
 pub allow-requires-clause-shares : goal.allow-requires-clause-shares
 allow-requires-clause-shares g c =
