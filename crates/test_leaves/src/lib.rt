@@ -25,6 +25,8 @@ mod journal;
 #[cfg(test)]
 mod making;
 #[cfg(test)]
+mod mounting;
+#[cfg(test)]
 mod names;
 #[cfg(test)]
 mod reading;

@@ -43,7 +43,7 @@ fn recovered(rt: &impl Abort, alloc: Global, disk: &mut Memory) -> Report
 }
 
 // The disk with open slots, on which nothing is pending.
-fn with_open_slots(rt: &impl Abort, alloc: Global) -> Result<Memory, Fail> {
+pub(crate) fn with_open_slots(rt: &impl Abort, alloc: Global) -> Result<Memory, Fail> {
     let mut disk = made(rt, alloc, 64)?;
     edit(rt, &mut disk, &OPEN_SLOTS);
     edit(rt, &mut disk, &[(53_760, &[1])]);

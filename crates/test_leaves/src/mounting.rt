@@ -1,0 +1,70 @@
+// Mounting a disk of 1,024 blocks with 64 inodes and 2 cores, with two open slots and an orphan. Its data area begins at block 29, of
+// which the root holds the first block.
+use crate::recovering::with_open_slots;
+use mount::{Mounted, mount};
+use sfs_base::{CoreId, Kind, Name, NodeId, SpaceKind};
+use sfs_tree::{Call, Reply};
+use space_map::{Need, SpaceFault};
+use std::alloc::Global;
+use std::process::Abort;
+use std::test::Fail;
+
+// What is mounted with 4,096 new nodes.
+fn mounted(rt: &impl Abort, alloc: Global) -> Result<Mounted, Fail> {
+    let mut disk = with_open_slots(rt, alloc)?;
+    match mount(alloc, &mut disk, 4096) {
+        Ok(mounted) => Ok(mounted),
+        Err(fault) => panic!(rt; "{fault:?}"),
+    }
+}
+
+// Asserts that of so much so little is free.
+fn assert_free(
+    rt: &impl Abort,
+    mounted: &mut Mounted,
+    need: Need,
+    kind: SpaceKind,
+    wanted: u32,
+    due: u32,
+) {
+    match mounted.space.reserve(need) {
+        Err(
+            SpaceFault::NoSpace {
+                kind: of,
+                need,
+                free,
+            },
+        ) => {
+            assert_eq!(rt; of, kind);
+            assert_eq!(rt; (need, free), (wanted, due));
+        }
+        _ => panic!(rt; "granted"),
+    }
+}
+
+#[test]
+fn what_no_node_has_is_free(rt: HostRuntime) -> Result<(), Fail> {
+    let mut mounted = mounted(&rt, rt.alloc())?;
+    let inodes = Need {
+        inodes: 64,
+        blocks: 0,
+    };
+    assert_free(&rt, &mut mounted, inodes, SpaceKind::Inodes, 64, 62);
+    let blocks = Need {
+        inodes: 62,
+        blocks: 995,
+    };
+    assert_free(&rt, &mut mounted, blocks, SpaceKind::Blocks, 995, 994);
+    Ok(())
+}
+
+#[test]
+fn the_disk_has_the_root_and_its_child(rt: HostRuntime) -> Result<(), Fail> {
+    let mounted = mounted(&rt, rt.alloc())?;
+    let kinds = [0u32, 1, 2].map(|node| match mounted.old.find(NodeId(node)) {
+        Some(entry) => entry.old.meta.kind,
+        None => 0,
+    });
+    assert_eq!(rt; kinds, [2u8, 2, 0]);
+    Ok(())
+}
