@@ -18,6 +18,7 @@ use Rattle.sfs_image.specs.SlotBlock.{slots_of}
 use Rattle.sfs_image.specs.Super.{Layout}
 use Rattle.sfs_image.proofs.JustMadeLaws.{just_made_shows, has_none}
 use Rattle.sfs_tree.specs.Build.{root_alone}
+use Rattle.sfs_tree.specs.Laws.{IsSoundTree}
 use Rattle.sfs_tree.specs.Order.{Key, key_cmp}
 use Rattle.sfs_tree.specs.Tree.{BUCKET_ROWS, Node, TreeState, bucket_rows, count_of, holds_directory, name_row, kind_of, bytes_of, links_of, is_directory, is_directory_kind}
 use Rattle.sfs_tree.proofs.Names.{entries-names_where}
@@ -82,15 +83,15 @@ module _ (layout : Layout) (image : List ℕ) (is : IsJustMade layout image) (sh
   root_kind : kind_of tree 0 ≡ Directory
   root_kind = ap (λ (o : Option Node). option_map_or (λ n. n.kind) o File) root_there
 
+  abbrev root_sound : IsSoundTree tree
+  root_sound = root_alone_is_sound layout.inodes share layout.cores (let l = is.fits.ranges.inodes_low in omega (arith, l))
+
   no_rows : entries tree.rows ≡ []
   no_rows = nil_from_length (entries tree.rows) (sym (len-entries tree.rows) ∙ len-empty key_cmp ℕ)
 
-  is_root_directory : is_directory tree 0 ≡ true
-  is_root_directory = ap (λ (o : Option Node). option_map_or (λ n. is_directory_kind n.kind) o false) root_there
-
   root_links : 2 ≡ links_of tree 0
   root_links =
-      sym (ap (λ b. cond b (2 + count_by (holds_directory tree 0) (entries tree.rows)) (count_of tree.rows 0)) is_root_directory
+      sym (ap (λ b. cond b (2 + count_by (holds_directory tree 0) (entries tree.rows)) (count_of tree.rows 0)) root_sound.sound.root
       ∙ ap (λ (rows : List (Key × ℕ)). 2 + count_by (holds_directory tree 0) rows) no_rows)
 
   few_rows : (directory number : ℕ) → len (bucket_rows directory number tree.rows) ≤ BUCKET_ROWS
@@ -112,7 +113,7 @@ module _ (layout : Layout) (image : List ℕ) (is : IsJustMade layout image) (sh
 
   stands : StandsForSoundTree root_numbered tree (inodes_shown layout (parts_of layout image))
   stands = record {
-    sound = (root_alone_is_sound layout.inodes share layout.cores (let l = is.fits.ranges.inodes_low in omega (arith, l))).sound;
+    sound = root_sound.sound;
     storable = record {
       placed = λ node i has directory. subst (IsMet tree) (sym (only_root node i has).0) met_root;
       limits = record { buckets = few_rows; plain = λ node directory. no_bytes node };
