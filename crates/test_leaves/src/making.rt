@@ -167,8 +167,8 @@ fn blank(alloc: Global) -> Result<Memory, Fail> {
 // Makes edits.
 pub(crate) fn edit(rt: &impl Abort, disk: &mut Memory, edits: &[Edit]) {
     for (at, bytes) in edits {
-        assert!(rt; disk.len() == 1024 && *at <= 4_190_208);
-        assert!(rt; !bytes.is_empty() && bytes.len() <= 512);
+        assert!(rt; *at <= 4_190_208 && !bytes.is_empty() && bytes.len() <= 512);
+        assert!(rt; *at + bytes.len() as u64 <= 4096 * u64::from(disk.len()));
         assert!(rt; disk.write_at(*at, bytes).is_ok());
     }
 }

@@ -1,5 +1,5 @@
-// Mounting a disk of 1,024 blocks with 64 inodes and 2 cores, with two open slots and an orphan. Its data area begins at block 29, of
-// which the root holds the first block.
+// Mounting a disk of 40 blocks with 64 inodes and 2 cores, with two open slots and an orphan. Its data area has the 11 blocks from 29 on,
+// and the root holds the first of them.
 use crate::recovering::with_open_slots;
 use mount::{Mounted, mount};
 use sfs_base::{CoreId, Kind, Name, NodeId, SpaceKind};
@@ -52,9 +52,9 @@ fn what_no_node_has_is_free(rt: HostRuntime) -> Result<(), Fail> {
     assert_free(&rt, &mut mounted, inodes, SpaceKind::Inodes, 64, 62);
     let blocks = Need {
         inodes: 62,
-        blocks: 995,
+        blocks: 11,
     };
-    assert_free(&rt, &mut mounted, blocks, SpaceKind::Blocks, 995, 994);
+    assert_free(&rt, &mut mounted, blocks, SpaceKind::Blocks, 11, 10);
     Ok(())
 }
 

@@ -1,9 +1,9 @@
-// Recovering a disk of 1,024 blocks with 64 inodes and 2 cores, with two open slots and an orphan.
+// Recovering a disk of 40 blocks with 64 inodes and 2 cores, with two open slots and an orphan. Its data area begins at block 29.
 ghost use Rattle.std.specs.Prelude.{IfOk};
 ghost use Rattle.sfs_tree.specs.Laws.{IsSoundTree};
 
-use crate::making::{Edit, assert_only_read, edit};
-use crate::reading::made;
+use crate::making::{Edit, assert_only_read, edit, made_over};
+use fmt_super::Layout;
 use recovery::{RecoverFault, Report, recover};
 use sfs_base::{Kind, NodeId};
 use sfs_dev::{Disk, Memory};
@@ -32,6 +32,13 @@ const OPEN_SLOTS: [Edit; 12] = [
     (53_248, &[1, 0, 0, 0, 1]),
 ];
 
+const LAYOUT: Layout = Layout {
+    blocks: 40,
+    inodes: 64,
+    cores: 2,
+    slots: 1,
+};
+
 // What a recovery reports.
 fn recovered(rt: &impl Abort, alloc: Global, disk: &mut Memory) -> Report
     ensures { IsSoundTree result.tree }
@@ -44,7 +51,7 @@ fn recovered(rt: &impl Abort, alloc: Global, disk: &mut Memory) -> Report
 
 // The disk with open slots, on which nothing is pending.
 pub(crate) fn with_open_slots(rt: &impl Abort, alloc: Global) -> Result<Memory, Fail> {
-    let mut disk = made(rt, alloc, 64)?;
+    let mut disk = made_over(rt, alloc, &LAYOUT, 0)?;
     edit(rt, &mut disk, &OPEN_SLOTS);
     edit(rt, &mut disk, &[(53_760, &[1])]);
     assert!(rt; disk.sync().is_ok());
@@ -70,7 +77,7 @@ fn what_open_slots_have_comes_home(rt: HostRuntime) -> Result<(), Fail> {
     assert_eq!(rt; (first.closed, first.freed), (2, 1));
     assert_one_directory(&rt, &first);
     let bytes = disk.bytes();
-    assert_eq!(rt; bytes.len(), 4_194_304);
+    assert_eq!(rt; bytes.len(), 163_840);
     assert_eq!(rt; (bytes[4_096], bytes[45_056]), (0, 0));
     // The newest record of inode 1, and a free inode 2.
     assert_eq!(rt; (bytes[86_528], bytes[86_532], bytes[87_040]), (2, 2, 0));
