@@ -1,5 +1,6 @@
 pub mod Closed
 pub mod Ends
+pub mod Enough
 pub mod Growing
 pub mod Looked
 pub mod Parts

@@ -1,6 +1,6 @@
 -- What the logs of a legal history have is so in it.
 use Rattle.std.proofs.Common.{◌≡◌, ◌≢◌, ℕ, zero, suc, ◌+◌, ◌≤◌, Bool, true, false, cond, List, [], ◌∷◌, ◌++◌, take, map, filter, Option, Some, None, ◌⊎◌, inl, inr, refl, sym, ap, ◌∙◌, subst, arith, nat_eq}
-use Rattle.std.specs.Prelude.{◌&&◌, is_some, option_map}
+use Rattle.std.specs.Prelude.{◌&&◌, is_some}
 use Rattle.std.specs.FinMap.{len}
 use borrow.Author.Tests.{eqb-true, eq-eqb}
 use Rattle.std.proofs.lemmas.List.{append-nil}
@@ -16,7 +16,7 @@ use Rattle.sfs_tree.specs.Tree.{TreeState, is_directory, is_alive, is_directory_
 use Rattle.sfs_tree.specs.Effect.{Effect, Stays, Adds, Removes, Moves, Edits}
 use Rattle.sfs_tree.specs.Fits.{Fits}
 use Rattle.sfs_tree.specs.Sound.{Above, IsSound}
-use Rattle.sfs_tree.specs.Changes.{changes_by}
+use Rattle.sfs_tree.specs.Changes.{RowChange, changes_by}
 use Rattle.sfs_tree.specs.Logged.{is_addition, is_end_of, is_logged_in, logged_by, logged_replaced, erased, erased_entry, above_due}
 use Rattle.sfs_tree.specs.NameRow.{number_of}
 use Rattle.sfs_tree.specs.Verdict.{verdict}
@@ -30,7 +30,7 @@ use Rattle.sfs_tree.proofs.SoundTrees.{calls_keep_sound}
 use Rattle.sfs_tree.proofs.Walks.{walk_is}
 use Rattle.flush_core.specs.Closure.{Counts}
 use Rattle.flush_core.specs.Rules.{IsOneOf, IsChange, IsMove}
-use Rattle.flush_core.proofs.Along.{tree_at, core_at, effect_at, makes_at, tree_at-after, sound_at, fits_at, change_in}
+use Rattle.flush_core.proofs.Along.{tree_at, core_at, effect_at, makes_at, tree_at-after, sound_at, fits_at, change_in, change_of}
 use Rattle.flush_core.proofs.Basics.{in_either, filter_all, filter_none}
 use Rattle.flush_core.proofs.Listed.{from_map, to_map}
 use Rattle.flush_core.proofs.RunFacts.{in_filter}
@@ -45,7 +45,7 @@ use Rattle.dep_closure.proofs.Looked.{from_flat, to_filter}
 use Rattle.dep_closure.proofs.Parts.{pass_both}
 
 -- what the entry at a place of a history logs, where its stamp is this
-abbrev logged_at : TreeState → List Entry → ℕ → ℕ → List Change
+abbrev pub logged_at : TreeState → List Entry → ℕ → ℕ → List Change
 logged_at first history stamp t = logged_by (tree_at first history t) (core_at first history t) stamp (effect_at first history t) (makes_at first history t)
 
 -- what an entry logs has its stamp
@@ -264,22 +264,52 @@ log_stamped first history counts log is stamp legal kept =
     and_turned false true = refl
     and_turned false false = refl
 
-log_is_true : (first : TreeState) (history : List Entry) (counts : Counts) (log : DirectoryChanges) → IsSoundTree first → IsLegal first history → IsLogOf first history counts log → (change : Change) → IsOneOf log.changes.items change → IsTrue first history counts (noted_as log.changes.items change)
-log_is_true first history counts log sound legal is change one =
+-- of a log's change: its stamp counts, the history logs it, and by the log it is noted as by its entry
+pub record StandsInHistory (first : TreeState) (history : List Entry) (counts : Counts) (log : DirectoryChanges) (change : Change) : Type 0 where
+  pub counted : counts change.stamp.0 ≡ true
+  pub logged : IsOneOf (logged_of first history) change
+  pub noted : noted_as log.changes.items change ≡ record { change = erased (logged_at first history change.stamp.0 change.stamp.0) change; above = change.above }
+
+pub stands_in_history : (first : TreeState) (history : List Entry) (counts : Counts) (log : DirectoryChanges) → IsLegal first history → IsLogOf first history counts log → (change : Change) → IsOneOf log.changes.items change → StandsInHistory first history counts log change
+stands_in_history first history counts log legal is change one =
     let kept = in_filter (λ c. is.keeps c.stamp.0) (filter (is_logged_in log.dir.0) (logged_of first history)) change (subst (λ l. IsOneOf l change) is.changes one) in
     let own = in_filter (is_logged_in log.dir.0) (logged_of first history) change kept.0 in
     let directory : change.dir.0 ≡ log.dir.0 = eqb-true change.dir.0 log.dir.0 own.1 in
     let entry = logged_at first history change.stamp.0 change.stamp.0 in
     let at_stamp = log_stamped first history counts log is change.stamp.0 legal kept.1 in
-    let same : filter (is_logged_in change.dir.0) entry ≡ filter (is_logged_in change.dir.0) (filter (is_of_stamp change.stamp.0) log.changes.items) =
-    sym (pass_both (is_logged_in change.dir.0) (is_logged_in change.dir.0) (is_logged_in change.dir.0) (λ c. and_itself (is_logged_in change.dir.0 c)) entry)
-    ∙ ap (filter (is_logged_in change.dir.0)) (ap (λ d. filter (is_logged_in d) entry) directory ∙ sym at_stamp) in
-    subst (λ (l : List Change). IsTrue first history counts (record { change = record { stamp = change.stamp.0; directory = change.dir.0; name = change.name; child = change.child.0; places = is_addition change.act; other = option_map (λ (node : NodeId). node.0) change.other; ends = is_end_of l change }; above = change.above })) same
-    (one_is_true first history counts sound legal change (is.counted change.stamp.0 kept.1) (logged_once first history change legal own.0))
+    let same : filter (is_logged_in change.dir.0) (filter (is_of_stamp change.stamp.0) log.changes.items) ≡ filter (is_logged_in change.dir.0) entry =
+        ap (filter (is_logged_in change.dir.0)) (at_stamp ∙ ap (λ d. filter (is_logged_in d) entry) (sym directory))
+        ∙ pass_both (is_logged_in change.dir.0) (is_logged_in change.dir.0) (is_logged_in change.dir.0) (λ c. and_itself (is_logged_in change.dir.0 c)) entry in
+    record {
+      counted = is.counted change.stamp.0 kept.1;
+      logged = own.0;
+      noted = λ i. record {
+        change = record { stamp = change.stamp.0; directory = change.dir.0; name = change.name; child = change.child.0; places = is_addition change.act; other = number_of change.other; ends = is_end_of (same i) change };
+        above = change.above;
+      };
+    }
   where
     and_itself : (b : Bool) → b ≡ (b && b)
     and_itself true = refl
     and_itself false = refl
+
+log_is_true : (first : TreeState) (history : List Entry) (counts : Counts) (log : DirectoryChanges) → IsSoundTree first → IsLegal first history → IsLogOf first history counts log → (change : Change) → IsOneOf log.changes.items change → IsTrue first history counts (noted_as log.changes.items change)
+log_is_true first history counts log sound legal is change one =
+    let stands = stands_in_history first history counts log legal is change one in
+    subst (IsTrue first history counts) (sym stands.noted) (one_is_true first history counts sound legal change stands.counted (logged_once first history change legal stands.logged))
+
+-- each change of rows in a history is what a logged one erases to
+pub logged_row : (first : TreeState) (history : List Entry) (row : RowChange) → IsSoundTree first → IsLegal first history → IsChange first history row
+    → (change : Change) × IsOneOf (logged_of first history) change × (erased (logged_at first history change.stamp.0 change.stamp.0) change ≡ row)
+logged_row first history row sound legal is =
+    let entry = logged_at first history row.stamp row.stamp in
+    let here = subst (λ l. IsOneOf l row) (sym (erased_at first history row.stamp sound legal)) (change_of first history row legal is) in
+    let logged = from_map (erased entry) entry row here in
+    let stamped = logged_stamp (tree_at first history row.stamp) (core_at first history row.stamp) row.stamp (effect_at first history row.stamp) (makes_at first history row.stamp) logged.0 logged.1 in (
+      logged.0,
+      (in_filter (is_of_stamp row.stamp) (logged_of first history) logged.0 (subst (λ l. IsOneOf l logged.0) (sym (logged_stamped first history row.stamp legal)) logged.1)).0,
+      ap (λ n. erased (logged_at first history n n) logged.0) stamped ∙ logged.2,
+    )
 
 pub logs_are_true : LogsAreTrue
 logs_are_true first history counts gathered start below sound legal logs noted one =

@@ -15,7 +15,7 @@ use Rattle.flush_ties.specs.Fit.{IsTrue, KnowsEnough}
 use Rattle.dep_closure.specs.declared.gathered.DirectoryChanges.{DirectoryChanges}
 use Rattle.dep_closure.specs.declared.gathered.Gathered.{Gathered}
 use Rattle.dep_closure.specs.Gathered.{look_of}
-use Rattle.dep_closure.specs.History.{IsLogOf}
+use Rattle.dep_closure.specs.History.{IsLogOf, HasUnflushed}
 
 -- What was gathered of a legal history is so in it: where each log has what the history logs at stamps that count, each gathered change
 -- is one of the history, with the directories above its own recorded exactly where it places a directory by a rename between two.
@@ -23,6 +23,11 @@ abbrev pub LogsAreTrue : Type 0
 LogsAreTrue = (first : TreeState) (history : List Entry) (counts : Counts) (gathered : Gathered) (start : NodeId) (below : Stamp) → IsSoundTree first → IsLegal first history
     → ((log : DirectoryChanges) → IsOneOf gathered.logs.items log → IsLogOf first history counts log)
     → (noted : Noted) → IsOneOf (look_of start below gathered).noted noted → IsTrue first history counts noted
+
+-- What has all of a legal history that counts and is not flushed is enough of it.
+abbrev pub UnflushedIsEnough : Type 0
+UnflushedIsEnough = (first : TreeState) (history : List Entry) (counts : Counts) (cut : Cut) (inodes : ℕ → Bool) (gathered : Gathered) (start : NodeId) (below : Stamp) → IsSoundTree first → IsLegal first history
+    → HasUnflushed first history counts cut inodes gathered → KnowsEnough first history counts cut inodes (look_of start below gathered)
 
 -- Where what was gathered is enough of a history, a list of what it gathers is the closure of the fsync in that history.
 abbrev pub ListsAreClosures : Type 0

@@ -35,7 +35,7 @@ pub(crate) enum Asked {
 #[derive(Drop)]
 pub(crate) struct Trial {
     alloc: Global,
-    tree: Tree,
+    pub(crate) tree: Tree,
 }
 
 impl Model for Trial {

@@ -1,5 +1,5 @@
 // The machine of calls and commits: a run of three commits, and each reason to refuse an event.
-ghost use Rattle.std.specs.Prelude.{◌≡◌, length, IfOk};
+ghost use Rattle.std.specs.Prelude.{◌≡◌, ◌≤◌, length, IfOk};
 ghost use Rattle.flush_core.specs.Machine.{MachineState, MayBeTold};
 
 use crate::calls::{Asked, call_of};
@@ -52,12 +52,12 @@ enum Due {
     AlreadyOpened(u64),
 }
 
-// A run from the root alone, with two cores and 3 for the first new node; core 1 begins with 11. Contracts
-// see the number of its cores alone, so that tests stay cheap to prove.
+// A run from the root alone, with two cores. Contracts see the number of its cores alone, so that tests stay
+// cheap to prove.
 #[derive(Drop)]
-struct Run {
+pub(crate) struct Run {
     alloc: Global,
-    state: State,
+    pub(crate) state: State,
 }
 
 impl Model for Run {
@@ -70,8 +70,18 @@ impl Model for Run {
     ghost invariant = { λ run. length run.state.first.made ≡ 2 };
 }
 
+// A run whose first new node is 3; core 1 begins with 11.
 fn begun(alloc: Global) -> Result<Run, Fail> {
-    let tree = Tree::empty(alloc, 3, 8, 2)?;
+    begun_at(alloc, 3, 8)
+}
+
+// A run whose first new node has this number, with this share for each core.
+pub(crate) fn begun_at(alloc: Global, first: u32, share: u32) -> Result<Run, Fail>
+    requires first { 1 ≤ first }
+    requires low { first ≤ 16384 }
+    requires shares { share ≤ 32768 }
+{
+    let tree = Tree::empty(alloc, first, share, 2)?;
     let state = State::new(alloc, tree);
     Ok(Run { alloc, state })
 }
@@ -174,7 +184,7 @@ fn is_refused(refused: &Refused, due: &Due) -> bool {
 
 impl Run {
     // Tells an event.
-    fn step(&mut self, event: &Event) -> Result<(), Refused>
+    pub(crate) fn step(&mut self, event: &Event) -> Result<(), Refused>
         requires { (state : MachineState) → length state.first.made ≡ 2 → MayBeTold state event.now }
     {
         self.state.step(event)

@@ -21,13 +21,13 @@ const CUTS: u64 = 20;
 
 // Numbers that look like random ones and are the same each time.
 #[derive(Drop)]
-struct Draw {
-    state: u64,
+pub(crate) struct Draw {
+    pub(crate) state: u64,
 }
 
 impl Draw {
     // A number up to this one.
-    fn up_to(&mut self, most: u64) -> u64 {
+    pub(crate) fn up_to(&mut self, most: u64) -> u64 {
         self.state = self
             .state
             .wrapping_mul(6_364_136_223_846_793_005)
@@ -40,7 +40,7 @@ impl Draw {
     }
 
     // One of some rows, or none of them: a row that names the root.
-    fn row(&mut self, rows: &[Row]) -> Row {
+    pub(crate) fn row(&mut self, rows: &[Row]) -> Row {
         let place = self.up_to(rows.len() as u64) as usize;
         rows.get(place).copied().unwrap_or(Row {
             directory: 0,
@@ -50,7 +50,7 @@ impl Draw {
     }
 
     // A call in a tree with these rows.
-    fn call(&mut self, alloc: Global, rows: &[Row]) -> Result<Call, Fail>
+    pub(crate) fn call(&mut self, alloc: Global, rows: &[Row]) -> Result<Call, Fail>
         ensures { IfOk result (λ call. IsReadable call) }
     {
         let row = self.row(rows);

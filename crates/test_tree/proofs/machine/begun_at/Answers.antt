@@ -1,7 +1,7 @@
 use Rattle.std.proofs.Common.{sym, subst, arith}
 use Rattle.sfs_tree.specs.Sound.{IsSound}
 use Rattle.sfs_tree.proofs.SoundTrees.{root_alone_is_sound}
-use Rattle.test_tree.proofs.machine.begun.Goals as goal
+use Rattle.test_tree.proofs.machine.begun_at.Goals as goal
 
 pub new-state-requires : goal.new-state-requires
-new-state-requires c = subst IsSound (sym c.in_ok-tree.ensures.ok) (root_alone_is_sound 3 8 2 (omega arith)).sound
+new-state-requires c = subst IsSound (sym c.in_ok-tree.ensures.ok) (root_alone_is_sound c.args.first c.args.share 2 c.requires.first).sound
