@@ -3,6 +3,7 @@ pub mod BegunShown
 pub mod CommitMade
 pub mod CommitOfPlan
 pub mod Counting
+pub mod FilesMade
 pub mod GrantWritten
 pub mod Granted
 pub mod JoinedSlots

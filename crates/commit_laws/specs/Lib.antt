@@ -1,6 +1,7 @@
 pub mod CommitMade
 pub mod CommitOfPlan
 pub mod Counting
+pub mod FilesMade
 pub mod Granted
 pub mod KeptShown
 pub mod KnownKinds

@@ -2,6 +2,7 @@
 ghost use Rattle.commit_laws.specs.CommitMade.{ChangesMakeCommits};
 ghost use Rattle.commit_laws.specs.CommitOfPlan.{PlansMakeCommits, PlansLeaveTrees};
 ghost use Rattle.commit_laws.specs.Counting.{NetsCountLinks};
+ghost use Rattle.commit_laws.specs.FilesMade.{PlansMakeFiles};
 ghost use Rattle.commit_laws.specs.Granted.{FreshBlocksAreGranted, InodesAreGrantedOrOld, GrantedBlocksAreWritten};
 ghost use Rattle.commit_laws.specs.KeptShown.{KeptPartsShow};
 ghost use Rattle.commit_laws.specs.NumbersGiven.{GivenNumbersAreThose};
@@ -121,4 +122,9 @@ pub fn plans_make_parts()
 /// No two fresh blocks are one, and none is one that a part points to.
 pub fn plans_write_apart()
     ensures { PlansWriteApart }
+{}
+
+/// The part of a file after a commit has the new bytes, and shows what the next image shows.
+pub fn plans_make_files()
+    ensures { PlansMakeFiles }
 {}
