@@ -60,6 +60,7 @@ use Rattle.commit_laws.specs.Rewritten.{bytes_in_block, has_page}
 use Rattle.commit_laws.specs.SlotsKept.{slots_joined}
 use Rattle.commit_laws.proofs.AllWritten.{IsCutFor, cut_of, data_given, written_data}
 use Rattle.commit_laws.proofs.BegunShown.{IsSeatOf, made}
+use Rattle.commit_laws.proofs.BlocksRead.{seat_node, node_is, content_is, block_is, old_read, zero_read, data_read}
 use Rattle.commit_laws.proofs.GrantWritten.{each_ascends, each_once, held_is_old, found_once, grant_for}
 use Rattle.commit_laws.proofs.KnownDirectories.{given_is_in}
 use Rattle.commit_laws.proofs.NumbersGiven.{kept_in}
@@ -139,14 +140,14 @@ module _ (num : Numbering) (concerned : List ℕ) (old new : TreeState) (image :
   abbrev pages : List Page
   pages = pages_of_node plan.files node.seat.node
 
-  seat_node : node.seat.node ≡ begun.node
-  seat_node = ap (λ (s : Seated). s.node) (sym node.of.begins) ∙ planned_node change.changes begun begun.kind
+  abbrev seat_same : node.seat.node ≡ begun.node
+  seat_same = seat_node num concerned old new image plan grant store parts is one there_one node
 
-  node_is : one.node ≡ begun.node
-  node_is = ap (λ (b : Built). b.node) node.is ∙ seat_node
+  abbrev node_same : one.node ≡ begun.node
+  node_same = node_is num concerned old new image plan grant store parts is one there_one node
 
   kind_old : kind_of old begun.node ≡ File
-  kind_old = sym (node.of.built.leads.nets.between.kinds begun.node) ∙ ap (kind_of new) (sym node_is) ∙ file
+  kind_old = sym (node.of.built.leads.nets.between.kinds begun.node) ∙ ap (kind_of new) (sym node_same) ∙ file
 
   kind_begun : begun.kind ≡ File
   kind_begun = node.of.built.begins.kind ∙ kind_old
@@ -157,53 +158,25 @@ module _ (num : Numbering) (concerned : List ℕ) (old new : TreeState) (image :
   changed_is : (n : ℕ) → change_of node.seat.changed n ≡ option_map page_said (item_with page_block n (pages_of_node plan.files begun.node))
   changed_is n = ap (λ (s : Seated). change_of s.changed n) seat_is_file ∙ change_said (item_with file_node begun.node plan.files) n
 
-  -- the content of a block is read where its pointer points
-  content_is : (n : ℕ) → n < FILE_BLOCKS → slice_index_or after.blocks n [] ≡ read_block over ((next.seen i).blocks n)
-  content_is n low =
-      sym (cond-true (nat_lt n FILE_BLOCKS) _ _ (lt-ltb n FILE_BLOCKS low)) ∙ gathered_is_read over after n (gathered_itself over (inode_bytes one.meta)) (omega arith)
-      ∙ ap (read_block over) (pointer_after_is num concerned old new image plan grant store parts is one there_one node n (omega arith))
-
-  block_is : (n : ℕ) → n < FILE_BLOCKS → (o : Option ChangedBlock) → change_of node.seat.changed n ≡ o
-      → (next.seen i).blocks n ≡ cond (is_some o) (cond (option_map_or (λ (c : ChangedBlock). c.is_zero) o false) 0 (fresh_for (rewrite_in node.seat) own n)) ((rewrite_in node.seat).pointers n)
-  block_is n low o e =
-      sym (pointer_is num concerned old new image plan grant store parts is one there_one node n (omega arith))
-      ∙ (λ j. pointer_kept (meta_is num concerned old new image plan grant store parts is one there_one node j) (tables_are num concerned old new image plan grant store parts is one there_one node j) n)
-      ∙ remapped_pointers_stand node.seat.meta node.seat.tables node.seat.changed own n (omega arith)
-      ∙ cond-true (nat_lt n FILE_BLOCKS) _ _ (lt-ltb n FILE_BLOCKS low)
-      ∙ ap (λ (o : Option ChangedBlock). cond (is_some o) (cond (option_map_or (λ (c : ChangedBlock). c.is_zero) o false) 0 (fresh_for (rewrite_in node.seat) own n)) ((rewrite_in node.seat).pointers n)) e
-
-  -- a block that was there is read as before
-  old_read : (j n : ℕ) → j < image.count → n < FILE_BLOCKS → read_block over (pointer_at (parts j) n) ≡ slice_index_or (parts j).blocks n []
-  old_read j n low_j low =
-      by (cases_Bool (nat_eq (pointer_at (parts j) n) 0))
-      ∙ sym (gathered_is_read store (parts j) n (is.standing.gathered j low_j) (omega arith)) ∙ cond-true (nat_lt n FILE_BLOCKS) _ _ (lt-ltb n FILE_BLOCKS low)
-    where
-      by : (nat_eq (pointer_at (parts j) n) 0 ≡ true) ⊎ (nat_eq (pointer_at (parts j) n) 0 ≡ false) → read_block over (pointer_at (parts j) n) ≡ read_block store (pointer_at (parts j) n)
-      by (inl none) = hole_is_read over (pointer_at (parts j) n) (eqb-true _ 0 none) ∙ sym (hole_is_read store (pointer_at (parts j) n) (eqb-true _ 0 none))
-      by (inr some) =
-          block_behind over (pointer_at (parts j) n) (eqb-false _ 0 some)
-          ∙ over_old num concerned old new image plan grant store parts is one there_one node (pointer_at (parts j) n) (held_is_old num concerned old new image plan grant store parts is j n low_j (omega arith))
-          ∙ sym (block_behind store (pointer_at (parts j) n) (eqb-false _ 0 some))
-
   -- a file that enters had no bytes
   no_bytes_before : num begun.node ≡ None → bytes_of old begun.node ≡ []
   no_bytes_before none = elim (seat_comes num concerned old new image plan grant whole node.seat (there_is_in change.seats node.m node.seat node.at)) [
     | inl (entry, stay, same) ↦
         let there = (kept_in _ plan.old entry stay).0 in
-        let here : begun.node ≡ entry.node.0 = sym seat_node ∙ ap (λ (s : Seated). s.node) (sym same) ∙ planned_node change.changes (begun_old entry) (begun_old entry).kind in
+        let here : begun.node ≡ entry.node.0 = sym seat_same ∙ ap (λ (s : Seated). s.node) (sym same) ∙ planned_node change.changes (begun_old entry) (begun_old entry).kind in
         absurd (none_some (sym none ∙ ap num here ∙ whole.from.numbered.old_numbers entry there))
     | inr (enter, there, same) ↦
-        let here : begun.node ≡ enter.node.0 = sym seat_node ∙ ap (λ (s : Seated). s.node) (sym same) ∙ planned_node change.changes (begun_entering enter) (begun_entering enter).kind in
+        let here : begun.node ≡ enter.node.0 = sym seat_same ∙ ap (λ (s : Seated). s.node) (sym same) ∙ planned_node change.changes (begun_entering enter) (begun_entering enter).kind in
         ap (bytes_of old) here ∙ is.full.sizes.entering enter there
   ]
 
   untouched_block : (n : ℕ) → n < FILE_BLOCKS → item_with page_block n (pages_of_node plan.files begun.node) ≡ None → slice_index_or after.blocks n [] ≡ bytes_in_block n (bytes_of new begun.node)
-  untouched_block n low none = content_is n low ∙ ap (read_block over) stays ∙ by (num begun.node) refl ∙ sym (blocks.untouched begun.node n node.of.among (ap is_some none))
+  untouched_block n low none = content_is num concerned old new image plan grant store parts is one there_one node n low ∙ ap (read_block over) stays ∙ by (num begun.node) refl ∙ sym (blocks.untouched begun.node n node.of.among (ap is_some none))
     where
       stays : (next.seen i).blocks n ≡ (seen_before commit image begun.node).blocks n
       stays =
-          block_is n low None (changed_is n ∙ ap (option_map page_said) none)
-          ∙ (made num concerned old new image plan grant is.full).is.pointers node.m n node.seat node.at (omega arith) ∙ ap (λ x. (seen_before commit image x).blocks n) seat_node
+          block_is num concerned old new image plan grant store parts is one there_one node n low None (changed_is n ∙ ap (option_map page_said) none)
+          ∙ (made num concerned old new image plan grant is.full).is.pointers node.m n node.seat node.at (omega arith) ∙ ap (λ x. (seen_before commit image x).blocks n) seat_same
 
       by : (o : Option ℕ) → num begun.node ≡ o → read_block over ((seen_before commit image begun.node).blocks n) ≡ bytes_in_block n (bytes_of old begun.node)
       by None e =
@@ -211,10 +184,10 @@ module _ (num : Numbering) (concerned : List ℕ) (old new : TreeState) (image :
       by (Some j) e =
           let low_j = whole.stands.within begun.node j e in
           ap (read_block over) (ap (λ (o : Option ℕ). (option_map_or image.seen o blank).blocks n) e ∙ ap (λ (s : Seen). s.blocks n) (is.standing.shown j low_j))
-          ∙ old_read j n low_j low ∙ blocks.before begun.node j node.of.among e kind_old n low
+          ∙ old_read num concerned old new image plan grant store parts is one there_one node j n low_j low ∙ blocks.before begun.node j node.of.among e kind_old n low
 
   touched_block : (n : ℕ) → n < FILE_BLOCKS → (page : Page) → item_with page_block n (pages_of_node plan.files begun.node) ≡ Some page → slice_index_or after.blocks n [] ≡ bytes_in_block n (bytes_of new begun.node)
-  touched_block n low page is_page = content_is n low ∙ by (cases_Bool (page_said page).is_zero) ∙ page_bytes new plan blocks.pages begun.node n page is_page
+  touched_block n low page is_page = content_is num concerned old new image plan grant store parts is one there_one node n low ∙ by (cases_Bool (page_said page).is_zero) ∙ page_bytes new plan blocks.pages begun.node n page is_page
     where
       said : change_of node.seat.changed n ≡ Some (page_said page)
       said = changed_is n ∙ ap (option_map page_said) is_page
@@ -222,51 +195,17 @@ module _ (num : Numbering) (concerned : List ℕ) (old new : TreeState) (image :
       long : length page.bytes ≡ 4096
       long = ap length (page_bytes new plan blocks.pages begun.node n page is_page) ∙ length_block n (bytes_of new begun.node)
 
-      at_n : page.block ≡ n
-      at_n = eqb-true page.block n (found_passes (λ item. nat_eq (page_block item) n) (pages_of_node plan.files begun.node) page is_page)
-
-      up : AscendByBlock node.seat.changed
-      up = each_ascends num concerned old new image plan grant store parts is node.seat (there_is_in change.seats node.m node.seat node.at)
-
-      cut : IsCutFor node.seat own
-      cut = cut_of change.seats grant.blocks node.m node.seat node.at (grant_for num concerned old new image plan grant store parts is)
-
-      in_changed : Contains node.seat.changed (page_said page)
-      in_changed = found_is_in (λ (c : ChangedBlock). nat_eq c.block n) node.seat.changed (page_said page) said
-
-      place : (k : ℕ) × (slice_get node.seat.changed k ≡ Some (page_said page))
-      place = in_is_there node.seat.changed (page_said page) in_changed
-
-      made_of : Built
-      made_of = built numbers net number own node.seat
-
-      tx : TxBlock
-      tx = written_data numbers net number own node.seat pages up cut.enough cut.some (page_said page)
-
       by : ((page_said page).is_zero ≡ true) ⊎ ((page_said page).is_zero ≡ false) → read_block over ((next.seen i).blocks n) ≡ page.bytes
-      by (inl empty) =
-          hole_is_read over _ (block_is n low (Some (page_said page)) said ∙ ap (λ b. cond b 0 (fresh_for (rewrite_in node.seat) own n)) empty) ∙ zero_block page.bytes long empty
-      by (inr full) =
-          let given = data_given numbers net number own node.seat pages up cut.enough cut.some place.0 (page_said page) place.1 full (subst (λ m. m < FILE_BLOCKS) (sym at_n) low) in
-          let in_node : Contains (fresh_of_node plan.files made_of) tx =
-          Contains-append_left (filter_map (data_written made_of pages) node.seat.changed) (filter_map (table_of_place made_of) (range_with_len 0 16)) tx (given_is_in (data_written made_of pages) node.seat.changed (page_said page) tx in_changed given.1) in
-          let in_fresh : Contains fresh (block_of tx) =
-          in_mapped block_of (fresh_of_commit change grant) tx (in_flat (fresh_of_node plan.files) (nodes_with_grant change grant) one tx there_one (subst (λ (b : Built). Contains (fresh_of_node plan.files b) tx) (sym node.is) in_node)) in
-          let pointer : (next.seen i).blocks n ≡ tx.block =
-          sym (pointer_is num concerned old new image plan grant store parts is one there_one node n (omega arith))
-          ∙ (λ j. pointer_kept (meta_is num concerned old new image plan grant store parts is one there_one node j) (tables_are num concerned old new image plan grant store parts is one there_one node j) (sym at_n j)) in
-          ap (read_block over) pointer ∙ block_behind over tx.block given.0
-          ∙ over_fresh num concerned old new image plan grant store parts is one there_one node (block_of tx) tx.block
-          (found_once (λ (other : FreshBlock). other.block) fresh (each_once num concerned old new image plan grant store parts is) (block_of tx) in_fresh)
-          ∙ content
+      by (inl empty) = zero_read num concerned old new image plan grant store parts is one there_one node n low (page_said page) said empty ∙ zero_block page.bytes long empty
+      by (inr full) = data_read num concerned old new image plan grant store parts is one there_one node n low (page_said page) said full ∙ content
         where
-          kind_file : made_of.meta.kind ≡ 1
+          kind_file : (built numbers net number own node.seat).meta.kind ≡ 1
           kind_file = ap (λ (s : Seated). s.meta.kind) seat_is_file
 
-          content : content_of made_of pages page.block ≡ page.bytes
+          content : content_of (built numbers net number own node.seat) pages n ≡ page.bytes
           content =
-              cond-false (nat_eq made_of.meta.kind 2) _ _ (ap (λ k. nat_eq k 2) kind_file)
-              ∙ ap (λ (o : Option Page). option_map_or (λ p. p.bytes) o zero_bytes) ((λ j. item_with page_block (at_n j) (pages_of_node plan.files (seat_node j))) ∙ is_page)
+              cond-false (nat_eq (built numbers net number own node.seat).meta.kind 2) _ _ (ap (λ k. nat_eq k 2) kind_file)
+              ∙ ap (λ (o : Option Page). option_map_or (λ p. p.bytes) o zero_bytes) (ap (λ x. item_with page_block n (pages_of_node plan.files x)) seat_same ∙ is_page)
 
   pub file_blocks : HasBytesInBlocks after (bytes_of new begun.node)
   file_blocks n low = by (item_with page_block n (pages_of_node plan.files begun.node)) refl
@@ -285,7 +224,7 @@ module _ (num : Numbering) (concerned : List ℕ) (old new : TreeState) (image :
   inode_same = (part_is_made num concerned old new image plan grant store parts is one there_one node).inode
 
   kind_next : (next.seen i).kind ≡ kind_byte File
-  kind_next = (shows_node num concerned old new image plan grant store parts is one there_one node).kind ∙ ap kind_byte (ap (kind_of new) (sym node_is) ∙ file)
+  kind_next = (shows_node num concerned old new image plan grant store parts is one there_one node).kind ∙ ap kind_byte (ap (kind_of new) (sym node_same) ∙ file)
 
   kind_after : (inode_in after).kind ≡ kind_byte File
   kind_after = ap (λ (m : Inode). m.kind) inode_same ∙ node.shows.kind ∙ ap (λ (s : Seen). s.kind) next_is ∙ kind_next
@@ -298,7 +237,7 @@ module _ (num : Numbering) (concerned : List ℕ) (old new : TreeState) (image :
 
   pub file_is_made : IsFileMade new next after one
   file_is_made = record {
-    bytes = subst (λ x. HasBytesInBlocks after (bytes_of new x)) (sym node_is) file_blocks;
+    bytes = subst (λ x. HasBytesInBlocks after (bytes_of new x)) (sym node_same) file_blocks;
     shows = record {
       kind = ap (λ (m : Inode). m.kind) inode_same ∙ node.shows.kind;
       links = ap (λ (m : Inode). m.links) inode_same ∙ node.shows.links;

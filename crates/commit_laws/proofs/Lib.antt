@@ -1,8 +1,10 @@
 pub mod AllWritten
 pub mod BegunShown
+pub mod BlocksRead
 pub mod CommitMade
 pub mod CommitOfPlan
 pub mod Counting
+pub mod DirectoriesMade
 pub mod FilesMade
 pub mod GrantWritten
 pub mod Granted

@@ -186,13 +186,13 @@ module _ (num : Numbering) (concerned : List ℕ) (old new : TreeState) (image :
     known : KnowsChildren directories new net
     known = children_of directories new plan.nets of.built.leads.nets.kinds of.begun.node
 
-    old_block : (n : ℕ) → slots_in_block n seen.slots ≡ get_or of.begun.slots n empty_block
+    pub old_block : (n : ℕ) → slots_in_block n seen.slots ≡ get_or of.begun.slots n empty_block
     old_block n = ap (slots_in_block n) (sym of.built.begins.slots) ∙ in_block_joined of.begun.slots long n
 
-    new_block : (n : ℕ) → slots_in_block n slots ≡ block_numbered numbers net (get_or after n empty_block)
+    pub new_block : (n : ℕ) → slots_in_block n slots ≡ block_numbered numbers net (get_or after n empty_block)
     new_block n = ap (λ those. slots_in_block n (slots_after commit.after new net those)) (sym of.built.begins.slots) ∙ block_after numbers commit.after new directories net of.begun.slots known of.built.numbers long n
 
-    end : blocks_to_last_row after ≡ blocks_up_to_last slots
+    pub end : blocks_to_last_row after ≡ blocks_up_to_last slots
     end =
         let kept = kept_long old new numbers commit.after seen change.changes of.begun 0 [] of.built.begins of.built.leads of.built.numbers in
         let same = ap length (slots_are old new numbers commit.after seen change.changes of.begun 0 [] of.built.begins of.built.leads of.built.numbers) ∙ length_in_blocks slots in
@@ -230,7 +230,7 @@ module _ (num : Numbering) (concerned : List ℕ) (old new : TreeState) (image :
             ap (λ (s : Seen). s.blocks n) here
             ∙ written.behind i n (is.stands.within of.begun.node i e, (is.stands.each of.begun.node i e).kind ∙ ap kind_byte (sym of.built.begins.kind ∙ kind)) low (omega (arith, few, count, whole))
 
-    directory_says : begun.kind ≡ Directory → SayTheSame (rewrite_in (seated_as Directory change.changes of.begun)) (directory_rewrite seen slots)
+    pub directory_says : begun.kind ≡ Directory → SayTheSame (rewrite_in (seated_as Directory change.changes of.begun)) (directory_rewrite seen slots)
     directory_says kind = record {
       blocks = ap (λ b. (size_of_blocks b + 4095) / 4096) end ∙ blocks_of_size (blocks_up_to_last slots) of.built.leads.blocks;
       rewritten = λ n low. elim (cases_lt n (length after)) [

@@ -1,6 +1,7 @@
 pub mod CommitMade
 pub mod CommitOfPlan
 pub mod Counting
+pub mod DirectoriesMade
 pub mod FilesMade
 pub mod Granted
 pub mod KeptShown

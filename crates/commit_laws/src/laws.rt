@@ -2,6 +2,7 @@
 ghost use Rattle.commit_laws.specs.CommitMade.{ChangesMakeCommits};
 ghost use Rattle.commit_laws.specs.CommitOfPlan.{PlansMakeCommits, PlansLeaveTrees};
 ghost use Rattle.commit_laws.specs.Counting.{NetsCountLinks};
+ghost use Rattle.commit_laws.specs.DirectoriesMade.{PlansMakeDirectories};
 ghost use Rattle.commit_laws.specs.FilesMade.{PlansMakeFiles};
 ghost use Rattle.commit_laws.specs.Granted.{FreshBlocksAreGranted, InodesAreGrantedOrOld, GrantedBlocksAreWritten};
 ghost use Rattle.commit_laws.specs.KeptShown.{KeptPartsShow};
@@ -127,4 +128,9 @@ pub fn plans_write_apart()
 /// The part of a file after a commit has the new bytes, and shows what the next image shows.
 pub fn plans_make_files()
     ensures { PlansMakeFiles }
+{}
+
+/// The part of a directory after a commit has the new slots, and is what the disk then has of it in memory.
+pub fn plans_make_directories()
+    ensures { PlansMakeDirectories }
 {}
