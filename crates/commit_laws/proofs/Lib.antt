@@ -14,6 +14,7 @@ pub mod KnownDirectories
 pub mod NumbersGiven
 pub mod OwnInodes
 pub mod PartsMade
+pub mod PartsStand
 pub mod PlanShown
 pub mod Ranked
 pub mod Rewritten

@@ -81,7 +81,7 @@ given_alike f g a zero same = refl
 given_alike f g a (suc n) same = λ i. cons_option (same a (omega arith) (omega arith) i) (given_alike f g (a + 1) n (λ k low high. same k (omega arith) (omega arith)) i)
 
 -- a record is read as its bytes say
-read_inode : (store : ℕ → List ℕ) (inode : Inode) → IsInode inode → inode_in (part_of store (inode_bytes inode)) ≡ inode
+pub read_inode : (store : ℕ → List ℕ) (inode : Inode) → IsInode inode → inode_in (part_of store (inode_bytes inode)) ≡ inode
 unfolding part_of
 read_inode store inode is = inode_of-inode_bytes inode is
 

@@ -8,6 +8,7 @@ pub mod KeptShown
 pub mod KnownKinds
 pub mod NumbersGiven
 pub mod PartsMade
+pub mod PartsStand
 pub mod PlanShown
 pub mod Ranked
 pub mod Rewritten

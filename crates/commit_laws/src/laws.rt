@@ -8,6 +8,7 @@ ghost use Rattle.commit_laws.specs.Granted.{FreshBlocksAreGranted, InodesAreGran
 ghost use Rattle.commit_laws.specs.KeptShown.{KeptPartsShow};
 ghost use Rattle.commit_laws.specs.NumbersGiven.{GivenNumbersAreThose};
 ghost use Rattle.commit_laws.specs.PartsMade.{PlansMakeParts, PlansWriteApart};
+ghost use Rattle.commit_laws.specs.PartsStand.{AlikeImagesStand, PlansLeaveParts};
 ghost use Rattle.commit_laws.specs.PlanShown.{PlansShowInodes, PlansKeepShown};
 ghost use Rattle.commit_laws.specs.Ranked.{NodesAreBuiltByRank, NeedsAreThose};
 ghost use Rattle.commit_laws.specs.Rewritten.{SameRewritesTakeTheSame, PlansRewriteAsDefined, PlansNeedAsDefined};
@@ -133,4 +134,14 @@ pub fn plans_make_files()
 /// The part of a directory after a commit has the new slots, and is what the disk then has of it in memory.
 pub fn plans_make_directories()
     ensures { PlansMakeDirectories }
+{}
+
+/// An image that shows what another one shows stands for the same tree.
+pub fn alike_images_stand()
+    ensures { AlikeImagesStand }
+{}
+
+/// The parts after the commit of a plan stand for the new tree.
+pub fn plans_leave_parts()
+    ensures { PlansLeaveParts }
 {}
