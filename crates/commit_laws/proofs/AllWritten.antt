@@ -7,6 +7,7 @@ use Rattle.std.proofs.lemmas.Bool.{cond-true, cond-false, cases_Bool, cases_lt, 
 use Rattle.std.proofs.lemmas.Bool.Decides.{nat_tests}
 use Rattle.std.proofs.lemmas.List.{append-nil, map-append, take_more, take_all, append_assoc, length-take-le, length-drop, get_or-take, get_or-drop, take-append-drop}
 use Rattle.std.proofs.lemmas.List.Sums.{sum_by-cons}
+use Rattle.std.proofs.lemmas.Option.{slice_get_within, get_or_from_slice_get}
 use Rattle.sfs_base.proofs.BasicLists.{take_none}
 use Rattle.sfs_base.proofs.BasicNumbers.{not_same, from_plus_zero}
 use Rattle.sfs_base.proofs.BasicOptions.{none_some, some_same}
@@ -42,6 +43,7 @@ use Rattle.disk_change.proofs.Directories.{filter_map_more, drop_twice}
 use Rattle.disk_change.proofs.NumbersGiven.{first_in, further_in, drop_zero}
 use Rattle.commit_laws.specs.Granted.{EachAscends, IsGrantFor, GrantedBlocksAreWritten}
 use Rattle.commit_laws.specs.Ranked.{fresh_cut}
+use Rattle.commit_laws.proofs.Granted.{fresh_if_written}
 
 -- the number of a block that is written
 abbrev pub written_block : TxBlock → ℕ
@@ -53,6 +55,11 @@ le_false a b lt = grind (arith, nat_tests)
 -- one more number of a list that is there
 take_next : (fresh : List ℕ) (n : ℕ) → n < length fresh → take (n + 1) fresh ≡ take n fresh ++ slice_index fresh n ∷ []
 take_next fresh n within = take_more fresh n 0 within
+
+-- one more change counts where it takes a fresh block
+count_last : (c : ChangedBlock) (xs : List ChangedBlock) → count_by takes_fresh (xs ++ c ∷ []) ≡ count_by takes_fresh xs + cond (takes_fresh c) 1 0
+count_last c [] = let one = count-cons takes_fresh c [] in omega arith
+count_last c (x ∷ xs) = let a = count-cons takes_fresh x (xs ++ c ∷ []) in let b = count-cons takes_fresh x xs in let rest = count_last c xs in omega arith
 
 module _ (numbers : ℕ → Option ℕ) (net : List NetRow) (number : ℕ) (fresh : List ℕ) (seat : Seated) (pages : List Page) (up : AscendByBlock seat.changed)
     (enough : length fresh ≡ blocks_taken seat) (some : (k : ℕ) → k < length fresh → slice_index fresh k ≢ 0) where
@@ -79,6 +86,26 @@ module _ (numbers : ℕ → Option ℕ) (net : List NetRow) (number : ℕ) (fres
       ∙ ap (λ (o : Option ChangedBlock). cond (is_some o) (cond (option_map_or (λ one. one.is_zero) o false) 0 (fresh_for rewrite fresh c.block)) (rewrite.pointers c.block)) found
       ∙ ap (λ b. cond b 0 (fresh_for rewrite fresh c.block)) full
       ∙ ap (slice_index fresh) (sym (rank_of_change seat.meta seat.tables seat.changed up i d within low))
+
+  -- the block of a rewritten block that is not all zeros
+  abbrev pub written_data : ChangedBlock → TxBlock
+  written_data c = record { block = pointer c.block; bytes = content_of one_built pages c.block }
+
+  pub data_given : (i : ℕ) (c : ChangedBlock) → slice_get seat.changed i ≡ Some c → c.is_zero ≡ false → c.block < FILE_BLOCKS → (pointer c.block ≢ 0) × (data_written one_built pages c ≡ Some (written_data c))
+  data_given i c at full low =
+      let within = slice_get_within seat.changed i c at in
+      let here = get_or_from_slice_get seat.changed i c c at in
+      let before : ℕ = count_by takes_fresh (take i seat.changed) in
+      let pointer_at : pointer c.block ≡ slice_index fresh before =
+      subst (λ x. x.is_zero ≡ false → x.block < FILE_BLOCKS → pointer x.block ≡ slice_index fresh before) here (data_pointer i c within) full low in
+      let next : count_by takes_fresh (take (i + 1) seat.changed) ≡ before + cond (takes_fresh c) 1 0 =
+      ap (count_by takes_fresh) (take_more seat.changed i c within) ∙ count_last (get_or seat.changed i c) (take i seat.changed) ∙ ap (λ x. before + cond (takes_fresh x) 1 0) here in
+      let takes : takes_fresh c ≡ true = (λ j. not (full j) && lt-ltb c.block FILE_BLOCKS low j) in
+      let below : before < length fresh = (let one = next ∙ ap (λ b. before + cond b 1 0) takes in omega (arith, count_of_first seat.changed (i + 1), one, all_data)) in
+      let there : pointer c.block ≢ 0 = λ hole. some before below (sym pointer_at ∙ hole) in (
+        there,
+        cond-false _ None (Some (written_data c)) (λ j. full j || (le_false FILE_BLOCKS c.block low j || not_same (pointer c.block) 0 there j)),
+      )
 
   -- the first of them have the first blocks
   data_first : (i : ℕ) → i ≤ length seat.changed → map written_block (filter_map (data_written one_built pages) (take i seat.changed)) ≡ take (count_by takes_fresh (take i seat.changed)) fresh
@@ -108,11 +135,7 @@ module _ (numbers : ℕ → Option ℕ) (net : List NetRow) (number : ℕ) (fres
           before = count_by takes_fresh (take i seat.changed)
 
           counted : count_by takes_fresh (take (suc i) seat.changed) ≡ before + cond (takes_fresh c) 1 0
-          counted = ap (λ n. count_by takes_fresh (take n seat.changed)) one_more ∙ ap (count_by takes_fresh) (take_more seat.changed i NO_CHANGE within) ∙ count_last (take i seat.changed) ∙ ap (λ x. before + cond (takes_fresh x) 1 0) is
-            where
-              count_last : (xs : List ChangedBlock) → count_by takes_fresh (xs ++ get_or seat.changed i NO_CHANGE ∷ []) ≡ count_by takes_fresh xs + cond (takes_fresh (get_or seat.changed i NO_CHANGE)) 1 0
-              count_last [] = let c = count-cons takes_fresh (get_or seat.changed i NO_CHANGE) [] in omega arith
-              count_last (x ∷ xs) = let a = count-cons takes_fresh x (xs ++ get_or seat.changed i NO_CHANGE ∷ []) in let b = count-cons takes_fresh x xs in let rest = count_last xs in omega arith
+          counted = ap (λ n. count_by takes_fresh (take n seat.changed)) one_more ∙ ap (count_by takes_fresh) (take_more seat.changed i NO_CHANGE within) ∙ count_last (get_or seat.changed i NO_CHANGE) (take i seat.changed) ∙ ap (λ x. before + cond (takes_fresh x) 1 0) is
 
           none : takes_fresh c ≡ false → data_written one_built pages c ≡ None → take before fresh ++ map written_block (option_to_list (data_written one_built pages c)) ≡ take (before + cond (takes_fresh c) 1 0) fresh
           none fails nothing =
@@ -141,12 +164,7 @@ module _ (numbers : ℕ → Option ℕ) (net : List NetRow) (number : ℕ) (fres
       sym (own_place one_built.meta one_built.tables k)
       ∙ remapped_pointers_stand seat.meta seat.tables seat.changed fresh (FILE_BLOCKS + k) (omega arith)
       ∙ cond-false (nat_lt (FILE_BLOCKS + k) FILE_BLOCKS) _ _ (le-ltb (FILE_BLOCKS + k) FILE_BLOCKS (omega arith))
-      ∙ by (rewrites_table rewrite (FILE_BLOCKS + k - FILE_BLOCKS)) (table_has_pointer rewrite (FILE_BLOCKS + k - FILE_BLOCKS)) (ap (table_fate rewrite) back ∙ fate) (fresh_for rewrite fresh (FILE_BLOCKS + k)) (rewrite.pointers (FILE_BLOCKS + k))
-    where
-      by : (table some : Bool) → cond table (cond some IsWritten Goes) Stays ≡ IsWritten → (a stays : ℕ) → cond table (cond some a 0) stays ≡ a
-      by true true e a stays = refl
-      by true false e a stays = absurd (cc)
-      by false some e a stays = absurd (cc)
+      ∙ fresh_if_written (rewrites_table rewrite (FILE_BLOCKS + k - FILE_BLOCKS)) (table_has_pointer rewrite (FILE_BLOCKS + k - FILE_BLOCKS)) (ap (table_fate rewrite) back ∙ fate) (fresh_for rewrite fresh (FILE_BLOCKS + k)) (rewrite.pointers (FILE_BLOCKS + k))
 
   -- what is written of an indirect block, by its fate
   table_is : (k : ℕ) → k < 16 → table_of_place one_built k ≡ indirect_block_written (table_fate rewrite k) (slice_index one_built.meta.indirect k) (find (λ t. nat_eq t.place k) one_built.tables)

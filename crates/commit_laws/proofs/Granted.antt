@@ -79,6 +79,12 @@ is_said (first ∷ changed) one (suc k, within, is) = by (nat_eq first.block one
     by true t = refl
     by false t = t
 
+-- an indirect block that is written stands in a fresh block
+pub fresh_if_written : (table some : Bool) → cond table (cond some IsWritten Goes) Stays ≡ IsWritten → (a stays : ℕ) → cond table (cond some a 0) stays ≡ a
+fresh_if_written true true e a stays = refl
+fresh_if_written true false e a stays = absurd (cc)
+fresh_if_written false some e a stays = absurd (cc)
+
 module _ (numbers : ℕ → Option ℕ) (net : List NetRow) (number : ℕ) (fresh : List ℕ) (seat : Seated) (pages : List Page) where
   abbrev rewrite : Rewrite
   rewrite = rewrite_in seat
@@ -126,16 +132,11 @@ module _ (numbers : ℕ → Option ℕ) (net : List NetRow) (number : ℕ) (fres
       own : slice_index one_built.meta.indirect k ≡ pointer (FILE_BLOCKS + k)
       own = sym (own_place one_built.meta one_built.tables k)
 
-      by_tests : (table some : Bool) → cond table (cond some IsWritten Goes) Stays ≡ IsWritten → (a stays : ℕ) → cond table (cond some a 0) stays ≡ a
-      by_tests true true e a stays = refl
-      by_tests true false e a stays = absurd (cc)
-      by_tests false some e a stays = absurd (cc)
-
       is_fresh : table_fate rewrite k ≡ IsWritten → pointer (FILE_BLOCKS + k) ≡ fresh_for rewrite fresh (FILE_BLOCKS + k)
       is_fresh fate =
           let back : FILE_BLOCKS + k - FILE_BLOCKS ≡ k = omega arith in
           stands (FILE_BLOCKS + k) (omega arith) ∙ cond-false (nat_lt (FILE_BLOCKS + k) FILE_BLOCKS) _ _ (le-ltb (FILE_BLOCKS + k) FILE_BLOCKS (omega arith))
-          ∙ by_tests (rewrites_table rewrite (FILE_BLOCKS + k - FILE_BLOCKS)) (table_has_pointer rewrite (FILE_BLOCKS + k - FILE_BLOCKS)) (ap (table_fate rewrite) back ∙ fate) (fresh_for rewrite fresh (FILE_BLOCKS + k)) (rewrite.pointers (FILE_BLOCKS + k))
+          ∙ fresh_if_written (rewrites_table rewrite (FILE_BLOCKS + k - FILE_BLOCKS)) (table_has_pointer rewrite (FILE_BLOCKS + k - FILE_BLOCKS)) (ap (table_fate rewrite) back ∙ fate) (fresh_for rewrite fresh (FILE_BLOCKS + k)) (rewrite.pointers (FILE_BLOCKS + k))
 
       by : (fate : TableFate) → table_fate rewrite k ≡ fate → indirect_block_written fate (slice_index one_built.meta.indirect k) (find (λ t. nat_eq t.place k) one_built.tables) ≡ Some written → Contains fresh written.block
       by Stays is e = absurd (none_some e)

@@ -12,12 +12,12 @@ use Rattle.commit_laws.specs.SlotsKept.{AreSlotBlocks, slots_joined}
 use Rattle.commit_laws.proofs.OwnInodes.{mapped_is_in}
 
 -- the slots of blocks, one block after the other
-joined_slots : (blocks : List (List ℕ)) → slots_joined (map slots_of blocks) ≡ Rattle.std.specs.List.flat_map slots_of blocks
+pub joined_slots : (blocks : List (List ℕ)) → slots_joined (map slots_of blocks) ≡ Rattle.std.specs.List.flat_map slots_of blocks
 joined_slots [] = refl
 joined_slots (block ∷ blocks) = ap (λ rest. slots_of block ++ rest) (joined_slots blocks)
 
 -- each block has those of one
-slot_blocks : (blocks : List (List ℕ)) → AreSlotBlocks (map slots_of blocks)
+pub slot_blocks : (blocks : List (List ℕ)) → AreSlotBlocks (map slots_of blocks)
 unfolding slots_of
 slot_blocks blocks block there =
     let one = mapped_is_in slots_of blocks block there in

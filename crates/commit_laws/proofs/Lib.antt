@@ -1,8 +1,11 @@
 pub mod AllWritten
 pub mod BegunShown
+pub mod BlocksRead
 pub mod CommitMade
 pub mod CommitOfPlan
 pub mod Counting
+pub mod DirectoriesMade
+pub mod FilesMade
 pub mod GrantWritten
 pub mod Granted
 pub mod JoinedSlots
@@ -11,6 +14,7 @@ pub mod KnownDirectories
 pub mod NumbersGiven
 pub mod OwnInodes
 pub mod PartsMade
+pub mod PartsStand
 pub mod PlanShown
 pub mod Ranked
 pub mod Rewritten

@@ -81,7 +81,7 @@ given_alike f g a zero same = refl
 given_alike f g a (suc n) same = λ i. cons_option (same a (omega arith) (omega arith) i) (given_alike f g (a + 1) n (λ k low high. same k (omega arith) (omega arith)) i)
 
 -- a record is read as its bytes say
-read_inode : (store : ℕ → List ℕ) (inode : Inode) → IsInode inode → inode_in (part_of store (inode_bytes inode)) ≡ inode
+pub read_inode : (store : ℕ → List ℕ) (inode : Inode) → IsInode inode → inode_in (part_of store (inode_bytes inode)) ≡ inode
 unfolding part_of
 read_inode store inode is = inode_of-inode_bytes inode is
 
@@ -90,16 +90,20 @@ module _ (store : ℕ → List ℕ) (raw : List ℕ) where
   unfolding part_of
   unfolding_lengths = (length-map (inode_of raw).indirect (read_block store) ∙ length-u32s_at 448 16 raw, length-tabulate FILE_BLOCKS _)
 
-  gathered_itself : IsGathered store (part_of store raw)
+  -- a part that is gathered stands in its store
+  pub gathered_itself : IsGathered store (part_of store raw)
   unfolding part_of
   gathered_itself = refl
+
+table_back : (k : ℕ) → FILE_BLOCKS + k - FILE_BLOCKS ≡ k
+table_back k = omega arith
 
 -- an indirect block as it is kept
 table_is : (q : ℕ) (k : ℕ) (block : List ℕ) → q ≢ 0 → ◌≡◌ {A = Option Table} (cond (nat_eq q 0) None (Some (record { place = k; pointers = pointers_of block }))) (Some (record { place = k; pointers = pointers_of block }))
 table_is q k block some = cond-false (nat_eq q 0) None _ (not_same q 0 some)
 
 -- what one of some items gives is in what all give
-in_flat : {X Y : Type 0} (f : X → List Y) (xs : List X) (x : X) (y : Y) → Contains xs x → Contains (f x) y → Contains (flat_map f xs) y
+pub in_flat : {X Y : Type 0} (f : X → List Y) (xs : List X) (x : X) (y : Y) → Contains xs x → Contains (f x) y → Contains (flat_map f xs) y
 in_flat f [] x y (k, within, is) has = absurd (omega arith)
 in_flat f (z ∷ xs) x y (zero, within, is) has = Contains-append_left (f z) (flat_map f xs) y (subst (λ w. Contains (f w) y) (sym is) has)
 in_flat f (z ∷ xs) x y (suc k, within, is) has = Contains-append_right (f z) (flat_map f xs) y (in_flat f xs x y (k, omega arith, is) has)
@@ -136,11 +140,11 @@ module _ (num : Numbering) (concerned : List ℕ) (old new : TreeState) (image :
   abbrev after : Part
   after = part_made store plan grant one
 
-  within : i < image.count
+  pub within : i < image.count
   within = number_within commit old image whole.stands (made num concerned old new image plan grant is.full).is.numbers node.of.begun.node i node.of.number
 
   -- the inode before, where the node had one
-  seen_old : (j : ℕ) → num node.of.begun.node ≡ Some j → j ≡ i
+  pub seen_old : (j : ℕ) → num node.of.begun.node ≡ Some j → j ≡ i
   seen_old j had = by (node_leaves plan.leave node.of.begun.node) refl
     where
       by : (b : Bool) → node_leaves plan.leave node.of.begun.node ≡ b → j ≡ i
@@ -179,13 +183,13 @@ module _ (num : Numbering) (concerned : List ℕ) (old new : TreeState) (image :
     ]
   ]
 
-  pointer_is : (place : ℕ) → place < PLACES → pointer_kept one.meta one.tables place ≡ (next.seen i).blocks place
+  pub pointer_is : (place : ℕ) → place < PLACES → pointer_kept one.meta one.tables place ≡ (next.seen i).blocks place
   pointer_is place low = node.shows.blocks place low ∙ ap (λ n. (next.seen n).blocks place) node.inode
 
-  meta_is : one.meta ≡ (built_by change.changes (numbers_with change grant.inodes) own seat).meta
+  pub meta_is : one.meta ≡ (built_by change.changes (numbers_with change grant.inodes) own seat).meta
   meta_is = ap (λ (b : Built). b.meta) node.is
 
-  tables_are : one.tables ≡ (built_by change.changes (numbers_with change grant.inodes) own seat).tables
+  pub tables_are : one.tables ≡ (built_by change.changes (numbers_with change grant.inodes) own seat).tables
   tables_are = ap (λ (b : Built). b.tables) node.is
 
   indirect_is : (k : ℕ) → k < 16 → slice_index one.meta.indirect k ≡ (next.seen i).blocks (FILE_BLOCKS + k)
@@ -194,7 +198,7 @@ module _ (num : Numbering) (concerned : List ℕ) (old new : TreeState) (image :
   direct_is : (k : ℕ) → k < 108 → slice_index one.meta.direct k ≡ (next.seen i).blocks k
   direct_is k low = sym (cond-true (nat_lt k FILE_BLOCKS) _ _ (lt-ltb k FILE_BLOCKS (omega arith)) ∙ cond-true (nat_lt k 108) _ _ (lt-ltb k 108 low)) ∙ pointer_is k (omega arith)
 
-  shows_node : ShowsNode commit.after new node.of.begun.node (next.seen i)
+  pub shows_node : ShowsNode commit.after new node.of.begun.node (next.seen i)
   shows_node = (stands_after commit old new image next (step num concerned old new image plan grant is.full)).each node.of.begun.node i node.of.number
 
   size_fits : (next.seen i).size < 2 ^ 64
@@ -232,14 +236,14 @@ module _ (num : Numbering) (concerned : List ℕ) (old new : TreeState) (image :
       kind_low File e = omega arith
       kind_low Directory e = omega arith
 
-  inode_is : inode_in after ≡ one.meta
+  pub inode_is : inode_in after ≡ one.meta
   inode_is = read_inode over one.meta meta_fits
 
   -- what a store with the fresh blocks has of a block
-  over_fresh : (b : FreshBlock) (p : ℕ) → find (λ (other : FreshBlock). nat_eq other.block p) fresh ≡ Some b → over p ≡ b.bytes
+  pub over_fresh : (b : FreshBlock) (p : ℕ) → find (λ (other : FreshBlock). nat_eq other.block p) fresh ≡ Some b → over p ≡ b.bytes
   over_fresh b p found = ap (λ (o : Option FreshBlock). option_map_or (λ (other : FreshBlock). other.bytes) o (store p)) found
 
-  over_old : (p : ℕ) → find (λ (other : FreshBlock). nat_eq other.block p) fresh ≡ None → over p ≡ store p
+  pub over_old : (p : ℕ) → find (λ (other : FreshBlock). nat_eq other.block p) fresh ≡ None → over p ≡ store p
   over_old p none = ap (λ (o : Option FreshBlock). option_map_or (λ (other : FreshBlock). other.bytes) o (store p)) none
 
   -- the indirect block at a place, as it is read
@@ -253,9 +257,6 @@ module _ (num : Numbering) (concerned : List ℕ) (old new : TreeState) (image :
   by_fate : (k : ℕ) → k < 16 → (fate : TableFate) → table_fate (rewrite_in seat) k ≡ fate → table_kept (inode_in after) after.tables k ≡ table_by_fate fate (rewrite_in seat) own seat.tables k
   by_fate k low Goes fate = kept_is k low ∙ cond-true (nat_eq (slice_index one.meta.indirect k) 0) None _ (eq-eqb (slice_index one.meta.indirect k) 0 none)
     where
-      back : FILE_BLOCKS + k - FILE_BLOCKS ≡ k
-      back = omega arith
-
       by : (table some : Bool) → cond table (cond some IsWritten Goes) Stays ≡ Goes → (a stays : ℕ) → cond table (cond some a 0) stays ≡ 0
       by true true e a stays = absurd (cc)
       by true false e a stays = refl
@@ -266,15 +267,12 @@ module _ (num : Numbering) (concerned : List ℕ) (old new : TreeState) (image :
           sym (own_place one.meta one.tables k) ∙ (λ j. pointer_kept (meta_is j) (tables_are j) (FILE_BLOCKS + k))
           ∙ remapped_pointers_stand seat.meta seat.tables seat.changed own (FILE_BLOCKS + k) (omega arith)
           ∙ cond-false (nat_lt (FILE_BLOCKS + k) FILE_BLOCKS) _ _ (le-ltb (FILE_BLOCKS + k) FILE_BLOCKS (omega arith))
-          ∙ by (rewrites_table (rewrite_in seat) (FILE_BLOCKS + k - FILE_BLOCKS)) (table_has_pointer (rewrite_in seat) (FILE_BLOCKS + k - FILE_BLOCKS)) (ap (table_fate (rewrite_in seat)) back ∙ fate) _ _
+          ∙ by (rewrites_table (rewrite_in seat) (FILE_BLOCKS + k - FILE_BLOCKS)) (table_has_pointer (rewrite_in seat) (FILE_BLOCKS + k - FILE_BLOCKS)) (ap (table_fate (rewrite_in seat)) (table_back k) ∙ fate) _ _
   by_fate k low Stays fate = elim (seat_comes num concerned old new image plan grant whole seat (there_is_in change.seats node.m seat node.at)) [
     | inl (entry, stay, same) ↦ of_old entry stay same
     | inr (one_entering, enter, same) ↦ of_entering one_entering enter same
   ]
     where
-      back : FILE_BLOCKS + k - FILE_BLOCKS ≡ k
-      back = omega arith
-
       by : (table some : Bool) → cond table (cond some IsWritten Goes) Stays ≡ Stays → (a stays : ℕ) → cond table (cond some a 0) stays ≡ stays
       by true true e a stays = absurd (cc)
       by true false e a stays = absurd (cc)
@@ -285,7 +283,7 @@ module _ (num : Numbering) (concerned : List ℕ) (old new : TreeState) (image :
           sym (own_place one.meta one.tables k) ∙ (λ j. pointer_kept (meta_is j) (tables_are j) (FILE_BLOCKS + k))
           ∙ remapped_pointers_stand seat.meta seat.tables seat.changed own (FILE_BLOCKS + k) (omega arith)
           ∙ cond-false (nat_lt (FILE_BLOCKS + k) FILE_BLOCKS) _ _ (le-ltb (FILE_BLOCKS + k) FILE_BLOCKS (omega arith))
-          ∙ by (rewrites_table (rewrite_in seat) (FILE_BLOCKS + k - FILE_BLOCKS)) (table_has_pointer (rewrite_in seat) (FILE_BLOCKS + k - FILE_BLOCKS)) (ap (table_fate (rewrite_in seat)) back ∙ fate) _ _
+          ∙ by (rewrites_table (rewrite_in seat) (FILE_BLOCKS + k - FILE_BLOCKS)) (table_has_pointer (rewrite_in seat) (FILE_BLOCKS + k - FILE_BLOCKS)) (ap (table_fate (rewrite_in seat)) (table_back k) ∙ fate) _ _
           ∙ own_place seat.meta seat.tables k
 
       seat_indirect : (begun : Begun) (kind : Kind) → (seated_as kind change.changes begun).meta.indirect ≡ begun.base.indirect
@@ -331,13 +329,12 @@ module _ (num : Numbering) (concerned : List ℕ) (old new : TreeState) (image :
           block_same : q ≢ 0 → read_block over q ≡ slice_index_or (parts entry.old.number).tables k []
           block_same some =
               let gathered = is.standing.gathered entry.old.number number_in in
-              let back_k : FILE_BLOCKS + k - FILE_BLOCKS ≡ k = omega arith in
               block_behind over q some
               ∙ over_old q (ap (λ p. find (λ (other : FreshBlock). nat_eq other.block p) fresh) q_at ∙ held_is_old num concerned old new image plan grant store parts is entry.old.number (FILE_BLOCKS + k) number_in (omega arith))
               ∙ sym (block_behind store q some) ∙ ap (read_block store) q_at
               ∙ sym (gathered_is_read store (parts entry.old.number) (FILE_BLOCKS + k) gathered (omega arith))
               ∙ cond-false (nat_lt (FILE_BLOCKS + k) FILE_BLOCKS) _ _ (le-ltb (FILE_BLOCKS + k) FILE_BLOCKS (omega arith))
-              ∙ ap (λ n. slice_index_or (parts entry.old.number).tables n []) back_k
+              ∙ ap (λ n. slice_index_or (parts entry.old.number).tables n []) (table_back k)
 
           by_pointer : (nat_eq q 0 ≡ true) ⊎ (nat_eq q 0 ≡ false)
               → cond (nat_eq q 0) None (Some (record { place = k; pointers = pointers_of (read_block over q) })) ≡ table_kept (inode_in (parts entry.old.number)) (parts entry.old.number).tables k
@@ -418,7 +415,7 @@ module _ (num : Numbering) (concerned : List ℕ) (old new : TreeState) (image :
   tables_kept_are = given_alike (table_kept (inode_in after) after.tables) (table_remapped (rewrite_in seat) own seat.tables) 0 16 (λ k at low. by_fate k low (table_fate (rewrite_in seat) k) refl) ∙ sym tables_are
 
   -- the pointers of the new part
-  pointer_after_is : (place : ℕ) → place < PLACES → pointer_at after place ≡ (next.seen i).blocks place
+  pub pointer_after_is : (place : ℕ) → place < PLACES → pointer_at after place ≡ (next.seen i).blocks place
   pointer_after_is place low =
       sym (kept_pointer over after (gathered_itself over (inode_bytes one.meta)) place low)
       ∙ (λ j. pointer_kept (inode_is j) (tables_kept_are j) place) ∙ pointer_is place low

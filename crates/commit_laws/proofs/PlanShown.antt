@@ -67,7 +67,7 @@ built_blocks changes numbers net begun long Directory =
     blocks_are_long _ (long_numbered numbers net (take (blocks_to_last_row after) after) (long_taken (blocks_to_last_row after) after (long_after changes.directories own begun.slots (long_blocks begun.slots long))))
 
 -- and a file has none
-built_plain : (changes : CommitChanges) (numbers : ℕ → Option ℕ) (net : List NetRow) (begun : Begun) (kind : Kind) → (seated_as kind changes begun).meta.kind ≡ kind_byte File → map (block_numbered numbers net) (seated_as kind changes begun).slots ≡ []
+pub built_plain : (changes : CommitChanges) (numbers : ℕ → Option ℕ) (net : List NetRow) (begun : Begun) (kind : Kind) → (seated_as kind changes begun).meta.kind ≡ kind_byte File → map (block_numbered numbers net) (seated_as kind changes begun).slots ≡ []
 built_plain changes numbers net begun File file = refl
 built_plain changes numbers net begun Directory file = absurd (cc)
 

@@ -60,7 +60,7 @@ use Rattle.commit_laws.proofs.CommitOfPlan.{begun_pointers}
 use Rattle.commit_laws.proofs.JoinedSlots.{Slots, AreLong, long_blocks, length_joined}
 use Rattle.commit_laws.proofs.KnownDirectories.{net_row, same_child}
 use Rattle.commit_laws.proofs.Rewritten.{take_same, needs_same}
-use Rattle.commit_laws.proofs.RewrittenBlocks.{said_within, said_behind, pages_said, block_zeros}
+use Rattle.commit_laws.proofs.RewrittenBlocks.{said_within, said_behind, change_said, page_bytes, block_zeros}
 use Rattle.commit_laws.proofs.SeatsOfPlan.{in_is_there}
 use Rattle.commit_laws.proofs.Shown.{found_is_in, children_of, length_in_blocks, slots_are, kept_long}
 use Rattle.commit_laws.proofs.SlotBlocks.{in_block_joined, block_after}
@@ -186,13 +186,13 @@ module _ (num : Numbering) (concerned : List ℕ) (old new : TreeState) (image :
     known : KnowsChildren directories new net
     known = children_of directories new plan.nets of.built.leads.nets.kinds of.begun.node
 
-    old_block : (n : ℕ) → slots_in_block n seen.slots ≡ get_or of.begun.slots n empty_block
+    pub old_block : (n : ℕ) → slots_in_block n seen.slots ≡ get_or of.begun.slots n empty_block
     old_block n = ap (slots_in_block n) (sym of.built.begins.slots) ∙ in_block_joined of.begun.slots long n
 
-    new_block : (n : ℕ) → slots_in_block n slots ≡ block_numbered numbers net (get_or after n empty_block)
+    pub new_block : (n : ℕ) → slots_in_block n slots ≡ block_numbered numbers net (get_or after n empty_block)
     new_block n = ap (λ those. slots_in_block n (slots_after commit.after new net those)) (sym of.built.begins.slots) ∙ block_after numbers commit.after new directories net of.begun.slots known of.built.numbers long n
 
-    end : blocks_to_last_row after ≡ blocks_up_to_last slots
+    pub end : blocks_to_last_row after ≡ blocks_up_to_last slots
     end =
         let kept = kept_long old new numbers commit.after seen change.changes of.begun 0 [] of.built.begins of.built.leads of.built.numbers in
         let same = ap length (slots_are old new numbers commit.after seen change.changes of.begun 0 [] of.built.begins of.built.leads of.built.numbers) ∙ length_in_blocks slots in
@@ -230,7 +230,7 @@ module _ (num : Numbering) (concerned : List ℕ) (old new : TreeState) (image :
             ap (λ (s : Seen). s.blocks n) here
             ∙ written.behind i n (is.stands.within of.begun.node i e, (is.stands.each of.begun.node i e).kind ∙ ap kind_byte (sym of.built.begins.kind ∙ kind)) low (omega (arith, few, count, whole))
 
-    directory_says : begun.kind ≡ Directory → SayTheSame (rewrite_in (seated_as Directory change.changes of.begun)) (directory_rewrite seen slots)
+    pub directory_says : begun.kind ≡ Directory → SayTheSame (rewrite_in (seated_as Directory change.changes of.begun)) (directory_rewrite seen slots)
     directory_says kind = record {
       blocks = ap (λ b. (size_of_blocks b + 4095) / 4096) end ∙ blocks_of_size (blocks_up_to_last slots) of.built.leads.blocks;
       rewritten = λ n low. elim (cases_lt n (length after)) [
@@ -251,28 +251,18 @@ module _ (num : Numbering) (concerned : List ℕ) (old new : TreeState) (image :
     abbrev file_change : Option FileChange
     file_change = item_with file_node of.begun.node plan.files
 
-    file_rewritten : (n : ℕ) (o : Option FileChange) → change_of (option_map_or (λ (one : FileChange). file_changed one.pages.items) o []) n ≡ option_map page_said (item_with page_block n (option_map_or (λ (one : FileChange). one.pages.items) o []))
-    file_rewritten n None = refl
-    file_rewritten n (Some one) = pages_said one.pages.items n
-
-    page_zero : (n : ℕ) (o : Option FileChange) → file_change ≡ o → (p : Option Page) → item_with page_block n (option_map_or (λ (one : FileChange). one.pages.items) o []) ≡ p → is_some p ≡ true
+    page_zero : (n : ℕ) (p : Option Page) → item_with page_block n (pages_of_node plan.files of.begun.node) ≡ p → is_some p ≡ true
         → option_map_or (λ (one : ChangedBlock). one.is_zero) (option_map page_said p) false ≡ is_none (nonzero_in (4096 * n) 4096 (bytes_of new of.begun.node))
-    page_zero n o e None there some = absurd (true_not_false (sym some))
-    page_zero n None e (Some page) there some = absurd (none_some there)
-    page_zero n (Some one) e (Some page) there some =
-        let here = eqb-true (file_node one) of.begun.node (found_passes (λ item. nat_eq (file_node item) of.begun.node) plan.files one e) in
-        let block = eqb-true (page_block page) n (found_passes (λ item. nat_eq (page_block item) n) one.pages.items page there) in
-        let bytes = written.pages one (found_is_in (λ item. nat_eq (file_node item) of.begun.node) plan.files one e) page (found_is_in (λ item. nat_eq (page_block item) n) one.pages.items page there) in
-        ap (λ bytes. is_none (nonzero_in 0 4096 bytes)) (bytes ∙ (λ i. bytes_in_block (block i) (bytes_of new (here i))))
-        ∙ block_zeros n (bytes_of new of.begun.node)
+    page_zero n None there some = absurd (true_not_false (sym some))
+    page_zero n (Some page) there some = ap (λ bytes. is_none (nonzero_in 0 4096 bytes)) (page_bytes new plan written.pages of.begun.node n page there) ∙ block_zeros n (bytes_of new of.begun.node)
 
     file_says : begun.kind ≡ File → SayTheSame (rewrite_in (seated_as File change.changes of.begun)) (file_rewrite (has_page plan.files of.begun.node) seen (bytes_of new of.begun.node))
     file_says kind = record {
       blocks = ap (λ n. (n + 4095) / 4096) (of.built.leads.size kind);
-      rewritten = λ n low. ap is_some (file_rewritten n file_change) ∙ some_mapped (item_with page_block n (pages_of_node plan.files of.begun.node));
+      rewritten = λ n low. ap is_some (change_said file_change n) ∙ some_mapped (item_with page_block n (pages_of_node plan.files of.begun.node));
       zero = λ n low rewritten.
-          ap (λ (o : Option ChangedBlock). option_map_or (λ one. one.is_zero) o false) (file_rewritten n file_change)
-          ∙ page_zero n file_change refl (item_with page_block n (pages_of_node plan.files of.begun.node)) refl rewritten;
+          ap (λ (o : Option ChangedBlock). option_map_or (λ one. one.is_zero) o false) (change_said file_change n)
+          ∙ page_zero n (item_with page_block n (pages_of_node plan.files of.begun.node)) refl rewritten;
       pointers = λ place within. begun_pointers change.changes of.begun File place ∙ of.built.begins.pointers place within;
     }
       where

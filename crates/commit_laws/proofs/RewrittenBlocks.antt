@@ -12,14 +12,21 @@ use Rattle.sfs_base.proofs.BasicTruth.{and_true, and_false, true_not_false}
 use Rattle.sfs_image.specs.Bytes.{zeros, is_nonzero, nonzero_in}
 use Rattle.sfs_image.specs.Seen.{Seen, FILE_BLOCKS}
 use Rattle.sfs_image.specs.Slot.{Row}
+use Rattle.sfs_image.proofs.Basics.{found_passes}
+use Rattle.sfs_tree.specs.Tree.{TreeState, bytes_of}
 use Rattle.block_map.specs.declared.changed.ChangedBlock.{ChangedBlock}
 use Rattle.block_map.specs.Changed.{change_of}
+use Rattle.disk_change.specs.AllBuilt.{pages_of_node}
 use Rattle.disk_change.specs.Lists.{item_with}
 use Rattle.disk_change.specs.Pages.{page_block}
-use Rattle.disk_change.specs.Seat.{page_said}
+use Rattle.disk_change.specs.Nodes.{file_node}
+use Rattle.disk_change.specs.Seat.{page_said, file_changed}
+use Rattle.disk_change.specs.declared.files.FileChange.{FileChange}
 use Rattle.disk_change.specs.declared.pages.Page.{Page}
 use Rattle.disk_change.proofs.NumbersGiven.{drop_zero}
-use Rattle.commit_laws.specs.Rewritten.{bytes_in_block}
+use Rattle.commit_laws.specs.CommitOfPlan.{CommitPlan}
+use Rattle.commit_laws.specs.Rewritten.{bytes_in_block, HasPages}
+use Rattle.commit_laws.proofs.Shown.{found_is_in}
 
 -- what is said of a block of a range is found under it
 module _ (said : ℕ → Option ChangedBlock) (own : (n : ℕ) (one : ChangedBlock) → said n ≡ Some one → one.block ≡ n) where
@@ -131,3 +138,20 @@ zeros_at at m xs =
 -- a block of a file is all zeros exactly where its bytes in the file are
 pub block_zeros : (n : ℕ) (bytes : List ℕ) → is_none (nonzero_in 0 4096 (bytes_in_block n bytes)) ≡ is_none (nonzero_in (4096 * n) 4096 bytes)
 block_zeros n bytes = zeros_at (4096 * n) 4096 (drop (4096 * n) bytes)
+
+-- what is said of the blocks of a file's change
+pub change_said : (o : Option FileChange) (n : ℕ) → change_of (option_map_or (λ (one : FileChange). file_changed one.pages.items) o []) n ≡ option_map page_said (item_with page_block n (option_map_or (λ (one : FileChange). one.pages.items) o []))
+change_said None n = refl
+change_said (Some one) n = pages_said one.pages.items n
+
+-- the page of a block has the bytes that its file then has there
+pub page_bytes : (new : TreeState) (plan : CommitPlan) → HasPages new plan → (node n : ℕ) (page : Page) → item_with page_block n (pages_of_node plan.files node) ≡ Some page → page.bytes ≡ bytes_in_block n (bytes_of new node)
+page_bytes new plan pages node n page is = by (item_with file_node node plan.files) refl is
+  where
+    by : (o : Option FileChange) → item_with file_node node plan.files ≡ o → item_with page_block n (option_map_or (λ (one : FileChange). one.pages.items) o []) ≡ Some page → page.bytes ≡ bytes_in_block n (bytes_of new node)
+    by None e there = absurd (none_some there)
+    by (Some one) e there =
+        let here = eqb-true (file_node one) node (found_passes (λ item. nat_eq (file_node item) node) plan.files one e) in
+        let block = eqb-true (page_block page) n (found_passes (λ item. nat_eq (page_block item) n) one.pages.items page there) in
+        pages one (found_is_in (λ item. nat_eq (file_node item) node) plan.files one e) page (found_is_in (λ item. nat_eq (page_block item) n) one.pages.items page there)
+        ∙ (λ i. bytes_in_block (block i) (bytes_of new (here i)))

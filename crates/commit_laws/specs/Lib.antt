@@ -1,11 +1,14 @@
 pub mod CommitMade
 pub mod CommitOfPlan
 pub mod Counting
+pub mod DirectoriesMade
+pub mod FilesMade
 pub mod Granted
 pub mod KeptShown
 pub mod KnownKinds
 pub mod NumbersGiven
 pub mod PartsMade
+pub mod PartsStand
 pub mod PlanShown
 pub mod Ranked
 pub mod Rewritten

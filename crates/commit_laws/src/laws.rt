@@ -2,10 +2,13 @@
 ghost use Rattle.commit_laws.specs.CommitMade.{ChangesMakeCommits};
 ghost use Rattle.commit_laws.specs.CommitOfPlan.{PlansMakeCommits, PlansLeaveTrees};
 ghost use Rattle.commit_laws.specs.Counting.{NetsCountLinks};
+ghost use Rattle.commit_laws.specs.DirectoriesMade.{PlansMakeDirectories};
+ghost use Rattle.commit_laws.specs.FilesMade.{PlansMakeFiles};
 ghost use Rattle.commit_laws.specs.Granted.{FreshBlocksAreGranted, InodesAreGrantedOrOld, GrantedBlocksAreWritten};
 ghost use Rattle.commit_laws.specs.KeptShown.{KeptPartsShow};
 ghost use Rattle.commit_laws.specs.NumbersGiven.{GivenNumbersAreThose};
 ghost use Rattle.commit_laws.specs.PartsMade.{PlansMakeParts, PlansWriteApart};
+ghost use Rattle.commit_laws.specs.PartsStand.{AlikeImagesStand, PlansLeaveParts};
 ghost use Rattle.commit_laws.specs.PlanShown.{PlansShowInodes, PlansKeepShown};
 ghost use Rattle.commit_laws.specs.Ranked.{NodesAreBuiltByRank, NeedsAreThose};
 ghost use Rattle.commit_laws.specs.Rewritten.{SameRewritesTakeTheSame, PlansRewriteAsDefined, PlansNeedAsDefined};
@@ -121,4 +124,24 @@ pub fn plans_make_parts()
 /// No two fresh blocks are one, and none is one that a part points to.
 pub fn plans_write_apart()
     ensures { PlansWriteApart }
+{}
+
+/// The part of a file after a commit has the new bytes, and shows what the next image shows.
+pub fn plans_make_files()
+    ensures { PlansMakeFiles }
+{}
+
+/// The part of a directory after a commit has the new slots, and is what the disk then has of it in memory.
+pub fn plans_make_directories()
+    ensures { PlansMakeDirectories }
+{}
+
+/// An image that shows what another one shows stands for the same tree.
+pub fn alike_images_stand()
+    ensures { AlikeImagesStand }
+{}
+
+/// The parts after the commit of a plan stand for the new tree.
+pub fn plans_leave_parts()
+    ensures { PlansLeaveParts }
 {}

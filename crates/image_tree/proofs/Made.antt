@@ -19,22 +19,22 @@ use Rattle.image_tree.proofs.Elsewhere.{no_net}
 use Rattle.image_tree.proofs.Ranks.{pointer_has_block}
 
 -- the test of a node's number
-number_is : (num : Numbering) (i node : ℕ) → has_number num i node ≡ true → num node ≡ Some i
+pub number_is : (num : Numbering) (i node : ℕ) → has_number num i node ≡ true → num node ≡ Some i
 number_is num i node e = by_number (num node) e
   where
     by_number : (o : Option ℕ) → option_map_or (λ j. nat_eq j i) o false ≡ true → o ≡ Some i
     by_number (Some j) e = ap Some (eqb-true _ _ e)
     by_number None e = absurd (not_both e refl)
 
-is_number : (num : Numbering) (i node : ℕ) → num node ≡ Some i → has_number num i node ≡ true
+pub is_number : (num : Numbering) (i node : ℕ) → num node ≡ Some i → has_number num i node ≡ true
 is_number num i node e = ap (λ (o : Option ℕ). option_map_or (λ j. nat_eq j i) o false) e ∙ same_number i
 
 -- a node of a list that passes a test
-record Passes (p : ℕ → Bool) (nodes : List ℕ) (node : ℕ) : Type 0 where
-  listed : list_any (λ other. nat_eq other node) nodes ≡ true
-  passes : p node ≡ true
+pub record Passes (p : ℕ → Bool) (nodes : List ℕ) (node : ℕ) : Type 0 where
+  pub listed : list_any (λ other. nat_eq other node) nodes ≡ true
+  pub passes : p node ≡ true
 
-found_listed : (p : ℕ → Bool) (nodes : List ℕ) (node : ℕ) → find p nodes ≡ Some node → Passes p nodes node
+pub found_listed : (p : ℕ → Bool) (nodes : List ℕ) (node : ℕ) → find p nodes ≡ Some node → Passes p nodes node
 found_listed p [] node e = absurd (none_some e)
 found_listed p (x ∷ nodes) node e = elim (p x) as (λ b. p x ≡ b → cond b (Some x) (find p nodes) ≡ Some node → Passes p (x ∷ nodes) node) [
   | true ↦ λ t f.
@@ -45,7 +45,7 @@ found_listed p (x ∷ nodes) node e = elim (p x) as (λ b. p x ≡ b → cond b 
       record { listed = ap (λ b. nat_eq x node || b) rest.listed ∙ or_true (nat_eq x node); passes = rest.passes }
 ] refl e
 
-any_listed : (p : ℕ → Bool) (nodes : List ℕ) → list_any p nodes ≡ true → (node : ℕ) × Passes p nodes node
+pub any_listed : (p : ℕ → Bool) (nodes : List ℕ) → list_any p nodes ≡ true → (node : ℕ) × Passes p nodes node
 any_listed p [] e = absurd (not_both e refl)
 any_listed p (x ∷ nodes) e = elim (p x) as (λ b. p x ≡ b → (b || list_any p nodes) ≡ true → (node : ℕ) × Passes p (x ∷ nodes) node) [
   | true ↦ λ t _. (x, record { listed = ap (λ b. b || list_any (λ other. nat_eq other x) nodes) (same_number x); passes = t })
@@ -55,7 +55,7 @@ any_listed p (x ∷ nodes) e = elim (p x) as (λ b. p x ≡ b → (b || list_any
 ] refl e
 
 -- a listed node that passes is found, or another one, and some node passes
-listed_found : (p : ℕ → Bool) (nodes : List ℕ) (node : ℕ) → list_any (λ other. nat_eq other node) nodes ≡ true → p node ≡ true → list_any p nodes ≡ true
+pub listed_found : (p : ℕ → Bool) (nodes : List ℕ) (node : ℕ) → list_any (λ other. nat_eq other node) nodes ≡ true → p node ≡ true → list_any p nodes ≡ true
 listed_found p [] node listed passes = listed
 listed_found p (x ∷ nodes) node listed passes = elim (nat_eq x node) as (λ b. nat_eq x node ≡ b → (b || list_any (λ other. nat_eq other node) nodes) ≡ true → (p x || list_any p nodes) ≡ true) [
   | true ↦ λ t _. ap (λ b. b || list_any p nodes) (ap p (eqb-true _ _ t) ∙ passes)
