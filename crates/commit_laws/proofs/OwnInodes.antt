@@ -75,7 +75,7 @@ mapped_is_in f (x ∷ xs) y (zero, within, is) = (x, first_in x xs, is)
 mapped_is_in f (x ∷ xs) y (suc k, within, is) = let rest = mapped_is_in f xs y (k, omega arith, is) in (rest.0, further_in x rest.0 xs rest.1, rest.2)
 
 -- a record that is written is that of its number
-written_number : (change : RecordChange) (one : TxRecord) → record_written change ≡ Some one → change.number ≡ one.inode
+pub written_number : (change : RecordChange) (one : TxRecord) → record_written change ≡ Some one → change.number ≡ one.inode
 written_number change one e = elim (cases_Bool (same_inode change.before change.after)) [
   | inl t ↦ absurd (none_some (sym (cond-true (same_inode change.before change.after) None _ t) ∙ e))
   | inr f ↦ ap record_inode (some_same (sym (cond-false (same_inode change.before change.after) None _ f) ∙ e))

@@ -86,9 +86,10 @@ unfolding part_of
 read_inode store inode is = inode_of-inode_bytes inode is
 
 module _ (store : ℕ → List ℕ) (raw : List ℕ) where
-  unfolding_lengths : (length (part_of store raw).tables ≡ 16) × (length (part_of store raw).blocks ≡ FILE_BLOCKS)
+  -- how much a part has that is gathered
+  pub lengths : (length (part_of store raw).tables ≡ 16) × (length (part_of store raw).blocks ≡ FILE_BLOCKS)
   unfolding part_of
-  unfolding_lengths = (length-map (inode_of raw).indirect (read_block store) ∙ length-u32s_at 448 16 raw, length-tabulate FILE_BLOCKS _)
+  lengths = (length-map (inode_of raw).indirect (read_block store) ∙ length-u32s_at 448 16 raw, length-tabulate FILE_BLOCKS _)
 
   -- a part that is gathered stands in its store
   pub gathered_itself : IsGathered store (part_of store raw)
@@ -159,7 +160,7 @@ module _ (num : Numbering) (concerned : List ℕ) (old new : TreeState) (image :
       by (Some j) e = ap (λ (o : Option ℕ). (option_map_or image.seen o blank).blocks place) (e ∙ ap Some (seen_old j e)) ∙ ap (λ (s : Seen). s.blocks place) (is.standing.shown i within)
 
   -- a block afterwards is one of the grant, or stood at its place
-  granted_or_old : (place : ℕ) → place < PLACES → (next.seen i).blocks place ≢ 0 → Contains grant.blocks ((next.seen i).blocks place) ⊎ ((next.seen i).blocks place ≡ pointer_at (parts i) place)
+  pub granted_or_old : (place : ℕ) → place < PLACES → (next.seen i).blocks place ≢ 0 → Contains grant.blocks ((next.seen i).blocks place) ⊎ ((next.seen i).blocks place ≡ pointer_at (parts i) place)
   granted_or_old place low some = by ((step num concerned old new image plan grant is.full).commits.blocks.has node.of.begun.node i place low node.of.number node.of.among)
     where
       granted_one : (o : Option ℕ) → place_among (inodes_built change grant) i ≡ o → commit.fresh i place ≢ 0 → Contains grant.blocks (commit.fresh i place)
@@ -459,8 +460,8 @@ module _ (num : Numbering) (concerned : List ℕ) (old new : TreeState) (image :
     inode = inode_is;
     tables = tables_kept_are;
     made = subst (λ n. IsMadeOf fresh (parts n) after) (sym node.inode) (record {
-      tables = (unfolding_lengths over (inode_bytes one.meta)).0;
-      blocks = (unfolding_lengths over (inode_bytes one.meta)).1;
+      tables = (lengths over (inode_bytes one.meta)).0;
+      blocks = (lengths over (inode_bytes one.meta)).1;
       comes = comes;
     });
   }

@@ -83,7 +83,7 @@ alike_images_stand num tree image other alike stands = record {
     }
 
 -- a free part shows nothing
-free_fits : IsInode free_inode
+pub free_fits : IsInode free_inode
 free_fits = record {
   kind = omega arith;
   links = omega arith;
