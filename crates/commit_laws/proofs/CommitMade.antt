@@ -1,5 +1,5 @@
 -- A change with a grant is a commit.
-use Rattle.std.proofs.Common.{◌≡◌, ℕ, zero, suc, ◌+◌, ◌<◌, ◌≤◌, Bool, true, false, cond, ◌&&◌, List, [], ◌∷◌, length, map, drop, Option, Some, None, option_map, inl, inr, refl, sym, ap, subst, ◌∙◌, arith, nat_lt, nat_eq}
+use Rattle.std.proofs.Common.{◌≡◌, ℕ, zero, suc, ◌<◌, true, false, ◌&&◌, List, [], ◌∷◌, length, map, drop, Option, Some, None, option_map, inl, inr, refl, sym, ap, subst, ◌∙◌, arith, nat_lt, nat_eq}
 use Rattle.std.specs.Prelude.{slice_get, ◌⊎◌}
 use Rattle.std.specs.Option.{option_map_or, unwrap_or}
 use Rattle.std.proofs.lemmas.Bool.{cond-true, cond-false, cases_Bool, lt-ltb}
@@ -10,9 +10,9 @@ use Rattle.sfs_base.proofs.BasicNumbers.{same_number}
 use Rattle.sfs_base.proofs.BasicOptions.{none_some, some_not_none, some_same}
 use Rattle.sfs_base.proofs.BasicTruth.{and_first, and_second, false_not_true}
 use Rattle.sfs_tree.specs.Tree.{TreeState, names_of}
-use Rattle.sfs_image.specs.Seen.{Seen, SeenInodes, PLACES}
+use Rattle.sfs_image.specs.Seen.{SeenInodes, PLACES}
 use Rattle.absorb.specs.Net.{IsNet}
-use Rattle.image_tree.specs.Commit.{Commit, TakesBlocks, IsCommit, blank, seen_before}
+use Rattle.image_tree.specs.Commit.{Commit, TakesBlocks, blank, seen_before}
 use Rattle.image_tree.specs.Made.{IsMadeFrom}
 use Rattle.image_tree.specs.Need.{Rewrite, takes_place, takes_in_row, place_in_row, granted_block, pointer_after, GrantServes, IsListed, TakesByRank}
 use Rattle.image_tree.proofs.Made.{made_images_are_commits}
@@ -23,7 +23,7 @@ use Rattle.disk_change.specs.Built.{Built, rewrite_in}
 use Rattle.disk_change.specs.Planned.{Planned, blocks_taken}
 use Rattle.disk_change.specs.Seated.{CommitChanges, Seated}
 use Rattle.commit_laws.specs.Counting.{LeadTo}
-use Rattle.commit_laws.specs.CommitMade.{place_among, StandOnce, inodes_built, seated_nodes, rewrites_seated, takes_of_change, fresh_of_change, rewrite_still, rewrites_of_change, IsCommitOf, ChangesMakeCommits}
+use Rattle.commit_laws.specs.CommitMade.{place_among, StandOnce, inodes_built, seated_nodes, rewrites_seated, takes_of_change, rewrite_still, rewrites_of_change, IsCommitOf, ChangesMakeCommits}
 
 -- what stands at the place of a number is the number
 found_at : (numbers : List ℕ) (i k : ℕ) → place_among numbers i ≡ Some k → slice_get numbers k ≡ Some i

@@ -1,17 +1,15 @@
 -- Fresh blocks turn the parts before a commit into those after it.
-use Rattle.std.proofs.Common.{◌≡◌, ◌≢◌, ℕ, zero, suc, ◌<◌, ◌≤◌, Bool, true, false, cond, List, [], ◌∷◌, map, filter_map, Option, Some, None, option_map, inl, inr, refl, sym, ap, subst, ◌∙◌, arith, nat_eq, Contains}
-use Rattle.std.specs.Prelude.{◌⊎◌, slice_get}
+use Rattle.std.proofs.Common.{◌≡◌, ◌≢◌, ℕ, ◌<◌, ◌≤◌, Bool, true, false, cond, List, map, filter_map, Option, Some, None, inl, inr, refl, sym, ap, subst, ◌∙◌, nat_eq, Contains}
 use Rattle.std.specs.List.{find}
 use Rattle.std.specs.Option.{option_map_or}
 use borrow.Author.Tests.{eqb-true}
 use Rattle.std.proofs.lemmas.Bool.{cond-true, cond-false, cases_Bool, cases_lt}
 use Rattle.std.proofs.lemmas.List.Elements.{Contains-append_cases}
 use Rattle.sfs_base.proofs.BasicOptions.{none_some, some_same}
-use Rattle.sfs_image.specs.Bytes.{zeros}
 use Rattle.sfs_image.specs.ImageOf.{FreshBlock, ComesFrom, IsMadeOf, TurnsInto, PointsToData}
 use Rattle.sfs_image.specs.ImageOf.ComesFrom.{hole}
 use Rattle.sfs_image.specs.Inode.{Inode, inode_bytes}
-use Rattle.sfs_image.specs.Part.{Part, part_of, pointer_at, content_at, read_block}
+use Rattle.sfs_image.specs.Part.{Part, part_of, pointer_at, content_at}
 use Rattle.sfs_image.specs.Seen.{SeenInodes, PLACES}
 use Rattle.sfs_image.specs.Super.{Layout, data_start}
 use Rattle.sfs_image.proofs.Basics.{found_passes}
