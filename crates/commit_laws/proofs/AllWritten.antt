@@ -1,5 +1,5 @@
 -- The fresh blocks that a commit writes are exactly those of its grant, in their order.
-use Rattle.std.proofs.Common.{◌≡◌, ◌≢◌, ℕ, zero, suc, ◌+◌, ◌-◌, ◌<◌, ◌≤◌, Bool, true, false, cond, not, ◌&&◌, ◌||◌, List, [], ◌∷◌, ◌++◌, length, get_or, map, take, drop, filter_map, Option, Some, None, is_some, inl, inr, refl, sym, ap, subst, ◌∙◌, arith, nat_lt, nat_eq, sum_by, count_by, Contains}
+use Rattle.std.proofs.Common.{◌≡◌, ◌≢◌, ℕ, zero, suc, ◌+◌, ◌-◌, ◌<◌, ◌≤◌, true, false, cond, not, ◌&&◌, ◌||◌, List, [], ◌∷◌, ◌++◌, length, get_or, map, take, drop, filter_map, Option, Some, None, is_some, inl, inr, refl, sym, ap, subst, ◌∙◌, arith, nat_lt, nat_eq, sum_by, count_by}
 use Rattle.std.specs.Prelude.{◌⊎◌, nat_le, slice_get, slice_index, option_to_list}
 use Rattle.std.specs.List.{flat_map, range_with_len, find}
 use Rattle.std.specs.Option.{unwrap_or, option_map_or}
@@ -18,8 +18,8 @@ use Rattle.sfs_image.proofs.Basics.{get_or-tabulate}
 use Rattle.sfs_tree.proofs.Joined.{count-cons}
 use Rattle.fmt_journal.specs.declared.tx.TxBlock.{TxBlock}
 use Rattle.absorb.specs.declared.nets.NetRow.{NetRow}
-use Rattle.image_tree.specs.Need.{Rewrite, takes_place, pointer_after, rank, rewrites_table, table_has_pointer}
-use Rattle.block_map.specs.Changed.{change_of, AscendByBlock}
+use Rattle.image_tree.specs.Need.{Rewrite, takes_place, rank, rewrites_table, table_has_pointer}
+use Rattle.block_map.specs.Changed.{AscendByBlock}
 use Rattle.block_map.specs.Kept.{pointer_kept}
 use Rattle.block_map.specs.Remap.{takes_fresh, fresh_for, fresh_by_fate, table_fate}
 use Rattle.block_map.specs.declared.changed.ChangedBlock.{ChangedBlock}
@@ -31,10 +31,9 @@ use Rattle.block_map.proofs.Left.{remapped_pointers_stand}
 use Rattle.block_map.proofs.Places.{own_place, one_more_given, one_more_none}
 use Rattle.image_tree.proofs.Places.{le_true}
 use Rattle.image_tree.proofs.Ranks.{rank_up}
-use Rattle.space_map.specs.Space.{GrantedNumbers}
 use Rattle.disk_change.specs.AllBuilt.{nodes_built, built_by, fresh_of_node, pages_of_node, numbers_with}
 use Rattle.disk_change.specs.Built.{Built, built, rewrite_in}
-use Rattle.disk_change.specs.Fresh.{data_written, table_of_place, table_at, indirect_block_written, fresh_written, content_of, zero_bytes}
+use Rattle.disk_change.specs.Fresh.{data_written, table_of_place, indirect_block_written, fresh_written, content_of, zero_bytes}
 use Rattle.disk_change.specs.Planned.{blocks_taken}
 use Rattle.disk_change.specs.Seated.{CommitChanges, Seated, net_of_node}
 use Rattle.disk_change.specs.declared.files.FileChange.{FileChange}

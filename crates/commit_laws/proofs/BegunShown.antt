@@ -1,12 +1,12 @@
 -- Each node of a plan begins with what its inode shows, and the plan leads it to the new tree.
-use Rattle.std.proofs.Common.{◌≡◌, ◌≢◌, ℕ, ◌+◌, ◌*◌, ◌/◌, ◌<◌, ◌≤◌, Bool, true, false, cond, not, ◌&&◌, List, [], ◌∷◌, length, map, Option, Some, None, option_map, inl, inr, refl, sym, ap, subst, ◌∙◌, arith, nat_eq, Contains, count_by}
-use Rattle.std.specs.Prelude.{◌⊎◌, slice_get}
-use Rattle.std.specs.FinMap.{get, entries}
+use Rattle.std.proofs.Common.{◌≡◌, ℕ, ◌+◌, ◌*◌, ◌/◌, ◌≤◌, true, cond, not, ◌&&◌, List, [], length, Option, Some, None, inl, inr, refl, sym, ap, subst, ◌∙◌, arith, nat_eq, Contains, count_by}
+use Rattle.std.specs.Prelude.{slice_get}
+use Rattle.std.specs.FinMap.{entries}
 use Rattle.std.specs.Option.{option_map_or}
 use borrow.Author.Tests.{eqb-true}
 use Rattle.std.proofs.lemmas.Bool.{cases_Bool}
 use Rattle.sfs_base.proofs.BasicNumbers.{not_same}
-use Rattle.sfs_base.proofs.BasicOptions.{none_some, some_same}
+use Rattle.sfs_base.proofs.BasicOptions.{none_some}
 use Rattle.sfs_base.proofs.BasicTruth.{true_not_false, not_true}
 use Rattle.sfs_base.specs.declared.numbers.Kind.{Kind}
 use Rattle.sfs_base.specs.declared.numbers.Kind.TheVariants.{File, Directory}
@@ -14,13 +14,11 @@ use Rattle.sfs_image.proofs.Basics.{found_passes}
 use Rattle.sfs_image.specs.Rules.{DIRECTORY_BLOCKS}
 use Rattle.sfs_image.specs.Seen.{Seen, SeenInodes}
 use Rattle.sfs_image.specs.Slot.{kind_byte, kind_of as kind_at}
-use Rattle.sfs_tree.specs.Order.{Key}
 use Rattle.sfs_tree.specs.Tree.{TreeState, row_of, kind_of, bytes_of, links_of, is_directory, is_directory_kind, count_of, names_it, holds_directory}
 use Rattle.sfs_tree.proofs.Counting.{count_none}
 use Rattle.sfs_tree.proofs.Readings.{directory_by_kind}
-use Rattle.absorb.specs.declared.nets.NetRow.{NetRow}
 use Rattle.image_tree.specs.Commit.{Commit, blank, seen_before, slots_after, IsCommitStep}
-use Rattle.image_tree.specs.Made.{image_made, seen_built, IsMadeFrom}
+use Rattle.image_tree.specs.Made.{IsMadeFrom}
 use Rattle.image_tree.specs.Renamed.{Numbering}
 use Rattle.image_tree.specs.Slots.{blocks_up_to_last}
 use Rattle.image_tree.specs.Stands.{ShowsNode}
@@ -28,23 +26,22 @@ use Rattle.image_tree.proofs.Committed.{number_within}
 use Rattle.image_tree.proofs.Images.{kind_again}
 use Rattle.image_tree.proofs.Made.{built_seen}
 use Rattle.image_tree.proofs.Sizes.{commits_keep_directories_fit}
-use Rattle.image_tree.proofs.Standing.{holder_number, byte_directory}
+use Rattle.image_tree.proofs.Standing.{holder_number}
 use Rattle.space_map.specs.Space.{GrantedNumbers}
 use Rattle.disk_change.specs.AllBuilt.{numbers_with}
-use Rattle.disk_change.specs.Built.{rewrite_in}
 use Rattle.disk_change.specs.Directory.{is_among}
 use Rattle.disk_change.specs.Lists.{item_with}
 use Rattle.disk_change.specs.Nodes.{net_node, file_node}
-use Rattle.disk_change.specs.Planned.{Planned, leaves, staying, seated_old, seated_entering}
-use Rattle.disk_change.specs.Seated.{CommitChanges, Begun, Seated, seated, begun_old, begun_entering, first_links, net_of_node}
+use Rattle.disk_change.specs.Planned.{Planned, leaves, staying}
+use Rattle.disk_change.specs.Seated.{Begun, Seated, seated, begun_old, begun_entering, first_links, net_of_node}
 use Rattle.disk_change.specs.declared.directory_net.DirectoryNet.{DirectoryNet}
 use Rattle.disk_change.specs.declared.enter.Enter.{Enter}
 use Rattle.disk_change.specs.declared.files.FileChange.{FileChange}
 use Rattle.disk_change.specs.declared.old.OldEntry.{OldEntry}
 use Rattle.disk_change.proofs.NumbersGiven.{planned_node, unnumbered}
-use Rattle.commit_laws.specs.CommitMade.{IsCommitOf, inodes_built, rewrites_of_change}
-use Rattle.commit_laws.specs.CommitOfPlan.{CommitPlan, change_planned, numbers_planned, commit_of, image_planned, IsCommitPlan, CommitsPlan}
-use Rattle.commit_laws.specs.KnownKinds.{IsNetChild, NumbersChildren}
+use Rattle.commit_laws.specs.CommitMade.{rewrites_of_change}
+use Rattle.commit_laws.specs.CommitOfPlan.{CommitPlan, change_planned, commit_of, image_planned, IsCommitPlan, CommitsPlan}
+use Rattle.commit_laws.specs.KnownKinds.{NumbersChildren}
 use Rattle.commit_laws.specs.KeptShown.{KeepsSeen}
 use Rattle.commit_laws.specs.NumbersGiven.{node_leaves, NumbersAreThose}
 use Rattle.commit_laws.specs.PlanShown.{IsFullPlan}

@@ -1,33 +1,28 @@
 -- What a plan makes is a commit.
-use Rattle.std.proofs.Common.{◌≡◌, ℕ, ◌-◌, ◌<◌, Bool, true, false, cond, List, map, replicate, Option, Some, None, option_map, inl, inr, refl, sym, ap, ◌∙◌, nat_lt, Contains}
-use Rattle.std.specs.Prelude.{slice_get, slice_index}
+use Rattle.std.proofs.Common.{◌≡◌, ℕ, ◌-◌, ◌<◌, Bool, true, false, cond, List, map, Option, Some, None, inl, inr, refl, sym, ap, ◌∙◌, nat_lt, Contains}
 use Rattle.std.specs.Option.{option_map_or}
 use Rattle.std.proofs.lemmas.Bool.{cases_Bool}
-use Rattle.std.proofs.lemmas.Option.{slice_get-map}
 use Rattle.sfs_base.proofs.BasicLists.{zeros_read}
-use Rattle.sfs_base.proofs.BasicOptions.{none_some}
 use Rattle.sfs_base.proofs.BasicTruth.{true_not_false}
 use Rattle.sfs_base.specs.declared.numbers.Kind.{Kind}
 use Rattle.sfs_base.specs.declared.numbers.Kind.TheVariants.{File, Directory}
-use Rattle.sfs_image.specs.Inode.{Inode}
 use Rattle.sfs_image.specs.Seen.{SeenInodes, FILE_BLOCKS, PLACES}
 use Rattle.sfs_tree.specs.Tree.{TreeState}
-use Rattle.image_tree.specs.Commit.{Commit, blank, seen_before, IsAside}
+use Rattle.image_tree.specs.Commit.{Commit, blank, seen_before}
 use Rattle.image_tree.specs.Numbers.{grant_for}
 use Rattle.image_tree.specs.Renamed.{Numbering}
 use Rattle.image_tree.proofs.Numbers.{granted}
 use Rattle.block_map.specs.Kept.{pointer_kept}
 use Rattle.space_map.specs.Space.{GrantedNumbers}
-use Rattle.disk_change.specs.Built.{Built, rewrite_in}
+use Rattle.disk_change.specs.Built.{rewrite_in}
 use Rattle.disk_change.specs.Directory.{is_among}
 use Rattle.disk_change.specs.Nodes.{enter_node}
-use Rattle.disk_change.specs.Planned.{Planned, seated_old, seated_entering}
-use Rattle.disk_change.specs.Seated.{CommitChanges, Begun, Seated, seated_as, begun_old, begun_entering, free_inode}
+use Rattle.disk_change.specs.Planned.{Planned}
+use Rattle.disk_change.specs.Seated.{CommitChanges, Begun, Seated, seated_as, begun_old, begun_entering}
 use Rattle.disk_change.specs.declared.enter.Enter.{Enter}
-use Rattle.disk_change.specs.declared.old.OldEntry.{OldEntry}
 use Rattle.disk_change.proofs.NumbersGiven.{planned_node}
-use Rattle.commit_laws.specs.CommitMade.{inodes_built, seated_nodes, IsCommitOf}
-use Rattle.commit_laws.specs.CommitOfPlan.{CommitPlan, change_planned, numbers_planned, commit_of, IsCommitPlan, PlansMakeCommits, PlansLeaveTrees}
+use Rattle.commit_laws.specs.CommitMade.{IsCommitOf}
+use Rattle.commit_laws.specs.CommitOfPlan.{CommitPlan, change_planned, commit_of, IsCommitPlan, PlansMakeCommits, PlansLeaveTrees}
 use Rattle.commit_laws.specs.NumbersGiven.{node_leaves}
 use Rattle.commit_laws.proofs.KnownDirectories.{directories_known}
 use Rattle.commit_laws.proofs.NumbersGiven.{kept_in}

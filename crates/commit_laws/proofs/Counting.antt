@@ -1,5 +1,5 @@
 -- The rows of nets give the link counts of the tree after them.
-use Rattle.std.proofs.Common.{◌≡◌, ℕ, zero, suc, ◌+◌, ◌-◌, ◌<◌, ◌^◌, min, Bool, true, false, cond, ◌&&◌, List, [], ◌∷◌, ◌++◌, length, get_or, map, filter_map, Option, Some, None, inl, inr, refl, sym, ap, subst, ◌∙◌, arith, nat_eq, sum_by, count_by, Contains}
+use Rattle.std.proofs.Common.{◌≡◌, ℕ, ◌+◌, ◌-◌, ◌<◌, ◌^◌, min, Bool, true, false, cond, ◌&&◌, List, [], ◌∷◌, ◌++◌, map, filter_map, Option, Some, None, inl, inr, refl, sym, ap, ◌∙◌, arith, nat_eq, sum_by, Contains}
 use Rattle.std.specs.Prelude.{option_to_list}
 use Rattle.std.specs.List.{flat_map, cons_option}
 use Rattle.std.specs.Option.{option_map_or}
@@ -16,15 +16,14 @@ use Rattle.absorb.specs.declared.nets.NetRow.{NetRow}
 use Rattle.image_tree.specs.LinkChanges.{NetChange, net_changes, counted_row, gained, lost, linking}
 use Rattle.image_tree.proofs.LinkChanges.{nets_give_links}
 use Rattle.disk_change.specs.Directory.{is_among}
-use Rattle.disk_change.specs.Links.{linked, linked_by, rows_coming, rows_going, times_in, links_with, links_by_nets}
+use Rattle.disk_change.specs.Links.{linked, linked_by, rows_coming, rows_going, times_in, links_with}
 use Rattle.disk_change.specs.Lists.{AscendBy, item_with}
 use Rattle.disk_change.specs.Nodes.{net_node}
 use Rattle.disk_change.specs.Seated.{net_of_node}
 use Rattle.disk_change.specs.declared.directory_net.DirectoryNet.{DirectoryNet}
 use Rattle.disk_change.proofs.Keyed.{item_at}
 use Rattle.disk_change.proofs.NumbersGiven.{first_in, further_in}
-use Rattle.commit_laws.specs.KnownKinds.{IsNetChild, KnowsChildren, KnowsDirectories}
-use Rattle.commit_laws.specs.Counting.{LeadTo, NetsCountLinks}
+use Rattle.commit_laws.specs.Counting.{NetsCountLinks}
 
 module _ (tree : TreeState) (directories : List ℕ) (node : ℕ) where
   abbrev times : List ℕ → ℕ

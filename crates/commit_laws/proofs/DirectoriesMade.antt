@@ -1,24 +1,21 @@
 -- The part of a directory after a commit has the new slots in its blocks.
-use Rattle.std.proofs.Common.{◌≡◌, ◌≢◌, ℕ, zero, suc, ◌+◌, ◌*◌, ◌/◌, ◌<◌, ◌≤◌, Bool, true, false, cond, ◌&&◌, List, [], ◌∷◌, length, get_or, map, take, Option, Some, None, is_none, is_some, option_map, inl, inr, refl, sym, ap, subst, ◌∙◌, arith, nat_eq, Contains}
+use Rattle.std.proofs.Common.{◌≡◌, ℕ, suc, ◌*◌, ◌/◌, ◌<◌, ◌≤◌, Bool, true, false, cond, ◌&&◌, List, [], ◌∷◌, length, get_or, map, take, Option, Some, None, is_none, is_some, inl, inr, refl, sym, ap, subst, ◌∙◌, arith, nat_eq, Contains}
 use Rattle.std.specs.Prelude.{◌⊎◌, slice_get, slice_index_or}
 use Rattle.std.specs.List.{list_all, flat_map}
 use Rattle.std.specs.Option.{option_map_or, unwrap_or}
-use borrow.Author.Tests.{eq-eqb, eqb-true}
+use borrow.Author.Tests.{eq-eqb}
 use Rattle.std.proofs.Math.Nat.{min-eq_left}
-use Rattle.std.proofs.lemmas.Bool.{cond-true, cond-false, cases_Bool, cases_lt}
-use Rattle.std.proofs.lemmas.List.{ext_get_or, get_or-map, get_or-take, get_or_past, get_or_default, length-map, length-take, length-take-le}
+use Rattle.std.proofs.lemmas.Bool.{cond-true, cases_Bool, cases_lt}
+use Rattle.std.proofs.lemmas.List.{ext_get_or, get_or-map, get_or-take, get_or_past, length-map, length-take, length-take-le}
 use Rattle.std.proofs.lemmas.Option.{slice_get-get_or}
-use Rattle.sfs_base.proofs.BasicOptions.{none_some, some_same}
-use Rattle.sfs_base.proofs.BasicTruth.{and_first, false_not_true}
-use Rattle.sfs_base.specs.declared.numbers.Kind.{Kind}
-use Rattle.sfs_base.specs.declared.numbers.Kind.TheVariants.{File, Directory}
+use Rattle.sfs_base.proofs.BasicTruth.{false_not_true}
+use Rattle.sfs_base.specs.declared.numbers.Kind.TheVariants.{Directory}
 use Rattle.absorb.specs.declared.nets.NetRow.{NetRow}
-use Rattle.sfs_image.specs.Bytes.{zeros}
 use Rattle.sfs_image.specs.Inode.{Inode}
 use Rattle.sfs_image.specs.Part.{Part, directory_blocks, is_directory_part, read_block, inode_in, seen_of, file_byte, tabulate}
 use Rattle.sfs_image.specs.Rules.{DIRECTORY_BLOCKS}
-use Rattle.sfs_image.specs.Seen.{Seen, SeenInodes, PLACES, FILE_BLOCKS}
-use Rattle.sfs_image.specs.Slot.{Row, kind_byte}
+use Rattle.sfs_image.specs.Seen.{Seen, SeenInodes, FILE_BLOCKS}
+use Rattle.sfs_image.specs.Slot.{kind_byte}
 use Rattle.sfs_image.specs.SlotBlock.{slots_of, slots_bytes}
 use Rattle.sfs_image.proofs.PartLaws.{hole_is_read}
 use Rattle.sfs_image.proofs.SlotBlockLaws.{slots_of-slots_bytes}
@@ -31,29 +28,26 @@ use Rattle.image_tree.specs.Stands.{ShowsNode}
 use Rattle.image_tree.proofs.BlockRows.{empty_blocks_are_holes}
 use Rattle.image_tree.proofs.Places.{blocks_are_kept_or_rewritten}
 use Rattle.block_map.specs.Changed.{change_of}
-use Rattle.block_map.specs.Kept.{kept_of, kept_tables, kept_slots}
 use Rattle.block_map.specs.declared.changed.ChangedBlock.{ChangedBlock}
 use Rattle.space_map.specs.Space.{GrantedNumbers}
-use Rattle.disk_change.specs.AllBuilt.{numbers_with, nodes_with_grant, pages_of_node, entry_after}
+use Rattle.disk_change.specs.AllBuilt.{numbers_with, nodes_with_grant}
 use Rattle.disk_change.specs.Built.{Built, built, rewrite_in}
 use Rattle.disk_change.specs.Directory.{empty_block, slot_blocks_after}
-use Rattle.disk_change.specs.Fresh.{content_of, zero_bytes}
+use Rattle.disk_change.specs.Fresh.{zero_bytes}
 use Rattle.disk_change.specs.Numbered.{block_numbered}
 use Rattle.disk_change.specs.Planned.{Planned}
 use Rattle.disk_change.specs.Seat.{has_no_row, blocks_to_last_row}
-use Rattle.disk_change.specs.Seated.{CommitChanges, Begun, Seated, seated_as, net_of_node, size_of_blocks}
-use Rattle.disk_change.specs.declared.pages.Page.{Page}
+use Rattle.disk_change.specs.Seated.{Begun, Seated, seated_as, net_of_node, size_of_blocks}
 use Rattle.commit_laws.specs.CommitOfPlan.{CommitPlan, change_planned, commit_of, image_planned, IsCommitPlan}
 use Rattle.commit_laws.specs.DirectoriesMade.{HasSlotContents, IsKeptMade, PlansMakeDirectories}
 use Rattle.commit_laws.specs.PartsMade.{store_over, blocks_planned, part_made, IsPlanOverParts}
 use Rattle.commit_laws.specs.Ranked.{fresh_cut}
 use Rattle.commit_laws.specs.Rewritten.{IsWrittenPlan, SayTheSame}
 use Rattle.commit_laws.specs.SlotsKept.{slots_joined}
-use Rattle.commit_laws.proofs.BegunShown.{IsSeatOf, made}
 use Rattle.commit_laws.proofs.BlocksRead.{seat_node, node_is, content_is, block_is, old_read, zero_read, data_read}
-use Rattle.commit_laws.proofs.JoinedSlots.{Slots, AreLong, long_blocks, length_joined}
+use Rattle.commit_laws.proofs.JoinedSlots.{Slots, long_blocks, length_joined}
 use Rattle.commit_laws.proofs.KeptShown.{joined_slots, slot_blocks}
-use Rattle.commit_laws.proofs.PartsMade.{within, shows_node, pointer_after_is, part_is_made}
+use Rattle.commit_laws.proofs.PartsMade.{shows_node, pointer_after_is, part_is_made}
 use Rattle.commit_laws.proofs.PlanShown.{IsBuiltNode, node_built}
 use Rattle.commit_laws.proofs.RewrittenAsDefined.{new_block, old_block, end, directory_says}
 use Rattle.commit_laws.proofs.SeatsOfPlan.{there_is_in}

@@ -1,74 +1,55 @@
 -- The part of a file after a commit has the new bytes in its blocks.
-use Rattle.std.proofs.Common.{◌≡◌, ◌≢◌, ℕ, zero, suc, ◌+◌, ◌*◌, ◌/◌, ◌%◌, ◌<◌, ◌≤◌, Bool, true, false, cond, List, [], ◌∷◌, ◌++◌, length, get_or, map, take, drop, replicate, filter_map, Option, Some, None, is_none, is_some, option_map, inl, inr, refl, sym, ap, subst, ◌∙◌, arith, nat_lt, nat_eq, Contains}
-use Rattle.std.specs.Prelude.{◌⊎◌, slice_get, slice_index, slice_index_or}
-use Rattle.std.specs.List.{find, flat_map, range_with_len}
+use Rattle.std.proofs.Common.{◌≡◌, ℕ, zero, suc, ◌+◌, ◌*◌, ◌/◌, ◌%◌, ◌<◌, true, false, cond, List, [], ◌∷◌, ◌++◌, length, map, take, drop, Option, Some, None, is_none, is_some, option_map, inl, inr, refl, sym, ap, subst, ◌∙◌, arith, nat_eq, Contains}
+use Rattle.std.specs.Prelude.{◌⊎◌, slice_index, slice_index_or}
+use Rattle.std.specs.List.{flat_map}
 use Rattle.std.specs.Option.{option_map_or, unwrap_or}
-use borrow.Author.Tests.{eqb-true, eq-eqb}
-use Rattle.std.proofs.lemmas.Bool.{cond-true, cond-false, cases_Bool, eqb-false, lt-ltb}
+use Rattle.std.proofs.lemmas.Bool.{cond-false, cases_Bool}
 use Rattle.std.proofs.lemmas.List.{get_or-take, get_or-drop, get_or_past, take_all, length-append, length-take-le}
-use Rattle.std.proofs.lemmas.List.Elements.{Contains-append_left}
 use Rattle.sfs_base.proofs.BasicLists.{zeros_read}
-use Rattle.sfs_base.proofs.BasicOptions.{none_some, some_same, some_not_none}
-use Rattle.sfs_base.specs.declared.numbers.Kind.{Kind}
-use Rattle.sfs_base.specs.declared.numbers.Kind.TheVariants.{File, Directory}
+use Rattle.sfs_base.proofs.BasicOptions.{none_some}
+use Rattle.sfs_base.specs.declared.numbers.Kind.TheVariants.{File}
 use Rattle.absorb.specs.declared.nets.NetRow.{NetRow}
-use Rattle.sfs_image.specs.Bytes.{zeros, part, nonzero_in}
+use Rattle.sfs_image.specs.Bytes.{zeros, nonzero_in}
 use Rattle.sfs_image.specs.ImageOf.{FreshBlock}
-use Rattle.sfs_image.specs.Inode.{Inode, inode_bytes}
-use Rattle.sfs_image.specs.Part.{Part, directory_blocks, read_block, pointer_at, content_at, inode_in, file_byte, seen_of}
-use Rattle.sfs_image.specs.Seen.{Seen, SeenInodes, PLACES, FILE_BLOCKS}
+use Rattle.sfs_image.specs.Inode.{Inode}
+use Rattle.sfs_image.specs.Part.{Part, directory_blocks, read_block, inode_in, file_byte}
+use Rattle.sfs_image.specs.Seen.{Seen, SeenInodes, FILE_BLOCKS}
 use Rattle.sfs_image.specs.Slot.{kind_byte}
 use Rattle.sfs_image.specs.SlotBlock.{slots_of}
-use Rattle.sfs_image.proofs.Basics.{found_passes}
 use Rattle.sfs_image.proofs.BytesLaws.{zeros-is, length-zeros, part_from_none}
-use Rattle.sfs_image.proofs.MadeLaws.{gathered_is_read}
-use Rattle.sfs_image.proofs.PartLaws.{hole_is_read, block_behind}
+use Rattle.sfs_image.proofs.PartLaws.{hole_is_read}
 use Rattle.sfs_tree.specs.Tree.{TreeState, kind_of, bytes_of}
-use Rattle.fmt_journal.specs.declared.tx.TxBlock.{TxBlock}
 use Rattle.image_tree.specs.Commit.{Commit, blank, seen_before}
-use Rattle.image_tree.specs.ImageTree.{shows_directory}
-use Rattle.image_tree.specs.Need.{Rewrite}
 use Rattle.image_tree.specs.Renamed.{Numbering}
 use Rattle.image_tree.proofs.BlockRows.{byte_blocks_show}
-use Rattle.journal_one.specs.Packed.{block_of}
-use Rattle.block_map.specs.Changed.{change_of, AscendByBlock}
-use Rattle.block_map.specs.Kept.{pointer_kept}
-use Rattle.block_map.specs.Remap.{fresh_for}
-use Rattle.block_map.specs.declared.changed.ChangedBlock.{ChangedBlock}
-use Rattle.block_map.proofs.Left.{remapped_pointers_stand}
+use Rattle.block_map.specs.Changed.{change_of}
 use Rattle.space_map.specs.Space.{GrantedNumbers}
-use Rattle.disk_change.specs.AllBuilt.{numbers_with, built_by, nodes_with_grant, fresh_of_node, fresh_of_commit, pages_of_node}
-use Rattle.disk_change.specs.Built.{Built, built, rewrite_in}
-use Rattle.disk_change.specs.Fresh.{data_written, table_of_place, content_of, zero_bytes}
+use Rattle.disk_change.specs.AllBuilt.{numbers_with, nodes_with_grant, pages_of_node}
+use Rattle.disk_change.specs.Built.{Built, built}
+use Rattle.disk_change.specs.Fresh.{content_of, zero_bytes}
 use Rattle.disk_change.specs.Lists.{item_with}
 use Rattle.disk_change.specs.Nodes.{file_node}
 use Rattle.disk_change.specs.Numbered.{block_numbered}
 use Rattle.disk_change.specs.Pages.{page_block}
-use Rattle.disk_change.specs.Planned.{Planned, blocks_taken, staying, leaves, seated_old, seated_entering}
-use Rattle.disk_change.specs.Seat.{page_said, file_changed}
-use Rattle.disk_change.specs.Seated.{CommitChanges, Begun, Seated, seated, seated_as, begun_old, begun_entering, net_of_node}
-use Rattle.disk_change.specs.declared.enter.Enter.{Enter}
-use Rattle.disk_change.specs.declared.old.OldEntry.{OldEntry}
+use Rattle.disk_change.specs.Planned.{Planned}
+use Rattle.disk_change.specs.Seat.{page_said}
+use Rattle.disk_change.specs.Seated.{Begun, Seated, seated_as, begun_old, begun_entering, net_of_node}
 use Rattle.disk_change.specs.declared.pages.Page.{Page}
 use Rattle.disk_change.proofs.Blocks.{drop_none}
 use Rattle.disk_change.proofs.NumbersGiven.{planned_node, drop_zero}
 use Rattle.commit_laws.specs.CommitOfPlan.{CommitPlan, change_planned, commit_of, image_planned, IsCommitPlan}
-use Rattle.commit_laws.specs.FilesMade.{ShowTheSame, HasBytesInBlocks, HasFileBlocks, IsFileMade, PlansMakeFiles}
+use Rattle.commit_laws.specs.FilesMade.{HasBytesInBlocks, HasFileBlocks, IsFileMade, PlansMakeFiles}
 use Rattle.commit_laws.specs.PartsMade.{store_over, blocks_planned, part_made, IsPlanOverParts}
 use Rattle.commit_laws.specs.Ranked.{fresh_cut}
-use Rattle.commit_laws.specs.Rewritten.{bytes_in_block, has_page}
+use Rattle.commit_laws.specs.Rewritten.{bytes_in_block}
 use Rattle.commit_laws.specs.SlotsKept.{slots_joined}
-use Rattle.commit_laws.proofs.AllWritten.{IsCutFor, cut_of, data_given, written_data}
-use Rattle.commit_laws.proofs.BegunShown.{IsSeatOf, made}
+use Rattle.commit_laws.proofs.BegunShown.{made}
 use Rattle.commit_laws.proofs.BlocksRead.{seat_node, node_is, content_is, block_is, old_read, zero_read, data_read}
-use Rattle.commit_laws.proofs.GrantWritten.{each_ascends, each_once, held_is_old, found_once, grant_for}
-use Rattle.commit_laws.proofs.KnownDirectories.{given_is_in}
 use Rattle.commit_laws.proofs.NumbersGiven.{kept_in}
-use Rattle.commit_laws.proofs.PartsMade.{gathered_itself, in_flat, within, seen_old, pointer_is, meta_is, tables_are, shows_node, over_fresh, over_old, pointer_after_is, part_is_made}
-use Rattle.commit_laws.proofs.PlanShown.{IsBuiltNode, node_built, built_plain}
+use Rattle.commit_laws.proofs.PartsMade.{shows_node, pointer_after_is, part_is_made}
+use Rattle.commit_laws.proofs.PlanShown.{IsBuiltNode, node_built}
 use Rattle.commit_laws.proofs.RewrittenBlocks.{change_said, page_bytes}
-use Rattle.commit_laws.proofs.SeatsOfPlan.{there_is_in, in_is_there, in_mapped, seat_comes}
-use Rattle.commit_laws.proofs.Shown.{found_is_in}
+use Rattle.commit_laws.proofs.SeatsOfPlan.{there_is_in, seat_comes}
 
 -- zeros behind bytes read as what is past their end
 zeros_past : (bytes : List ℕ) (m k : ℕ) → slice_index (bytes ++ zeros m) k ≡ slice_index bytes k

@@ -1,16 +1,16 @@
 -- A plan's grant is written whole: each fresh block stands under its own number.
-use Rattle.std.proofs.Common.{◌≡◌, ◌≢◌, ℕ, zero, suc, ◌+◌, ◌<◌, ◌≤◌, Bool, true, false, cond, List, [], ◌∷◌, length, get_or, map, filter_map, min, Option, Some, None, option_map, inl, inr, refl, sym, ap, subst, ◌∙◌, arith, nat_eq, All, Contains}
-use Rattle.std.specs.Prelude.{◌⊎◌, slice_get, slice_index}
+use Rattle.std.proofs.Common.{◌≡◌, ℕ, zero, suc, ◌+◌, ◌<◌, Bool, true, false, cond, List, [], ◌∷◌, length, get_or, map, filter_map, min, Option, Some, None, option_map, refl, sym, ap, subst, ◌∙◌, arith, nat_eq, All, Contains}
+use Rattle.std.specs.Prelude.{slice_get, slice_index}
 use Rattle.std.specs.List.{find, cons_option, range_with_len}
 use Rattle.std.specs.Option.{option_map_or}
 use borrow.Author.Tests.{eqb-true}
-use Rattle.std.proofs.lemmas.Bool.{cond-true, cond-false}
+use Rattle.std.proofs.lemmas.Bool.{cond-true}
 use Rattle.std.proofs.lemmas.List.{get_or-map, length-map}
 use Rattle.std.proofs.lemmas.List.Elements.{All-cons}
 use Rattle.std.proofs.lemmas.List.Kept.{AllPairs-cons}
 use Rattle.std.proofs.lemmas.Option.{slice_get-map, slice_get_within, get_or_from_slice_get}
-use Rattle.sfs_base.proofs.BasicNumbers.{same_number, not_same}
-use Rattle.sfs_base.proofs.BasicOptions.{none_some, some_same}
+use Rattle.sfs_base.proofs.BasicNumbers.{same_number}
+use Rattle.sfs_base.proofs.BasicOptions.{none_some}
 use Rattle.sfs_base.specs.declared.numbers.Kind.{Kind}
 use Rattle.sfs_base.specs.declared.numbers.Kind.TheVariants.{File, Directory}
 use Rattle.sfs_image.specs.ImageOf.{FreshBlock}
@@ -33,20 +33,19 @@ use Rattle.disk_change.specs.Nodes.{file_node}
 use Rattle.disk_change.specs.Pages.{page_block}
 use Rattle.disk_change.specs.Planned.{Planned}
 use Rattle.disk_change.specs.Seat.{block_said, page_said, file_changed}
-use Rattle.disk_change.specs.Seated.{CommitChanges, Begun, Seated, seated_as, net_of_node}
+use Rattle.disk_change.specs.Seated.{Begun, Seated, seated_as, net_of_node}
 use Rattle.disk_change.specs.declared.files.FileChange.{FileChange}
 use Rattle.disk_change.specs.declared.pages.Page.{Page}
-use Rattle.disk_change.proofs.NumbersGiven.{first_in, further_in}
 use Rattle.disk_change.proofs.Rewriting.{said_at}
 use Rattle.commit_laws.specs.CommitMade.{StandOnce}
 use Rattle.commit_laws.specs.CommitOfPlan.{CommitPlan, change_planned}
 use Rattle.commit_laws.specs.Granted.{EachAscends, IsGrantFor}
 use Rattle.commit_laws.specs.PartsMade.{blocks_planned, IsPlanOverParts, PlansWriteApart}
 use Rattle.commit_laws.proofs.AllWritten.{granted_blocks_are_written}
-use Rattle.commit_laws.proofs.BegunShown.{IsSeatOf, seat_is}
+use Rattle.commit_laws.proofs.BegunShown.{seat_is}
 use Rattle.commit_laws.proofs.CommitMade.{some_there}
 use Rattle.commit_laws.proofs.Ranked.{needs_are_those}
-use Rattle.commit_laws.proofs.SeatsOfPlan.{there_is_in, in_is_there}
+use Rattle.commit_laws.proofs.SeatsOfPlan.{in_is_there}
 use Rattle.commit_laws.proofs.Shown.{found_is_in}
 
 -- what is said of a range of blocks ascends

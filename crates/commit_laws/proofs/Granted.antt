@@ -1,17 +1,16 @@
 -- The fresh blocks that a commit writes are those of its grant.
-use Rattle.std.proofs.Common.{◌≡◌, ◌≢◌, ℕ, zero, suc, ◌+◌, ◌-◌, ◌<◌, ◌≤◌, Bool, true, false, cond, not, ◌&&◌, ◌||◌, List, [], ◌∷◌, ◌++◌, length, get_or, map, take, drop, filter_map, Option, Some, None, is_some, inl, inr, refl, sym, ap, subst, ◌∙◌, arith, nat_lt, nat_eq, Contains}
-use Rattle.std.specs.Prelude.{◌⊎◌, nat_le, slice_index}
+use Rattle.std.proofs.Common.{◌≡◌, ◌≢◌, ℕ, zero, suc, ◌+◌, ◌-◌, ◌<◌, Bool, true, false, cond, ◌||◌, List, [], ◌∷◌, get_or, take, drop, filter_map, Option, Some, None, is_some, inl, inr, refl, sym, ap, subst, ◌∙◌, arith, nat_lt, nat_eq, Contains}
+use Rattle.std.specs.Prelude.{nat_le, slice_index}
 use Rattle.std.specs.List.{flat_map, cons_option, range_with_len, find}
 use Rattle.std.specs.Option.{unwrap_or}
-use Rattle.std.proofs.lemmas.Bool.{cond-true, cond-false, cases_Bool, cases_lt, eqb-false, lt-ltb, le-ltb}
+use Rattle.std.proofs.lemmas.Bool.{cond-true, cond-false, cases_Bool, eqb-false, lt-ltb, le-ltb}
 use Rattle.std.proofs.lemmas.List.{get_or_past}
 use Rattle.std.proofs.lemmas.List.Elements.{Contains-append_cases}
 use Rattle.std.proofs.lemmas.List.FromFn.{length-range_with_len, get_or-range_with_len}
-use borrow.Author.Tests.{leb-false, eqb-true}
-use Rattle.sfs_base.proofs.BasicNumbers.{same_number, zero_plus}
+use borrow.Author.Tests.{leb-false}
+use Rattle.sfs_base.proofs.BasicNumbers.{same_number}
 use Rattle.sfs_base.proofs.BasicOptions.{none_some, some_same}
 use Rattle.sfs_base.proofs.BasicTruth.{or_first, or_second}
-use Rattle.sfs_image.specs.Inode.{Table}
 use Rattle.sfs_image.specs.Seen.{FILE_BLOCKS, PLACES}
 use Rattle.sfs_image.proofs.Basics.{get_or-tabulate}
 use Rattle.fmt_journal.specs.declared.tx.TxBlock.{TxBlock}
@@ -23,14 +22,12 @@ use Rattle.block_map.specs.declared.changed.ChangedBlock.{ChangedBlock}
 use Rattle.block_map.specs.declared.rewrite.TableFate.{TableFate}
 use Rattle.block_map.specs.declared.rewrite.TableFate.TheVariants.{Stays, Goes, IsWritten}
 use Rattle.block_map.proofs.Left.{remapped_pointers_stand}
-use Rattle.block_map.proofs.GivenUp.{in_one}
 use Rattle.block_map.proofs.Places.{own_place}
-use Rattle.space_map.specs.Space.{GrantedNumbers}
 use Rattle.absorb.specs.declared.nets.NetRow.{NetRow}
 use Rattle.disk_change.specs.AllBuilt.{nodes_built, built_by, fresh_of_node, pages_of_node, numbers_with}
 use Rattle.disk_change.specs.Built.{Built, built, rewrite_in}
-use Rattle.disk_change.specs.Fresh.{data_written, table_of_place, table_at, indirect_block_written, fresh_written}
-use Rattle.disk_change.specs.Planned.{Planned, blocks_taken}
+use Rattle.disk_change.specs.Fresh.{data_written, table_of_place, indirect_block_written, fresh_written}
+use Rattle.disk_change.specs.Planned.{blocks_taken}
 use Rattle.disk_change.specs.Seated.{CommitChanges, Seated, net_of_node}
 use Rattle.disk_change.specs.declared.files.FileChange.{FileChange}
 use Rattle.disk_change.specs.declared.pages.Page.{Page}

@@ -1,9 +1,8 @@
 -- Slots block by block, and all of them in one row.
-use Rattle.std.proofs.Common.{◌≡◌, ◌≢◌, ℕ, zero, suc, ◌+◌, ◌-◌, ◌*◌, ◌/◌, ◌<◌, ◌≤◌, Bool, true, false, cond, ◌&&◌, List, [], ◌∷◌, ◌++◌, length, get_or, map, take, drop, replicate, Option, Some, None, is_none, option_map, inl, inr, refl, sym, ap, subst, ◌∙◌, arith, nat_eq, count_by, Contains}
-use Rattle.std.specs.Prelude.{slice_get}
+use Rattle.std.proofs.Common.{◌≡◌, ◌≢◌, ℕ, zero, suc, ◌+◌, ◌*◌, ◌/◌, ◌≤◌, Bool, true, false, cond, ◌&&◌, List, [], ◌∷◌, ◌++◌, length, map, take, drop, replicate, Option, Some, None, is_none, option_map, inl, inr, refl, sym, ap, ◌∙◌, arith, nat_eq, count_by}
 use Rattle.std.specs.Int.{div_ceil}
-use Rattle.std.specs.List.{flat_map, range_with_len, list_all}
-use Rattle.std.proofs.lemmas.Bool.{cond-true, cond-false, cases_Bool, eqb-false}
+use Rattle.std.specs.List.{range_with_len}
+use Rattle.std.proofs.lemmas.Bool.{cases_Bool, eqb-false}
 use Rattle.std.proofs.lemmas.List.{append-nil, append_assoc, map-append, length-append, take-append-le, replicate-append-replicate}
 use Rattle.std.proofs.lemmas.Grind.{flat_map-append}
 use Rattle.std.proofs.Math.Seq.{take-append-add}
@@ -14,7 +13,7 @@ use Rattle.sfs_base.proofs.BasicTruth.{and_false}
 use Rattle.sfs_image.specs.Slot.{Row}
 use Rattle.sfs_tree.proofs.Joined.{count-cons}
 use Rattle.image_tree.specs.Commit.{filled}
-use Rattle.image_tree.specs.Slots.{rows_end, blocks_up_to_last, in_blocks}
+use Rattle.image_tree.specs.Slots.{rows_end, in_blocks}
 use Rattle.block_map.proofs.Places.{range_more}
 use Rattle.disk_change.specs.Directory.{fill_front, rows_left, empty_block, block_added, blocks_for}
 use Rattle.disk_change.specs.Seat.{has_no_row, blocks_to_last_row}

@@ -1,11 +1,8 @@
 -- What is kept of a part is what its inode shows.
-use Rattle.std.proofs.Common.{◌≡◌, ℕ, Bool, true, false, cond, List, [], ◌∷◌, ◌++◌, length, map, Option, refl, sym, ap, ◌∙◌, arith, nat_eq, Contains}
+use Rattle.std.proofs.Common.{◌≡◌, ℕ, true, false, cond, List, [], ◌∷◌, ◌++◌, length, map, refl, sym, ap, ◌∙◌, arith, nat_eq}
 use Rattle.std.proofs.lemmas.List.FromFn.{length-map-range_with_len}
-use Rattle.sfs_base.specs.declared.numbers.Kind.TheVariants.{File}
-use Rattle.sfs_image.specs.Part.{Part, is_directory_part, directory_blocks, inode_in}
-use Rattle.sfs_image.specs.Slot.{Row, kind_byte}
+use Rattle.sfs_image.specs.Part.{is_directory_part, directory_blocks}
 use Rattle.sfs_image.specs.SlotBlock.{slots_of, slot_in}
-use Rattle.block_map.specs.Kept.{kept_slots}
 use Rattle.block_map.proofs.KeptPointers.{kept_pointer}
 use Rattle.commit_laws.specs.KeptShown.{KeptPartsShow}
 use Rattle.commit_laws.specs.SlotsKept.{AreSlotBlocks, slots_joined}

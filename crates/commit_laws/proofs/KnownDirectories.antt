@@ -1,23 +1,20 @@
 -- A plan knows of the children of its nets which are directories.
-use Rattle.std.proofs.Common.{◌≡◌, ◌≢◌, ℕ, zero, suc, ◌<◌, Bool, true, false, cond, List, [], ◌∷◌, ◌++◌, length, get_or, map, filter_map, Option, Some, None, option_map, inl, inr, refl, sym, ap, subst, ◌∙◌, arith, nat_eq, Contains, count_by}
-use Rattle.std.specs.Prelude.{◌⊎◌, slice_get}
+use Rattle.std.proofs.Common.{◌≡◌, ◌≢◌, ℕ, zero, suc, Bool, true, false, cond, List, [], ◌∷◌, map, filter_map, Option, Some, None, inl, inr, refl, sym, ap, subst, ◌∙◌, arith, nat_eq, Contains}
+use Rattle.std.specs.Prelude.{◌⊎◌}
 use Rattle.std.specs.Option.{option_map_or}
 use Rattle.std.proofs.lemmas.Bool.{cases_Bool}
 use Rattle.std.proofs.lemmas.List.Elements.{Contains-append_left, Contains-append_right, Contains-append_cases, All-contains}
 use Rattle.std.specs.List.{cons_option}
 use Rattle.sfs_base.proofs.BasicOptions.{none_some, some_same, some_not_none}
 use Rattle.sfs_base.proofs.BasicTruth.{true_not_false}
-use Rattle.sfs_base.specs.declared.numbers.Kind.{Kind}
-use Rattle.sfs_base.specs.declared.numbers.Kind.TheVariants.{File, Directory}
 use Rattle.sfs_base.specs.declared.numbers.NodeId.{NodeId}
 use Rattle.sfs_image.specs.Seen.{SeenInodes}
-use Rattle.sfs_image.specs.Slot.{kind_byte}
 use Rattle.sfs_tree.specs.NameRow.{number_of}
 use Rattle.sfs_tree.specs.Tree.{TreeState, row_of, kind_of, is_directory, is_directory_kind, names_of}
 use Rattle.sfs_tree.proofs.Names.{get-names_where}
 use Rattle.sfs_tree.proofs.Readings.{directory_by_kind}
 use Rattle.absorb.specs.declared.nets.NetRow.{NetRow}
-use Rattle.absorb.specs.Net.{IsNetRow, IsNet}
+use Rattle.absorb.specs.Net.{IsNetRow}
 use Rattle.image_tree.specs.Renamed.{Numbering, HasNumber}
 use Rattle.image_tree.proofs.Numbers.{granted}
 use Rattle.image_tree.proofs.Standing.{byte_directory}
@@ -25,13 +22,13 @@ use Rattle.space_map.specs.Space.{GrantedNumbers}
 use Rattle.disk_change.specs.Directory.{is_among}
 use Rattle.disk_change.specs.Links.{directory_old, directory_entering, directories_concerned}
 use Rattle.disk_change.specs.Lists.{AscendBy, item_with}
-use Rattle.disk_change.specs.Nodes.{net_node, entry_node, enter_node}
+use Rattle.disk_change.specs.Nodes.{net_node, enter_node}
 use Rattle.disk_change.specs.Seated.{net_of_node}
 use Rattle.disk_change.specs.declared.directory_net.DirectoryNet.{DirectoryNet}
 use Rattle.disk_change.specs.declared.enter.Enter.{Enter}
 use Rattle.disk_change.specs.declared.old.OldEntry.{OldEntry}
 use Rattle.disk_change.proofs.Keyed.{item_at}
-use Rattle.disk_change.proofs.NumbersGiven.{first_in, further_in}
+use Rattle.disk_change.proofs.NumbersGiven.{further_in}
 use Rattle.commit_laws.specs.CommitOfPlan.{CommitPlan, numbers_planned, IsCommitPlan}
 use Rattle.commit_laws.specs.KnownKinds.{IsNetChild, KnowsDirectories}
 use Rattle.commit_laws.proofs.Granted.{given_by}

@@ -15,6 +15,7 @@ pub mod NumbersGiven
 pub mod OwnInodes
 pub mod PartsMade
 pub mod PartsStand
+pub mod PartsTurned
 pub mod PlanShown
 pub mod Ranked
 pub mod Rewritten

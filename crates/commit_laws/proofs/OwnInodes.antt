@@ -1,5 +1,5 @@
 -- Each inode that a commit writes is one of its grant, or an old one.
-use Rattle.std.proofs.Common.{◌≡◌, ℕ, zero, suc, ◌<◌, ◌≤◌, Bool, true, false, cond, List, [], ◌∷◌, ◌++◌, length, map, drop, take, filter_map, Option, Some, None, inl, inr, refl, sym, ap, subst, ◌∙◌, arith, count_by, fold, Contains}
+use Rattle.std.proofs.Common.{◌≡◌, ℕ, zero, suc, ◌≤◌, List, [], ◌∷◌, length, map, drop, filter_map, Option, Some, None, inl, inr, refl, sym, ap, subst, ◌∙◌, arith, count_by, fold, Contains}
 use Rattle.std.specs.Prelude.{◌⊎◌}
 use Rattle.std.specs.Option.{unwrap_or}
 use Rattle.std.specs.Ordering.{nat_cmp, match_ordering}
@@ -10,7 +10,7 @@ use Rattle.std.proofs.lemmas.List.Elements.{Contains-append_cases}
 use Rattle.sfs_base.proofs.BasicOptions.{none_some, some_same}
 use Rattle.fmt_journal.specs.declared.tx.TxRecord.{TxRecord}
 use Rattle.space_map.specs.Space.{GrantedNumbers}
-use Rattle.disk_change.specs.AllBuilt.{nodes_built, built_by, nodes_with_grant, numbers_with, entry_after}
+use Rattle.disk_change.specs.AllBuilt.{nodes_built, nodes_with_grant, numbers_with, entry_after}
 use Rattle.disk_change.specs.Built.{Built}
 use Rattle.disk_change.specs.Lists.{put_over, ascending_by}
 use Rattle.disk_change.specs.Nodes.{entry_node}
@@ -19,7 +19,7 @@ use Rattle.disk_change.specs.Records.{RecordChange, same_inode, record_of_built,
 use Rattle.disk_change.specs.Seated.{CommitChanges, Seated}
 use Rattle.disk_change.specs.declared.old.OldEntry.{OldEntry}
 use Rattle.disk_change.proofs.NumbersGiven.{first_in, further_in, IsOwnOrGranted, number_known}
-use Rattle.commit_laws.specs.Granted.{IsOwnInode, InodesAreOwn, InodesAreGrantedOrOld}
+use Rattle.commit_laws.specs.Granted.{IsOwnInode, InodesAreGrantedOrOld}
 use Rattle.commit_laws.specs.Granted.IsOwnInode.{granted, kept, lost}
 use Rattle.commit_laws.proofs.Granted.{given_by}
 
@@ -75,7 +75,7 @@ mapped_is_in f (x ∷ xs) y (zero, within, is) = (x, first_in x xs, is)
 mapped_is_in f (x ∷ xs) y (suc k, within, is) = let rest = mapped_is_in f xs y (k, omega arith, is) in (rest.0, further_in x rest.0 xs rest.1, rest.2)
 
 -- a record that is written is that of its number
-written_number : (change : RecordChange) (one : TxRecord) → record_written change ≡ Some one → change.number ≡ one.inode
+pub written_number : (change : RecordChange) (one : TxRecord) → record_written change ≡ Some one → change.number ≡ one.inode
 written_number change one e = elim (cases_Bool (same_inode change.before change.after)) [
   | inl t ↦ absurd (none_some (sym (cond-true (same_inode change.before change.after) None _ t) ∙ e))
   | inr f ↦ ap record_inode (some_same (sym (cond-false (same_inode change.before change.after) None _ f) ∙ e))

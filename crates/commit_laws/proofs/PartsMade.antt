@@ -1,6 +1,6 @@
 -- The fresh blocks that a commit writes, and the parts before it, make up the parts after it.
-use Rattle.std.proofs.Common.{◌≡◌, ◌≢◌, ℕ, zero, suc, ◌+◌, ◌-◌, ◌*◌, ◌/◌, ◌<◌, ◌≤◌, ◌^◌, Bool, true, false, cond, not, List, [], ◌∷◌, length, get_or, map, filter_map, Option, Some, None, option_map, inl, inr, refl, sym, ap, subst, ◌∙◌, arith, nat_lt, nat_eq, Contains}
-use Rattle.std.specs.Prelude.{◌⊎◌, slice_get, slice_index, slice_index_or}
+use Rattle.std.proofs.Common.{◌≡◌, ◌≢◌, ℕ, zero, suc, ◌+◌, ◌-◌, ◌*◌, ◌/◌, ◌<◌, ◌≤◌, ◌^◌, Bool, true, false, cond, not, List, [], ◌∷◌, length, map, filter_map, Option, Some, None, inl, inr, refl, sym, ap, subst, ◌∙◌, arith, nat_lt, nat_eq, Contains}
+use Rattle.std.specs.Prelude.{◌⊎◌, slice_index, slice_index_or}
 use Rattle.std.specs.List.{find, range_with_len, flat_map, cons_option}
 use Rattle.std.specs.Option.{option_map_or, unwrap_or}
 use borrow.Author.Tests.{eqb-true, eq-eqb}
@@ -13,12 +13,10 @@ use Rattle.sfs_base.proofs.BasicNumbers.{not_same, zero_plus}
 use Rattle.sfs_base.proofs.BasicOptions.{none_some, some_same}
 use Rattle.sfs_base.specs.declared.numbers.Kind.{Kind}
 use Rattle.sfs_base.specs.declared.numbers.Kind.TheVariants.{File, Directory}
-use Rattle.sfs_image.specs.Bytes.{zeros}
 use Rattle.sfs_image.specs.ImageOf.{FreshBlock, ComesFrom, IsMadeOf}
 use Rattle.sfs_image.specs.ImageOf.ComesFrom.{hole, written, kept as stands}
-use Rattle.sfs_image.specs.Inode.{Inode, Table, AreU32s, IsInode, ArePointers, inode_of, inode_bytes, pointers_of, pointers_bytes}
-use Rattle.sfs_image.specs.Part.{Part, part_of, IsGathered, read_block, pointer_at, content_at, inode_in, tabulate, seen_of}
-use Rattle.sfs_image.specs.Rules.{DIRECTORY_BLOCKS}
+use Rattle.sfs_image.specs.Inode.{Inode, Table, IsInode, ArePointers, inode_of, inode_bytes, pointers_of, pointers_bytes}
+use Rattle.sfs_image.specs.Part.{Part, part_of, IsGathered, read_block, pointer_at, content_at, inode_in}
 use Rattle.sfs_image.specs.Seen.{Seen, SeenInodes, PLACES, FILE_BLOCKS}
 use Rattle.sfs_image.specs.Slot.{kind_byte}
 use Rattle.sfs_image.proofs.Basics.{found_passes, get_or-tabulate, length-tabulate}
@@ -26,21 +24,20 @@ use Rattle.sfs_image.proofs.InodeLaws.{inode_of-inode_bytes, pointers_of-pointer
 use Rattle.sfs_image.proofs.MadeLaws.{gathered_is_read}
 use Rattle.sfs_image.proofs.PiecesLaws.{length-u32s_at}
 use Rattle.sfs_image.proofs.PartLaws.{table_is_read, pointer_of_table, hole_is_read, block_behind}
-use Rattle.sfs_tree.specs.Tree.{TreeState, kind_of, links_of, bytes_of}
+use Rattle.sfs_tree.specs.Tree.{TreeState, kind_of}
 use Rattle.absorb.specs.declared.nets.NetRow.{NetRow}
-use Rattle.fmt_journal.specs.declared.tx.TxBlock.{TxBlock}
 use Rattle.image_tree.specs.Commit.{Commit, HasBlock, hole as made_hole, kept as made_kept, fresh as made_fresh, blank, seen_before}
 use Rattle.image_tree.specs.ImageTree.{shows_directory}
 use Rattle.image_tree.specs.Need.{first_block, granted_block, place_in_row, rewrites_table, table_has_pointer}
 use Rattle.image_tree.specs.Renamed.{Numbering}
-use Rattle.image_tree.specs.Stands.{ShowsNode, own_size}
+use Rattle.image_tree.specs.Stands.{ShowsNode}
 use Rattle.image_tree.proofs.Committed.{number_within, stands_after}
 use Rattle.image_tree.proofs.Sizes.{commits_keep_directories_fit}
 use Rattle.image_tree.proofs.Standing.{not_used}
 use Rattle.journal_one.specs.Packed.{block_of}
 use Rattle.block_map.specs.Changed.{AscendByBlock}
 use Rattle.block_map.specs.Kept.{Kept, table_kept, tables_kept, kept_of, kept_tables, pointer_kept}
-use Rattle.block_map.specs.Remap.{fresh_for, pointer_remapped, table_fate, table_by_fate, table_remapped, table_written}
+use Rattle.block_map.specs.Remap.{pointer_remapped, table_fate, table_by_fate, table_remapped, table_written}
 use Rattle.block_map.specs.declared.rewrite.TableFate.{TableFate}
 use Rattle.block_map.specs.declared.rewrite.TableFate.TheVariants.{Stays, Goes, IsWritten}
 use Rattle.block_map.proofs.KeptPointers.{is_at, found_at, table_found, kept_pointer}
@@ -49,30 +46,26 @@ use Rattle.block_map.proofs.Places.{own_place, remapped_at_place}
 use Rattle.space_map.specs.Space.{GrantedNumbers}
 use Rattle.disk_change.specs.AllBuilt.{numbers_with, built_by, nodes_with_grant, fresh_of_node, fresh_of_commit, pages_of_node}
 use Rattle.disk_change.specs.Built.{Built, built, rewrite_in}
-use Rattle.disk_change.specs.Directory.{is_among}
-use Rattle.disk_change.specs.Fresh.{table_of_place, data_written, fresh_written, zero_bytes}
+use Rattle.disk_change.specs.Fresh.{table_of_place, data_written, zero_bytes}
 use Rattle.disk_change.specs.Planned.{Planned, seated_old, seated_entering, staying, leaves, blocks_taken}
-use Rattle.disk_change.specs.Seated.{CommitChanges, Begun, Seated, seated, seated_as, begun_old, begun_entering, net_of_node, free_inode}
+use Rattle.disk_change.specs.Seated.{Begun, Seated, seated_as, begun_old, begun_entering, net_of_node}
 use Rattle.disk_change.specs.declared.enter.Enter.{Enter}
 use Rattle.disk_change.specs.declared.old.OldEntry.{OldEntry}
 use Rattle.disk_change.specs.declared.pages.Page.{Page}
-use Rattle.disk_change.proofs.NumbersGiven.{planned_node, first_in, further_in}
 use Rattle.commit_laws.specs.CommitMade.{place_among, inodes_built, rewrites_seated}
 use Rattle.commit_laws.specs.CommitOfPlan.{CommitPlan, change_planned, commit_of, image_planned, IsCommitPlan}
-use Rattle.commit_laws.specs.Granted.{IsGrantFor}
 use Rattle.commit_laws.specs.NumbersGiven.{node_leaves}
 use Rattle.commit_laws.specs.PartsMade.{store_over, blocks_planned, part_made, IsPlanOverParts, IsPartMade, PlansMakeParts}
-use Rattle.commit_laws.specs.PlanShown.{IsFullPlan}
 use Rattle.commit_laws.specs.Ranked.{fresh_cut}
 use Rattle.commit_laws.proofs.AllWritten.{IsCutFor, cut_of, table_given, written_table}
-use Rattle.commit_laws.proofs.BegunShown.{IsSeatOf, made, step}
+use Rattle.commit_laws.proofs.BegunShown.{made, step}
 use Rattle.commit_laws.proofs.Granted.{is_in}
 use Rattle.commit_laws.proofs.GrantWritten.{each_ascends, fresh_numbers, each_once, held_is_old, found_once, grant_for}
 use Rattle.commit_laws.proofs.KnownDirectories.{given_is_in}
 use Rattle.commit_laws.proofs.NumbersGiven.{kept_in}
 use Rattle.commit_laws.proofs.OwnInodes.{mapped_is_in}
 use Rattle.commit_laws.proofs.PlanShown.{IsBuiltNode, node_built}
-use Rattle.commit_laws.proofs.SeatsOfPlan.{there_is_in, in_is_there, in_mapped, after_had, seat_comes}
+use Rattle.commit_laws.proofs.SeatsOfPlan.{there_is_in, in_mapped, after_had, seat_comes}
 use Rattle.commit_laws.proofs.Shown.{found_is_in}
 
 -- what two functions give of a range is the same where they agree there
@@ -86,9 +79,10 @@ unfolding part_of
 read_inode store inode is = inode_of-inode_bytes inode is
 
 module _ (store : ℕ → List ℕ) (raw : List ℕ) where
-  unfolding_lengths : (length (part_of store raw).tables ≡ 16) × (length (part_of store raw).blocks ≡ FILE_BLOCKS)
+  -- how much a part has that is gathered
+  pub lengths : (length (part_of store raw).tables ≡ 16) × (length (part_of store raw).blocks ≡ FILE_BLOCKS)
   unfolding part_of
-  unfolding_lengths = (length-map (inode_of raw).indirect (read_block store) ∙ length-u32s_at 448 16 raw, length-tabulate FILE_BLOCKS _)
+  lengths = (length-map (inode_of raw).indirect (read_block store) ∙ length-u32s_at 448 16 raw, length-tabulate FILE_BLOCKS _)
 
   -- a part that is gathered stands in its store
   pub gathered_itself : IsGathered store (part_of store raw)
@@ -159,7 +153,7 @@ module _ (num : Numbering) (concerned : List ℕ) (old new : TreeState) (image :
       by (Some j) e = ap (λ (o : Option ℕ). (option_map_or image.seen o blank).blocks place) (e ∙ ap Some (seen_old j e)) ∙ ap (λ (s : Seen). s.blocks place) (is.standing.shown i within)
 
   -- a block afterwards is one of the grant, or stood at its place
-  granted_or_old : (place : ℕ) → place < PLACES → (next.seen i).blocks place ≢ 0 → Contains grant.blocks ((next.seen i).blocks place) ⊎ ((next.seen i).blocks place ≡ pointer_at (parts i) place)
+  pub granted_or_old : (place : ℕ) → place < PLACES → (next.seen i).blocks place ≢ 0 → Contains grant.blocks ((next.seen i).blocks place) ⊎ ((next.seen i).blocks place ≡ pointer_at (parts i) place)
   granted_or_old place low some = by ((step num concerned old new image plan grant is.full).commits.blocks.has node.of.begun.node i place low node.of.number node.of.among)
     where
       granted_one : (o : Option ℕ) → place_among (inodes_built change grant) i ≡ o → commit.fresh i place ≢ 0 → Contains grant.blocks (commit.fresh i place)
@@ -459,8 +453,8 @@ module _ (num : Numbering) (concerned : List ℕ) (old new : TreeState) (image :
     inode = inode_is;
     tables = tables_kept_are;
     made = subst (λ n. IsMadeOf fresh (parts n) after) (sym node.inode) (record {
-      tables = (unfolding_lengths over (inode_bytes one.meta)).0;
-      blocks = (unfolding_lengths over (inode_bytes one.meta)).1;
+      tables = (lengths over (inode_bytes one.meta)).0;
+      blocks = (lengths over (inode_bytes one.meta)).1;
       comes = comes;
     });
   }

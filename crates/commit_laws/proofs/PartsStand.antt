@@ -1,31 +1,28 @@
 -- The parts after a commit stand for the new tree.
-use Rattle.std.proofs.Common.{◌≡◌, ◌≢◌, ℕ, ◌+◌, ◌*◌, ◌/◌, ◌<◌, ◌≤◌, ◌^◌, zero, suc, Bool, true, false, cond, not, List, [], ◌∷◌, length, map, replicate, Option, Some, None, option_map, inl, inr, refl, sym, ap, subst, ◌∙◌, arith, nat_eq, Contains}
-use Rattle.std.specs.Prelude.{◌⊎◌, slice_get}
+use Rattle.std.proofs.Common.{◌≡◌, ℕ, ◌*◌, ◌/◌, ◌<◌, ◌≤◌, ◌^◌, zero, suc, Bool, true, false, cond, List, [], ◌∷◌, length, map, Option, Some, None, inl, inr, refl, sym, ap, subst, ◌∙◌, arith, nat_eq, Contains}
 use Rattle.std.specs.List.{find, flat_map, list_any}
 use Rattle.std.specs.Option.{option_map_or}
 use borrow.Author.Tests.{eqb-true}
 use Rattle.std.proofs.lemmas.Bool.{cond-true, cases_Bool}
-use Rattle.std.proofs.lemmas.Option.{slice_get-map}
 use Rattle.sfs_base.proofs.BasicLists.{zeros_read}
 use Rattle.sfs_base.proofs.BasicNumbers.{same_number}
 use Rattle.sfs_base.proofs.BasicOptions.{none_some, some_same}
-use Rattle.sfs_base.proofs.BasicTruth.{true_not_false, not_both}
+use Rattle.sfs_base.proofs.BasicTruth.{true_not_false}
 use Rattle.sfs_base.specs.declared.numbers.Kind.{Kind}
 use Rattle.sfs_base.specs.declared.numbers.Kind.TheVariants.{File, Directory}
 use Rattle.sfs_image.specs.Inode.{Inode, IsInode, inode_bytes}
 use Rattle.sfs_image.specs.Part.{Part, part_of, directory_blocks, file_byte, tabulate, inode_in, seen_of}
-use Rattle.sfs_image.specs.Seen.{Seen, SeenInodes, PLACES}
+use Rattle.sfs_image.specs.Seen.{Seen, SeenInodes}
 use Rattle.sfs_image.proofs.Basics.{found_passes}
 use Rattle.sfs_image.specs.SlotBlock.{slots_of}
 use Rattle.sfs_image.proofs.InodeLaws.{inode_of-inode_bytes}
 use Rattle.sfs_image.proofs.PartLaws.{holes_have_none}
 use Rattle.sfs_tree.specs.Tree.{TreeState, kind_of}
 use Rattle.image_tree.specs.Commit.{Commit, blank}
-use Rattle.image_tree.specs.ImageTree.{shows_directory}
 use Rattle.image_tree.specs.Made.{has_number, seen_built}
 use Rattle.image_tree.specs.Renamed.{Numbering}
 use Rattle.image_tree.specs.Slots.{looked_up, name_count}
-use Rattle.image_tree.specs.Stands.{IsUnused, ShowsNode, StandsForTree}
+use Rattle.image_tree.specs.Stands.{ShowsNode, StandsForTree}
 use Rattle.image_tree.proofs.Committed.{stands_after}
 use Rattle.image_tree.proofs.Made.{found_listed, any_listed, listed_found, number_is, is_number}
 use Rattle.space_map.specs.Space.{GrantedNumbers}
@@ -33,7 +30,7 @@ use Rattle.disk_change.specs.AllBuilt.{nodes_with_grant}
 use Rattle.disk_change.specs.Built.{Built}
 use Rattle.disk_change.specs.Directory.{is_among}
 use Rattle.disk_change.specs.GivenUp.{entry_number}
-use Rattle.disk_change.specs.Planned.{Planned, leaves, leaving}
+use Rattle.disk_change.specs.Planned.{Planned, leaves}
 use Rattle.disk_change.specs.Seated.{free_inode}
 use Rattle.disk_change.specs.declared.old.OldEntry.{OldEntry}
 use Rattle.commit_laws.specs.CommitMade.{rewrites_of_change}
@@ -41,7 +38,7 @@ use Rattle.commit_laws.specs.CommitOfPlan.{CommitPlan, change_planned, commit_of
 use Rattle.commit_laws.specs.FilesMade.{ShowTheSame}
 use Rattle.commit_laws.specs.NumbersGiven.{node_leaves}
 use Rattle.commit_laws.specs.PartsMade.{part_made, IsPlanOverParts}
-use Rattle.commit_laws.specs.PartsStand.{ShowsAlike, AlikeImagesStand, part_next, inodes_next, HasContents, PlansLeaveParts}
+use Rattle.commit_laws.specs.PartsStand.{AlikeImagesStand, part_next, inodes_next, HasContents, PlansLeaveParts}
 use Rattle.commit_laws.proofs.BegunShown.{step}
 use Rattle.commit_laws.proofs.CommitMade.{map_there}
 use Rattle.commit_laws.proofs.DirectoriesMade.{plans_make_directories}
@@ -49,7 +46,7 @@ use Rattle.commit_laws.proofs.FilesMade.{plans_make_files}
 use Rattle.commit_laws.proofs.NumbersGiven.{kept_in}
 use Rattle.commit_laws.proofs.OwnInodes.{mapped_is_in}
 use Rattle.commit_laws.proofs.PartsMade.{read_inode}
-use Rattle.commit_laws.proofs.SeatsOfPlan.{there_is_in, in_is_there, in_mapped, in_kept, in_is_among, among_is_in, after_had, node_seated, number_at}
+use Rattle.commit_laws.proofs.SeatsOfPlan.{there_is_in, in_mapped, in_kept, in_is_among, among_is_in, after_had, node_seated, number_at}
 use Rattle.commit_laws.proofs.Shown.{found_is_in}
 
 pub alike_images_stand : AlikeImagesStand
@@ -83,7 +80,7 @@ alike_images_stand num tree image other alike stands = record {
     }
 
 -- a free part shows nothing
-free_fits : IsInode free_inode
+pub free_fits : IsInode free_inode
 free_fits = record {
   kind = omega arith;
   links = omega arith;

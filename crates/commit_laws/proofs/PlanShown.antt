@@ -1,12 +1,12 @@
 -- What a plan builds is what the image that its commit makes shows.
-use Rattle.std.proofs.Common.{◌≡◌, ℕ, zero, suc, ◌<◌, Bool, List, [], ◌∷◌, length, map, take, Option, Some, option_map, refl, sym, ap, subst, ◌∙◌, arith, Contains}
+use Rattle.std.proofs.Common.{◌≡◌, ℕ, zero, suc, List, [], ◌∷◌, length, map, take, Option, Some, option_map, refl, sym, ap, subst, ◌∙◌, arith, Contains}
 use Rattle.std.specs.Prelude.{slice_get}
 use Rattle.std.proofs.lemmas.List.{length-map}
 use Rattle.std.proofs.lemmas.Option.{slice_get-map, slice_get_within}
 use Rattle.sfs_base.proofs.BasicOptions.{some_same}
 use Rattle.sfs_base.specs.declared.numbers.Kind.{Kind}
 use Rattle.sfs_base.specs.declared.numbers.Kind.TheVariants.{File, Directory}
-use Rattle.sfs_image.specs.Seen.{Seen, SeenInodes}
+use Rattle.sfs_image.specs.Seen.{SeenInodes}
 use Rattle.sfs_image.specs.Slot.{kind_byte}
 use Rattle.sfs_tree.specs.Tree.{TreeState}
 use Rattle.absorb.specs.declared.nets.NetRow.{NetRow}
@@ -22,7 +22,6 @@ use Rattle.disk_change.specs.Numbered.{slot_numbered, block_numbered}
 use Rattle.disk_change.specs.Planned.{Planned}
 use Rattle.disk_change.specs.Seat.{blocks_to_last_row}
 use Rattle.disk_change.specs.Seated.{CommitChanges, Begun, Seated, seated, seated_as, net_of_node}
-use Rattle.disk_change.specs.declared.old.OldEntry.{OldEntry}
 use Rattle.disk_change.proofs.NumbersGiven.{planned_node}
 use Rattle.commit_laws.specs.CommitMade.{rewrites_of_change}
 use Rattle.commit_laws.specs.CommitOfPlan.{CommitPlan, change_planned, commit_of, image_planned}

@@ -1,24 +1,22 @@
 -- The nodes of a commit take their fresh blocks from the grant by the ranks of their places.
-use Rattle.std.proofs.Common.{◌≡◌, ℕ, zero, suc, ◌+◌, ◌*◌, ◌<◌, ◌≤◌, true, List, [], ◌∷◌, length, get_or, map, take, drop, Option, Some, None, option_map, refl, sym, ap, ◌∙◌, arith, sum_by}
+use Rattle.std.proofs.Common.{◌≡◌, ℕ, zero, suc, ◌+◌, ◌*◌, ◌<◌, ◌≤◌, List, [], ◌∷◌, length, get_or, map, take, drop, Option, Some, option_map, refl, sym, ap, ◌∙◌, arith, sum_by}
 use Rattle.std.specs.Prelude.{slice_get, slice_index}
 use Rattle.std.proofs.lemmas.List.{get_or-take, get_or-drop, take_more, take_all, length-map}
 use Rattle.std.proofs.lemmas.List.Sums.{sum_by-append, sum_by-cons}
-use Rattle.std.proofs.lemmas.Option.{slice_get-map, slice_get-get_or, slice_get_within, get_or_from_slice_get}
+use Rattle.std.proofs.lemmas.Option.{slice_get-map, slice_get-get_or, slice_get_within}
 use Rattle.sfs_base.proofs.BasicNumbers.{suc_is_one_more}
 use Rattle.sfs_base.proofs.BasicOptions.{none_some, some_same}
 use Rattle.sfs_image.specs.Seen.{PLACES}
-use Rattle.image_tree.specs.Need.{takes_place, place_in_row, takes_in_row, granted_block, blocks_needed, rank}
+use Rattle.image_tree.specs.Need.{takes_place, place_in_row, takes_in_row, rank}
 use Rattle.image_tree.proofs.Ranks.{ranks_go_on, rank_below}
-use Rattle.block_map.specs.Remap.{fresh_for}
 use Rattle.block_map.proofs.Counts.{rank_first}
-use Rattle.space_map.specs.Space.{GrantedNumbers}
 use Rattle.disk_change.specs.AllBuilt.{numbers_with, built_by, nodes_built}
 use Rattle.disk_change.proofs.Directories.{drop_twice}
 use Rattle.disk_change.proofs.NumbersGiven.{drop_zero}
 use Rattle.disk_change.specs.Built.{rewrite_in}
-use Rattle.disk_change.specs.Planned.{Planned, blocks_taken}
+use Rattle.disk_change.specs.Planned.{blocks_taken}
 use Rattle.disk_change.specs.Seated.{CommitChanges, Seated}
-use Rattle.commit_laws.specs.Ranked.{fresh_cut, IsBuiltByRank, NodesAreBuiltByRank, NeedsAreThose}
+use Rattle.commit_laws.specs.Ranked.{fresh_cut, NodesAreBuiltByRank, NeedsAreThose}
 
 -- the blocks of the first nodes come before those of the next
 pub rank_of_first : (seats : List Seated) (m : ℕ) → m ≤ length seats → rank (takes_in_row (map rewrite_in seats)) (place_in_row m 0) ≡ sum_by blocks_taken (take m seats)

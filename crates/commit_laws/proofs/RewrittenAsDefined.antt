@@ -1,19 +1,16 @@
 -- What a plan rewrites of each node is what the definition says.
-use Rattle.std.proofs.Common.{◌≡◌, ◌≢◌, ℕ, zero, suc, ◌+◌, ◌-◌, ◌*◌, ◌/◌, ◌<◌, ◌≤◌, Bool, true, false, cond, not, ◌&&◌, ◌||◌, List, [], ◌∷◌, ◌++◌, length, get_or, map, min, Option, Some, None, is_none, is_some, option_map, inl, inr, refl, sym, ap, subst, ◌∙◌, arith, nat_eq, Contains}
-use Rattle.std.specs.Prelude.{nat_le, slice_get}
-use Rattle.std.specs.List.{range_with_len, list_all}
+use Rattle.std.proofs.Common.{◌≡◌, ℕ, zero, suc, ◌+◌, ◌*◌, ◌/◌, ◌<◌, ◌≤◌, Bool, true, false, cond, not, ◌&&◌, ◌||◌, List, [], ◌∷◌, length, get_or, map, min, Option, Some, None, is_none, is_some, option_map, inl, inr, refl, sym, ap, subst, ◌∙◌, arith, nat_eq, Contains}
+use Rattle.std.specs.Prelude.{nat_le}
+use Rattle.std.specs.List.{list_all}
 use Rattle.std.specs.Option.{option_map_or}
-use borrow.Author.Tests.{eqb-true}
 use Rattle.std.proofs.Math.Nat.{min-eq_left}
-use Rattle.std.proofs.lemmas.Bool.{cond-true, cond-false, cases_Bool, cases_lt}
-use Rattle.std.proofs.lemmas.List.{get_or_past, length-append, length-map, get_or_default}
+use Rattle.std.proofs.lemmas.Bool.{cond-true, cond-false, cases_lt}
+use Rattle.std.proofs.lemmas.List.{get_or_past, get_or_default}
 use Rattle.sfs_base.proofs.BasicLists.{same_bytes}
-use Rattle.sfs_base.proofs.BasicNumbers.{zero_plus}
 use Rattle.sfs_base.proofs.BasicOptions.{none_some, some_same, some_not_none}
 use Rattle.sfs_base.proofs.BasicTruth.{and_false, true_not_false}
 use Rattle.sfs_base.specs.declared.numbers.Kind.{Kind}
 use Rattle.sfs_base.specs.declared.numbers.Kind.TheVariants.{File, Directory}
-use Rattle.sfs_image.proofs.Basics.{found_passes}
 use Rattle.sfs_image.specs.Bytes.{nonzero_in}
 use Rattle.sfs_image.specs.Rules.{DIRECTORY_BLOCKS}
 use Rattle.sfs_image.specs.Seen.{Seen, SeenInodes, FILE_BLOCKS}
@@ -26,9 +23,8 @@ use Rattle.image_tree.specs.Commit.{Commit, ComesBy, had, enters, blank, seen_be
 use Rattle.image_tree.specs.Need.{Rewrite, slots_in_block, same_slots, rewrites_slots, directory_rewrite, file_rewrite, blocks_needed}
 use Rattle.image_tree.specs.Renamed.{Numbering}
 use Rattle.image_tree.specs.Slots.{looked_up, name_count, has_name, blocks_up_to_last}
-use Rattle.image_tree.specs.Stands.{row_on, inode_under}
+use Rattle.image_tree.specs.Stands.{row_on}
 use Rattle.image_tree.proofs.Committed.{slots_before}
-use Rattle.image_tree.proofs.Places.{slot_itself}
 use Rattle.image_tree.proofs.Renaming.{under_is}
 use Rattle.image_tree.proofs.SlotRows.{count_slot, looked_counts}
 use Rattle.image_tree.proofs.Standing.{not_used}
@@ -38,22 +34,21 @@ use Rattle.block_map.specs.Kept.{pointer_kept}
 use Rattle.block_map.specs.declared.changed.ChangedBlock.{ChangedBlock}
 use Rattle.disk_change.specs.AllBuilt.{numbers_with, pages_of_node}
 use Rattle.disk_change.specs.Built.{rewrite_in}
-use Rattle.disk_change.specs.Directory.{is_in_net, row_brought, slot_moved, empty_block, slot_blocks_after, directory_touched}
+use Rattle.disk_change.specs.Directory.{empty_block, slot_blocks_after, directory_touched}
 use Rattle.disk_change.specs.Lists.{item_with}
 use Rattle.disk_change.specs.Nodes.{file_node}
-use Rattle.disk_change.specs.Numbered.{row_numbered, slot_numbered, block_numbered}
+use Rattle.disk_change.specs.Numbered.{slot_numbered, block_numbered}
 use Rattle.disk_change.specs.Pages.{page_block}
 use Rattle.disk_change.specs.Planned.{Planned}
-use Rattle.disk_change.specs.Seat.{has_no_row, blocks_to_last_row, block_said, directory_changed, page_said, file_changed}
-use Rattle.disk_change.specs.Seated.{CommitChanges, Begun, Seated, seated, seated_as, net_of_node, size_of_blocks}
+use Rattle.disk_change.specs.Seat.{has_no_row, blocks_to_last_row, block_said, directory_changed, page_said}
+use Rattle.disk_change.specs.Seated.{Begun, Seated, seated_as, net_of_node, size_of_blocks}
 use Rattle.disk_change.specs.declared.files.FileChange.{FileChange}
 use Rattle.disk_change.specs.declared.pages.Page.{Page}
-use Rattle.disk_change.proofs.NumbersGiven.{planned_node, first_in, further_in}
 use Rattle.disk_change.proofs.Rewriting.{said_at}
 use Rattle.commit_laws.specs.CommitOfPlan.{CommitPlan, change_planned, image_planned, commit_of, IsCommitPlan}
 use Rattle.commit_laws.specs.KnownKinds.{KnowsChildren, NumbersChildren}
 use Rattle.commit_laws.specs.PlanShown.{IsFullPlan}
-use Rattle.commit_laws.specs.Rewritten.{SayTheSame, has_page, bytes_in_block, rewrite_defined, IsWrittenPlan, PlansRewriteAsDefined, PlansNeedAsDefined}
+use Rattle.commit_laws.specs.Rewritten.{SayTheSame, has_page, rewrite_defined, IsWrittenPlan, PlansRewriteAsDefined, PlansNeedAsDefined}
 use Rattle.commit_laws.specs.SlotsKept.{slots_joined}
 use Rattle.commit_laws.proofs.BegunShown.{IsSeatOf, made, seat_is, step}
 use Rattle.commit_laws.proofs.CommitOfPlan.{begun_pointers}
@@ -62,10 +57,10 @@ use Rattle.commit_laws.proofs.KnownDirectories.{net_row, same_child}
 use Rattle.commit_laws.proofs.Rewritten.{take_same, needs_same}
 use Rattle.commit_laws.proofs.RewrittenBlocks.{said_within, said_behind, change_said, page_bytes, block_zeros}
 use Rattle.commit_laws.proofs.SeatsOfPlan.{in_is_there}
-use Rattle.commit_laws.proofs.Shown.{found_is_in, children_of, length_in_blocks, slots_are, kept_long}
+use Rattle.commit_laws.proofs.Shown.{children_of, length_in_blocks, slots_are, kept_long}
 use Rattle.commit_laws.proofs.SlotBlocks.{in_block_joined, block_after}
-use Rattle.commit_laws.proofs.SlotsKept.{brought_is, long_after}
-use Rattle.commit_laws.proofs.SlotsTouched.{IsBrought, TellsApart, block_touched, length_after}
+use Rattle.commit_laws.proofs.SlotsKept.{brought_is}
+use Rattle.commit_laws.proofs.SlotsTouched.{TellsApart, block_touched, length_after}
 
 -- a row that stands in slots is found under its name, where each name stands once
 row_found : (slots : Slots) (row : Row) → name_count row.name slots ≤ 1 → Contains slots (Some row) → looked_up row.name slots ≡ Some row

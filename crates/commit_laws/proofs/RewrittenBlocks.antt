@@ -1,17 +1,13 @@
 -- What a plan rewrites of each node is what the definition says.
-use Rattle.std.proofs.Common.{◌≡◌, ◌≢◌, ℕ, zero, suc, ◌+◌, ◌-◌, ◌*◌, ◌/◌, ◌<◌, ◌≤◌, Bool, true, false, cond, not, ◌&&◌, ◌||◌, List, [], ◌∷◌, ◌++◌, length, get_or, map, take, drop, replicate, filter_map, min, Option, Some, None, is_none, is_some, option_map, inl, inr, refl, sym, ap, subst, ◌∙◌, arith, nat_eq, nat_lt, Contains}
-use Rattle.std.specs.Prelude.{nat_le, slice_get}
-use Rattle.std.specs.List.{range_with_len, list_all, find, cons_option, position, prefix_len}
+use Rattle.std.proofs.Common.{◌≡◌, ℕ, zero, suc, ◌+◌, ◌*◌, ◌<◌, ◌≤◌, Bool, true, false, cond, not, ◌&&◌, List, [], ◌∷◌, ◌++◌, length, map, take, drop, replicate, filter_map, Option, Some, None, is_none, is_some, option_map, inl, inr, refl, sym, ap, ◌∙◌, arith, nat_eq, nat_lt}
+use Rattle.std.specs.List.{range_with_len, list_all, cons_option, position, prefix_len}
 use Rattle.std.specs.Option.{option_map_or}
 use borrow.Author.Tests.{eqb-true}
-use Rattle.std.proofs.lemmas.Bool.{cond-true, cond-false, cases_Bool, cases_lt, lt-ltb, le-ltb}
-use Rattle.std.proofs.lemmas.List.{get_or_past, length-append, length-map, get_or_default}
-use Rattle.sfs_base.proofs.BasicNumbers.{same_number, not_same, zero_plus}
-use Rattle.sfs_base.proofs.BasicOptions.{none_some, some_same, some_not_none}
-use Rattle.sfs_base.proofs.BasicTruth.{and_true, and_false, true_not_false}
+use Rattle.std.proofs.lemmas.Bool.{cases_lt, lt-ltb, le-ltb}
+use Rattle.sfs_base.proofs.BasicNumbers.{same_number, not_same}
+use Rattle.sfs_base.proofs.BasicOptions.{none_some}
+use Rattle.sfs_base.proofs.BasicTruth.{and_true, and_false}
 use Rattle.sfs_image.specs.Bytes.{zeros, is_nonzero, nonzero_in}
-use Rattle.sfs_image.specs.Seen.{Seen, FILE_BLOCKS}
-use Rattle.sfs_image.specs.Slot.{Row}
 use Rattle.sfs_image.proofs.Basics.{found_passes}
 use Rattle.sfs_tree.specs.Tree.{TreeState, bytes_of}
 use Rattle.block_map.specs.declared.changed.ChangedBlock.{ChangedBlock}

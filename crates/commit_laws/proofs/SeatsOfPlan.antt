@@ -1,7 +1,6 @@
 -- The nodes that a plan builds: each stands once, and is built with its number.
-use Rattle.std.proofs.Common.{◌≡◌, ◌≢◌, ℕ, zero, suc, ◌+◌, ◌<◌, Bool, true, false, cond, not, ◌||◌, List, [], ◌∷◌, ◌++◌, length, get_or, map, filter, Option, Some, None, option_map, is_some, inl, inr, refl, sym, ap, subst, ◌∙◌, arith, nat_eq, Contains}
+use Rattle.std.proofs.Common.{◌≡◌, ℕ, zero, suc, ◌+◌, ◌<◌, Bool, true, false, cond, not, ◌||◌, List, [], ◌∷◌, ◌++◌, length, get_or, map, filter, Option, Some, None, option_map, is_some, inl, inr, refl, sym, ap, subst, ◌∙◌, arith, nat_eq, Contains}
 use Rattle.std.specs.Prelude.{slice_get, ◌⊎◌}
-use Rattle.std.specs.List.{list_any}
 use Rattle.std.specs.Option.{unwrap_or}
 use borrow.Author.Tests.{eqb-true}
 use Rattle.std.proofs.lemmas.Bool.{cases_Bool, cases_lt}
@@ -10,8 +9,8 @@ use Rattle.std.proofs.lemmas.List.Elements.{Contains-append_left, Contains-appen
 use Rattle.std.proofs.lemmas.List.Kept.{AllPairs-filter}
 use Rattle.std.proofs.lemmas.Option.{slice_get-map, slice_get-get_or, slice_get_within, get_or_from_slice_get}
 use Rattle.sfs_base.proofs.BasicNumbers.{same_number, zero_plus}
-use Rattle.sfs_base.proofs.BasicOptions.{none_some, some_same, some_not_none}
-use Rattle.sfs_base.proofs.BasicTruth.{not_true, not_both, or_true, true_not_false}
+use Rattle.sfs_base.proofs.BasicOptions.{none_some, some_not_none}
+use Rattle.sfs_base.proofs.BasicTruth.{not_true, or_true, true_not_false}
 use Rattle.sfs_image.specs.Seen.{SeenInodes}
 use Rattle.sfs_tree.specs.Tree.{TreeState}
 use Rattle.image_tree.specs.Commit.{Commit}
@@ -26,7 +25,7 @@ use Rattle.disk_change.specs.Directory.{is_among}
 use Rattle.disk_change.specs.Lists.{AscendBy}
 use Rattle.disk_change.specs.Nodes.{entry_node, enter_node}
 use Rattle.disk_change.specs.Planned.{Planned, staying, leaves, seated_old, seated_entering}
-use Rattle.disk_change.specs.Seated.{CommitChanges, Seated, begun_old, begun_entering}
+use Rattle.disk_change.specs.Seated.{Seated, begun_old, begun_entering}
 use Rattle.disk_change.specs.declared.enter.Enter.{Enter}
 use Rattle.disk_change.specs.declared.old.OldEntry.{OldEntry}
 use Rattle.disk_change.proofs.NumbersGiven.{first_in, further_in, planned_node}

@@ -1,5 +1,5 @@
 -- What is built of a node is what stands for it in the new tree.
-use Rattle.std.proofs.Common.{◌≡◌, ℕ, zero, suc, ◌+◌, ◌-◌, ◌*◌, ◌/◌, ◌<◌, ◌≤◌, ◌^◌, min, Bool, true, false, cond, List, [], ◌∷◌, ◌++◌, length, map, take, replicate, Option, Some, None, refl, sym, ap, subst, ◌∙◌, arith, Contains}
+use Rattle.std.proofs.Common.{◌≡◌, ℕ, ◌*◌, ◌/◌, Bool, true, false, cond, List, [], ◌∷◌, ◌++◌, length, take, replicate, Option, Some, None, refl, sym, ap, subst, ◌∙◌, arith, Contains}
 use Rattle.std.specs.List.{find}
 use Rattle.std.specs.Option.{option_map_or}
 use Rattle.std.proofs.Math.Nat.{min-eq_left}
@@ -7,13 +7,13 @@ use Rattle.std.proofs.lemmas.List.{length-append, length-replicate, length-take-
 use Rattle.sfs_base.proofs.BasicOptions.{none_some, some_same}
 use Rattle.sfs_base.specs.declared.numbers.Kind.{Kind}
 use Rattle.sfs_base.specs.declared.numbers.Kind.TheVariants.{File, Directory}
-use Rattle.sfs_image.specs.Seen.{Seen, PLACES}
+use Rattle.sfs_image.specs.Seen.{Seen}
 use Rattle.sfs_image.specs.Slot.{Row, kind_byte}
-use Rattle.sfs_tree.specs.Tree.{TreeState, kind_of, bytes_of, links_of}
+use Rattle.sfs_tree.specs.Tree.{TreeState, kind_of, links_of}
 use Rattle.absorb.specs.declared.nets.NetRow.{NetRow}
 use Rattle.image_tree.specs.Commit.{slots_after}
 use Rattle.image_tree.specs.Renamed.{Numbering}
-use Rattle.image_tree.specs.Slots.{rows_end, blocks_up_to_last, in_blocks}
+use Rattle.image_tree.specs.Slots.{blocks_up_to_last, in_blocks}
 use Rattle.block_map.proofs.Left.{remapped_pointers_stand}
 use Rattle.disk_change.specs.Built.{built}
 use Rattle.disk_change.specs.Directory.{slot_blocks_after}
@@ -24,12 +24,12 @@ use Rattle.disk_change.specs.Numbered.{slot_numbered}
 use Rattle.disk_change.specs.Seat.{blocks_to_last_row}
 use Rattle.disk_change.specs.Seated.{CommitChanges, Begun, seated_as, net_of_node, size_of_blocks}
 use Rattle.disk_change.specs.declared.directory_net.DirectoryNet.{DirectoryNet}
-use Rattle.commit_laws.specs.KnownKinds.{IsNetChild, KnowsChildren, KnowsDirectories, NumbersChildren}
+use Rattle.commit_laws.specs.KnownKinds.{KnowsChildren, KnowsDirectories, NumbersChildren}
 use Rattle.commit_laws.specs.SlotsKept.{slots_joined, blocks_kept}
 use Rattle.commit_laws.specs.Shown.{BeginsWith, LeadNode, ShowsNewNode, BuiltNodesShow}
 use Rattle.disk_change.proofs.NumbersGiven.{first_in, further_in}
 use Rattle.commit_laws.proofs.Counting.{nets_count_links}
-use Rattle.commit_laws.proofs.JoinedSlots.{Slots, AreLong, long_blocks, joined_kept, joined_mapped, end_is}
+use Rattle.commit_laws.proofs.JoinedSlots.{Slots, long_blocks, joined_kept, joined_mapped, end_is}
 use Rattle.commit_laws.proofs.SlotsKept.{long_after, net_slots_are_those}
 
 -- an item that is found is in the list

@@ -1,5 +1,5 @@
 -- The slots of one block among all slots of a directory.
-use Rattle.std.proofs.Common.{◌≡◌, ℕ, zero, suc, ◌+◌, ◌*◌, ◌<◌, ◌≤◌, List, [], ◌∷◌, ◌++◌, length, get_or, map, take, drop, replicate, Option, Some, None, option_map, refl, sym, ap, ◌∙◌, arith}
+use Rattle.std.proofs.Common.{◌≡◌, ℕ, zero, suc, ◌+◌, ◌*◌, ◌<◌, List, [], ◌∷◌, ◌++◌, length, get_or, map, drop, replicate, Option, None, option_map, refl, sym, ap, ◌∙◌, arith}
 use Rattle.std.proofs.lemmas.List.{get_or-take, get_or-drop, get_or_past, get_or-append-add, get_or_append_left, ext_get_or, length-append, length-replicate, length-take-le, length-map}
 use Rattle.sfs_base.proofs.BasicNumbers.{zero_plus}
 use Rattle.sfs_image.specs.Slot.{Row}

@@ -1,33 +1,29 @@
 -- The slots of a directory after a net are those of a commit.
-use Rattle.std.proofs.Common.{◌≡◌, ℕ, zero, suc, ◌+◌, ◌-◌, ◌*◌, ◌/◌, ◌<◌, ◌≤◌, Bool, true, false, cond, ◌&&◌, List, [], ◌∷◌, ◌++◌, length, get_or, map, take, drop, replicate, filter_map, Option, Some, None, is_none, is_some, option_map, inl, inr, refl, sym, ap, subst, ◌∙◌, arith, nat_eq, count_by, Contains}
-use Rattle.std.specs.Prelude.{bytes_eq, slice_get}
-use Rattle.std.specs.Int.{div_ceil}
-use Rattle.std.specs.List.{flat_map, cons_option, range_with_len, list_all}
+use Rattle.std.proofs.Common.{◌≡◌, ℕ, zero, suc, ◌*◌, Bool, true, false, cond, List, [], ◌∷◌, ◌++◌, length, map, take, drop, replicate, Option, Some, None, is_none, is_some, option_map, inr, refl, sym, ap, subst, ◌∙◌, arith, Contains}
+use Rattle.std.specs.Prelude.{bytes_eq}
+use Rattle.std.specs.List.{cons_option, range_with_len}
 use Rattle.std.specs.Option.{option_map_or, unwrap_or}
 use Rattle.std.proofs.lemmas.Bool.{cond-true}
-use Rattle.std.proofs.lemmas.List.{append-nil, append_assoc, map-append, length-append}
+use Rattle.std.proofs.lemmas.List.{append_assoc, map-append}
 use Rattle.std.proofs.lemmas.Grind.{flat_map-append}
 use Rattle.sfs_base.specs.declared.numbers.NodeId.{NodeId}
 use Rattle.sfs_base.proofs.BasicLists.{same_bytes}
-use Rattle.sfs_base.proofs.BasicNumbers.{zero_plus}
 use Rattle.sfs_base.proofs.BasicOptions.{some_same, none_some}
 use Rattle.sfs_image.specs.Slot.{Row}
 use Rattle.sfs_tree.specs.NameRow.{number_of}
 use Rattle.sfs_tree.specs.Tree.{TreeState, is_directory, kind_of, kind_if, kind_again}
-use Rattle.sfs_tree.proofs.Joined.{count-cons}
 use Rattle.sfs_tree.proofs.Readings.{directory_by_kind}
 use Rattle.absorb.specs.declared.nets.NetRow.{NetRow}
 use Rattle.image_tree.specs.Commit.{row_in_net, brought_row, slot_after, new_rows, filled, slots_after}
 use Rattle.image_tree.specs.Renamed.{Numbering}
-use Rattle.image_tree.specs.Slots.{rows_end, blocks_up_to_last, in_blocks}
-use Rattle.image_tree.specs.Stands.{row_on, inode_under}
-use Rattle.block_map.proofs.Places.{range_more}
+use Rattle.image_tree.specs.Slots.{in_blocks}
+use Rattle.image_tree.specs.Stands.{row_on}
 use Rattle.disk_change.specs.Directory.{is_among, row_brought, slot_moved, block_moved, row_new, rows_new, fill_front, rows_left, old_blocks_after, rows_behind, empty_block, block_added, blocks_for, slot_blocks_after}
-use Rattle.disk_change.specs.Numbered.{row_numbered, slot_numbered, block_numbered}
-use Rattle.disk_change.specs.Seat.{has_no_row, blocks_to_last_row}
-use Rattle.disk_change.proofs.Blocks.{fill-append, left-append, length-fill, drop_none}
-use Rattle.commit_laws.specs.KnownKinds.{IsNetChild, KnowsChildren, NumbersChildren}
-use Rattle.commit_laws.specs.SlotsKept.{AreSlotBlocks, slots_joined, blocks_kept, NetSlotsAreThose}
+use Rattle.disk_change.specs.Numbered.{row_numbered, slot_numbered}
+use Rattle.disk_change.specs.Seat.{blocks_to_last_row}
+use Rattle.disk_change.proofs.Blocks.{fill-append, left-append, length-fill}
+use Rattle.commit_laws.specs.KnownKinds.{KnowsChildren, NumbersChildren}
+use Rattle.commit_laws.specs.SlotsKept.{slots_joined, NetSlotsAreThose}
 use Rattle.disk_change.proofs.NumbersGiven.{first_in, further_in}
 use Rattle.commit_laws.proofs.JoinedSlots.{Slots, joined_kept, in_blocks_padded, in_blocks_mapped, joined_mapped, AreLong, long_blocks, filled_is, filled_mapped, added_blocks}
 

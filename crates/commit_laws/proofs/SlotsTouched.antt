@@ -1,12 +1,10 @@
 -- Which blocks of a directory a net changes.
-use Rattle.std.proofs.Common.{◌≡◌, ◌≢◌, ℕ, zero, suc, ◌+◌, ◌-◌, ◌*◌, ◌<◌, ◌≤◌, Bool, true, false, cond, not, ◌&&◌, ◌||◌, List, [], ◌∷◌, ◌++◌, length, get_or, map, drop, replicate, filter_map, Option, Some, None, is_none, is_some, option_map, inl, inr, refl, sym, ap, subst, ◌∙◌, arith, nat_eq, count_by, Contains}
+use Rattle.std.proofs.Common.{◌≡◌, ◌≢◌, ℕ, zero, suc, ◌+◌, ◌-◌, ◌*◌, ◌<◌, ◌≤◌, Bool, true, false, cond, not, ◌&&◌, ◌||◌, List, [], ◌∷◌, length, get_or, map, drop, replicate, Option, Some, None, is_none, is_some, inl, inr, refl, sym, ap, ◌∙◌, arith, nat_eq, count_by, Contains}
 use Rattle.std.specs.Prelude.{slice_get}
-use Rattle.std.specs.Int.{div_ceil}
 use Rattle.std.specs.List.{list_any, range_with_len}
 use Rattle.std.specs.Option.{option_map_or, option_eq, unwrap_or}
-use borrow.Author.Tests.{eqb-true}
 use Rattle.std.proofs.lemmas.Bool.{cases_Bool, cases_lt}
-use Rattle.std.proofs.lemmas.List.{get_or_past, get_or-append-add, get_or_append_left, length-append, length-map, length-replicate, length-drop}
+use Rattle.std.proofs.lemmas.List.{get_or_past, get_or-append-add, get_or_append_left, length-append, length-drop}
 use Rattle.std.proofs.lemmas.List.Elements.{Contains-append_left, Contains-append_right}
 use Rattle.std.proofs.lemmas.List.FromFn.{get_or-map-range_with_len, length-map-range_with_len}
 use Rattle.sfs_base.proofs.BasicNumbers.{same_number, not_same, zero_plus}

@@ -1,25 +1,23 @@
 -- What is built shows the image that the commit makes, and this image stands for the new tree.
-use Rattle.std.proofs.Common.{◌≡◌, ℕ, ◌+◌, ◌-◌, ◌*◌, ◌/◌, ◌<◌, Bool, true, false, cond, not, ◌&&◌, List, length, map, Option, Some, None, option_map, refl, sym, ap, ◌∙◌, nat_lt, nat_eq}
+use Rattle.std.proofs.Common.{◌≡◌, ℕ, ◌-◌, ◌*◌, ◌/◌, Bool, true, false, cond, not, ◌&&◌, List, length, Option, Some, option_map, refl, sym, ap, ◌∙◌, nat_lt, nat_eq}
 use Rattle.std.specs.Prelude.{slice_get}
-use Rattle.std.specs.Option.{option_map_or, unwrap_or}
+use Rattle.std.specs.Option.{unwrap_or}
 use Rattle.std.proofs.lemmas.Option.{slice_get-map}
-use Rattle.sfs_image.specs.Seen.{Seen, SeenInodes, PLACES, FILE_BLOCKS}
+use Rattle.sfs_image.specs.Seen.{Seen, FILE_BLOCKS}
 use Rattle.sfs_image.specs.Slot.{kind_byte}
-use Rattle.sfs_tree.specs.Tree.{TreeState, kind_of, links_of, bytes_of}
-use Rattle.image_tree.specs.Commit.{Commit, seen_before, slots_after}
-use Rattle.image_tree.specs.Need.{Rewrite, takes_place, pointer_after, place_in_row, granted_block, rewrites_table, table_has_pointer}
+use Rattle.sfs_tree.specs.Tree.{kind_of, links_of, bytes_of}
+use Rattle.image_tree.specs.Commit.{seen_before, slots_after}
+use Rattle.image_tree.specs.Need.{Rewrite, takes_place, pointer_after, rewrites_table, table_has_pointer}
 use Rattle.image_tree.specs.Slots.{in_blocks}
 use Rattle.image_tree.proofs.Committed.{commits_keep_standing}
 use Rattle.block_map.specs.Remap.{fresh_for}
-use Rattle.space_map.specs.Space.{GrantedNumbers}
 use Rattle.disk_change.specs.AllBuilt.{numbers_with}
 use Rattle.disk_change.specs.Built.{Built, built, rewrite_in}
-use Rattle.disk_change.specs.Planned.{Planned}
-use Rattle.disk_change.specs.Seated.{Begun, Seated, seated, net_of_node}
+use Rattle.disk_change.specs.Seated.{Seated, seated, net_of_node}
 use Rattle.disk_change.proofs.NumbersGiven.{planned_node}
-use Rattle.commit_laws.specs.CommitMade.{IsCommitOf, inodes_built, seated_nodes, rewrites_seated, rewrites_of_change}
+use Rattle.commit_laws.specs.CommitMade.{seated_nodes, rewrites_seated}
 use Rattle.commit_laws.specs.Ranked.{fresh_cut}
-use Rattle.commit_laws.specs.Whole.{ShowsInode, IsBuiltAt, BuiltNodesShowTheirInodes, ChangesLeaveTrees}
+use Rattle.commit_laws.specs.Whole.{BuiltNodesShowTheirInodes, ChangesLeaveTrees}
 use Rattle.commit_laws.proofs.CommitMade.{by_rank, rewrite_of_node, changes_make_commits}
 use Rattle.commit_laws.proofs.Ranked.{nodes_are_built_by_rank}
 use Rattle.commit_laws.proofs.Shown.{built_nodes_show}

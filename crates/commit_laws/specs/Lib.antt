@@ -9,6 +9,7 @@ pub mod KnownKinds
 pub mod NumbersGiven
 pub mod PartsMade
 pub mod PartsStand
+pub mod PartsTurned
 pub mod PlanShown
 pub mod Ranked
 pub mod Rewritten

@@ -1,5 +1,5 @@
 -- That the numbers of a commit's nodes are those that a commit gives.
-use Rattle.std.specs.Prelude.{◌≡◌, ℕ, ◌==◌, not, Bool, List, map, Option, None, Some, Contains}
+use Rattle.std.specs.Prelude.{◌≡◌, ℕ, ◌==◌, not, Bool, List, map, None, Some, Contains}
 use Rattle.sfs_tree.specs.NameRow.{node_number}
 use Rattle.sfs_base.specs.declared.numbers.NodeId.{NodeId}
 use Rattle.image_tree.specs.Numbers.{numbers_after}

@@ -9,6 +9,7 @@ ghost use Rattle.commit_laws.specs.KeptShown.{KeptPartsShow};
 ghost use Rattle.commit_laws.specs.NumbersGiven.{GivenNumbersAreThose};
 ghost use Rattle.commit_laws.specs.PartsMade.{PlansMakeParts, PlansWriteApart};
 ghost use Rattle.commit_laws.specs.PartsStand.{AlikeImagesStand, PlansLeaveParts};
+ghost use Rattle.commit_laws.specs.PartsTurned.{PlansTurnParts, PlansWriteParts, PlansPointToData};
 ghost use Rattle.commit_laws.specs.PlanShown.{PlansShowInodes, PlansKeepShown};
 ghost use Rattle.commit_laws.specs.Ranked.{NodesAreBuiltByRank, NeedsAreThose};
 ghost use Rattle.commit_laws.specs.Rewritten.{SameRewritesTakeTheSame, PlansRewriteAsDefined, PlansNeedAsDefined};
@@ -144,4 +145,19 @@ pub fn alike_images_stand()
 /// The parts after the commit of a plan stand for the new tree.
 pub fn plans_leave_parts()
     ensures { PlansLeaveParts }
+{}
+
+/// The fresh blocks of a commit turn each part before it into the part after it.
+pub fn plans_turn_parts()
+    ensures { PlansTurnParts }
+{}
+
+/// The records that a commit writes are those of the parts after it.
+pub fn plans_write_parts()
+    ensures { PlansWriteParts }
+{}
+
+/// The parts after a commit point to the data area.
+pub fn plans_point_to_data()
+    ensures { PlansPointToData }
 {}

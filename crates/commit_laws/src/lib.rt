@@ -9,6 +9,7 @@ pub use laws::{
     granted_blocks_are_written, inodes_are_granted_or_old, kept_parts_show, needs_are_those,
     net_slots_are_those, nets_count_links, nodes_are_built_by_rank, plans_keep_shown,
     plans_leave_parts, plans_leave_trees, plans_make_commits, plans_make_directories,
-    plans_make_files, plans_make_parts, plans_need_as_defined, plans_rewrite_as_defined,
-    plans_show_inodes, plans_write_apart, same_rewrites_take_the_same,
+    plans_make_files, plans_make_parts, plans_need_as_defined, plans_point_to_data,
+    plans_rewrite_as_defined, plans_show_inodes, plans_turn_parts, plans_write_apart,
+    plans_write_parts, same_rewrites_take_the_same,
 };

@@ -278,8 +278,8 @@ stands_in_history first history counts log legal is change one =
     let entry = logged_at first history change.stamp.0 change.stamp.0 in
     let at_stamp = log_stamped first history counts log is change.stamp.0 legal kept.1 in
     let same : filter (is_logged_in change.dir.0) (filter (is_of_stamp change.stamp.0) log.changes.items) ≡ filter (is_logged_in change.dir.0) entry =
-        ap (filter (is_logged_in change.dir.0)) (at_stamp ∙ ap (λ d. filter (is_logged_in d) entry) (sym directory))
-        ∙ pass_both (is_logged_in change.dir.0) (is_logged_in change.dir.0) (is_logged_in change.dir.0) (λ c. and_itself (is_logged_in change.dir.0 c)) entry in
+    ap (filter (is_logged_in change.dir.0)) (at_stamp ∙ ap (λ d. filter (is_logged_in d) entry) (sym directory))
+    ∙ pass_both (is_logged_in change.dir.0) (is_logged_in change.dir.0) (is_logged_in change.dir.0) (λ c. and_itself (is_logged_in change.dir.0 c)) entry in
     record {
       counted = is.counted change.stamp.0 kept.1;
       logged = own.0;

@@ -96,14 +96,7 @@ pub fn over_file<R: Threads + Wait + Sync, S: Source, K: Sink>(
 ) -> End {
     match file.try_lock() {
         Err(TryLockError::WouldBlock) => End::InUse,
-        _ => End::Ended(over(
-            rt,
-            alloc,
-            command,
-            source,
-            sink,
-            FileDisk::new(file),
-        )),
+        _ => End::Ended(over(rt, alloc, command, source, sink, FileDisk::new(file))),
     }
 }
 
