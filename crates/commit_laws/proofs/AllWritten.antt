@@ -42,7 +42,7 @@ use Rattle.disk_change.proofs.Directories.{filter_map_more, drop_twice}
 use Rattle.disk_change.proofs.NumbersGiven.{first_in, further_in, drop_zero}
 use Rattle.commit_laws.specs.Granted.{EachAscends, IsGrantFor, GrantedBlocksAreWritten}
 use Rattle.commit_laws.specs.Ranked.{fresh_cut}
-use Rattle.commit_laws.proofs.Granted.{fresh_if_written}
+use Rattle.commit_laws.proofs.Granted.{fresh_if_written, pointer_built}
 
 -- the number of a block that is written
 abbrev pub written_block : TxBlock → ℕ
@@ -68,15 +68,12 @@ module _ (numbers : ℕ → Option ℕ) (net : List NetRow) (number : ℕ) (fres
   abbrev one_built : Built
   one_built = built numbers net number fresh seat
 
-  abbrev pointer : ℕ → ℕ
-  pointer place = pointer_kept one_built.meta one_built.tables place
-
   all_data : count_by takes_fresh seat.changed ≤ length fresh
   all_data = let tables = rank_of_tables seat.meta seat.tables seat.changed up in let more = rank_up (takes_place rewrite) FILE_BLOCKS 16 in omega (arith, tables, more, enough)
 
   -- the pointer of a rewritten block that is not all zeros
   data_pointer : (i : ℕ) (d : ChangedBlock) → i < length seat.changed → (get_or seat.changed i d).is_zero ≡ false → (get_or seat.changed i d).block < FILE_BLOCKS
-      → pointer (get_or seat.changed i d).block ≡ slice_index fresh (count_by takes_fresh (take i seat.changed))
+      → pointer_built one_built (get_or seat.changed i d).block ≡ slice_index fresh (count_by takes_fresh (take i seat.changed))
   data_pointer i d within full low =
       let c : ChangedBlock = get_or seat.changed i d in
       let found = change_at seat.changed up i d within in
@@ -88,22 +85,22 @@ module _ (numbers : ℕ → Option ℕ) (net : List NetRow) (number : ℕ) (fres
 
   -- the block of a rewritten block that is not all zeros
   abbrev pub written_data : ChangedBlock → TxBlock
-  written_data c = record { block = pointer c.block; bytes = content_of one_built pages c.block }
+  written_data c = record { block = pointer_built one_built c.block; bytes = content_of one_built pages c.block }
 
-  pub data_given : (i : ℕ) (c : ChangedBlock) → slice_get seat.changed i ≡ Some c → c.is_zero ≡ false → c.block < FILE_BLOCKS → (pointer c.block ≢ 0) × (data_written one_built pages c ≡ Some (written_data c))
+  pub data_given : (i : ℕ) (c : ChangedBlock) → slice_get seat.changed i ≡ Some c → c.is_zero ≡ false → c.block < FILE_BLOCKS → (pointer_built one_built c.block ≢ 0) × (data_written one_built pages c ≡ Some (written_data c))
   data_given i c at full low =
       let within = slice_get_within seat.changed i c at in
       let here = get_or_from_slice_get seat.changed i c c at in
       let before : ℕ = count_by takes_fresh (take i seat.changed) in
-      let pointer_at : pointer c.block ≡ slice_index fresh before =
-      subst (λ x. x.is_zero ≡ false → x.block < FILE_BLOCKS → pointer x.block ≡ slice_index fresh before) here (data_pointer i c within) full low in
+      let pointer_at : pointer_built one_built c.block ≡ slice_index fresh before =
+      subst (λ x. x.is_zero ≡ false → x.block < FILE_BLOCKS → pointer_built one_built x.block ≡ slice_index fresh before) here (data_pointer i c within) full low in
       let next : count_by takes_fresh (take (i + 1) seat.changed) ≡ before + cond (takes_fresh c) 1 0 =
       ap (count_by takes_fresh) (take_more seat.changed i c within) ∙ count_last (get_or seat.changed i c) (take i seat.changed) ∙ ap (λ x. before + cond (takes_fresh x) 1 0) here in
       let takes : takes_fresh c ≡ true = (λ j. not (full j) && lt-ltb c.block FILE_BLOCKS low j) in
       let below : before < length fresh = (let one = next ∙ ap (λ b. before + cond b 1 0) takes in omega (arith, count_of_first seat.changed (i + 1), one, all_data)) in
-      let there : pointer c.block ≢ 0 = λ hole. some before below (sym pointer_at ∙ hole) in (
+      let there : pointer_built one_built c.block ≢ 0 = λ hole. some before below (sym pointer_at ∙ hole) in (
         there,
-        cond-false _ None (Some (written_data c)) (λ j. full j || (le_false FILE_BLOCKS c.block low j || not_same (pointer c.block) 0 there j)),
+        cond-false _ None (Some (written_data c)) (λ j. full j || (le_false FILE_BLOCKS c.block low j || not_same (pointer_built one_built c.block) 0 there j)),
       )
 
   -- the first of them have the first blocks
@@ -143,17 +140,17 @@ module _ (numbers : ℕ → Option ℕ) (net : List NetRow) (number : ℕ) (fres
 
           by : (c.is_zero ≡ true) ⊎ (c.is_zero ≡ false) → (c.block < FILE_BLOCKS) ⊎ (FILE_BLOCKS ≤ c.block)
               → take before fresh ++ map written_block (option_to_list (data_written one_built pages c)) ≡ take (before + cond (takes_fresh c) 1 0) fresh
-          by (inl empty) any = none (ap (λ b. not b && nat_lt c.block FILE_BLOCKS) empty) (cond-true _ None _ (ap (λ b. b || (nat_le FILE_BLOCKS c.block || nat_eq (pointer c.block) 0)) empty))
+          by (inl empty) any = none (ap (λ b. not b && nat_lt c.block FILE_BLOCKS) empty) (cond-true _ None _ (ap (λ b. b || (nat_le FILE_BLOCKS c.block || nat_eq (pointer_built one_built c.block) 0)) empty))
           by (inr full) (inr high) = none (ap (λ b. not c.is_zero && b) (le-ltb c.block FILE_BLOCKS high) ∙ and_false (not c.is_zero))
-              (cond-true _ None _ (ap (λ b. c.is_zero || (b || nat_eq (pointer c.block) 0)) (le_true FILE_BLOCKS c.block high) ∙ or_true c.is_zero))
+              (cond-true _ None _ (ap (λ b. c.is_zero || (b || nat_eq (pointer_built one_built c.block) 0)) (le_true FILE_BLOCKS c.block high) ∙ or_true c.is_zero))
           by (inr full) (inl low) =
-              let at : pointer c.block ≡ slice_index fresh before = subst (λ x. x.is_zero ≡ false → x.block < FILE_BLOCKS → pointer x.block ≡ slice_index fresh before) is (data_pointer i NO_CHANGE within) full low in
+              let at : pointer_built one_built c.block ≡ slice_index fresh before = subst (λ x. x.is_zero ≡ false → x.block < FILE_BLOCKS → pointer_built one_built x.block ≡ slice_index fresh before) is (data_pointer i NO_CHANGE within) full low in
               let first = count_of_first seat.changed (suc i) in
               let takes : takes_fresh c ≡ true = (λ j. not (full j) && lt-ltb c.block FILE_BLOCKS low j) in
               let below : before < length fresh = (let one = counted ∙ ap (λ b. before + cond b 1 0) takes in omega (arith, first, one, all_data)) in
-              let there : nat_eq (pointer c.block) 0 ≡ false = not_same (pointer c.block) 0 (λ hole. some before below (sym at ∙ hole)) in
+              let there : nat_eq (pointer_built one_built c.block) 0 ≡ false = not_same (pointer_built one_built c.block) 0 (λ hole. some before below (sym at ∙ hole)) in
               ap (λ o. take before fresh ++ map written_block (option_to_list o))
-              (cond-false _ None (Some (record { block = pointer c.block; bytes = content_of one_built pages c.block })) (λ j. full j || (le_false FILE_BLOCKS c.block low j || there j)))
+              (cond-false _ None (Some (record { block = pointer_built one_built c.block; bytes = content_of one_built pages c.block })) (λ j. full j || (le_false FILE_BLOCKS c.block low j || there j)))
               ∙ ap (λ p. take before fresh ++ p ∷ []) at ∙ sym (take_next fresh before below) ∙ ap (λ b. take (before + cond b 1 0) fresh) (sym takes)
 
   -- the pointer of an indirect block that is written

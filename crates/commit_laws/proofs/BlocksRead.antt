@@ -34,7 +34,7 @@ use Rattle.disk_change.specs.Seated.{Begun, Seated, net_of_node}
 use Rattle.disk_change.specs.declared.pages.Page.{Page}
 use Rattle.disk_change.proofs.NumbersGiven.{planned_node}
 use Rattle.commit_laws.specs.CommitOfPlan.{CommitPlan, change_planned, commit_of, image_planned, IsCommitPlan}
-use Rattle.commit_laws.specs.PartsMade.{store_over, blocks_planned, part_made, IsPlanOverParts}
+use Rattle.commit_laws.specs.PartsMade.{store_over, blocks_planned, part_made, IsPlanOverParts, store_planned}
 use Rattle.commit_laws.specs.Ranked.{fresh_cut}
 use Rattle.commit_laws.proofs.AllWritten.{IsCutFor, cut_of, data_given, written_data}
 use Rattle.commit_laws.proofs.GrantWritten.{each_ascends, each_once, held_is_old, found_once, grant_for}
@@ -43,6 +43,11 @@ use Rattle.commit_laws.proofs.PartsMade.{gathered_itself, in_flat, pointer_is, m
 use Rattle.commit_laws.proofs.PlanShown.{IsBuiltNode}
 use Rattle.commit_laws.proofs.SeatsOfPlan.{there_is_in, in_is_there, in_mapped}
 use Rattle.commit_laws.proofs.Shown.{found_is_in}
+
+-- What is built, its seat and what it began as are of one node.
+pub record IsOneNode (one : Built) (seat : Seated) (begun : Begun) : Type 0 where
+  pub seat_is : seat.node ≡ begun.node
+  pub built_is : one.node ≡ begun.node
 
 module _ (num : Numbering) (concerned : List ℕ) (old new : TreeState) (image : SeenInodes) (plan : CommitPlan) (grant : GrantedNumbers) (store : ℕ → List ℕ) (parts : ℕ → Part)
     (is : IsPlanOverParts num concerned old new image plan grant store parts) (one : Built) (there_one : Contains (nodes_with_grant (change_planned plan) grant) one)
@@ -62,9 +67,6 @@ module _ (num : Numbering) (concerned : List ℕ) (old new : TreeState) (image :
   abbrev fresh : List FreshBlock
   fresh = blocks_planned plan grant
 
-  abbrev over : ℕ → List ℕ
-  over = store_over fresh store
-
   abbrev i : ℕ
   i = node.of.inode
 
@@ -77,29 +79,25 @@ module _ (num : Numbering) (concerned : List ℕ) (old new : TreeState) (image :
   abbrev after : Part
   after = part_made store plan grant one
 
-  abbrev numbers : ℕ → Option ℕ
-  numbers = numbers_with change grant.inodes
-
   abbrev net : List NetRow
   net = net_of_node plan.nets node.seat.node
 
   abbrev number : ℕ
-  number = unwrap_or (numbers node.seat.node) 0
+  number = unwrap_or ((numbers_with change grant.inodes) node.seat.node) 0
 
   abbrev pages : List Page
   pages = pages_of_node plan.files node.seat.node
 
-  pub seat_node : node.seat.node ≡ begun.node
-  seat_node = ap (λ (s : Seated). s.node) (sym node.of.begins) ∙ planned_node change.changes begun begun.kind
-
-  pub node_is : one.node ≡ begun.node
-  node_is = ap (λ (b : Built). b.node) node.is ∙ seat_node
+  pub one_node : IsOneNode one node.seat begun
+  one_node =
+      let seat = ap (λ (s : Seated). s.node) (sym node.of.begins) ∙ planned_node change.changes begun begun.kind in
+      record { seat_is = seat; built_is = ap (λ (b : Built). b.node) node.is ∙ seat }
 
   -- the content of a block is read where its pointer points
-  pub content_is : (n : ℕ) → n < FILE_BLOCKS → slice_index_or after.blocks n [] ≡ read_block over ((next.seen i).blocks n)
+  pub content_is : (n : ℕ) → n < FILE_BLOCKS → slice_index_or after.blocks n [] ≡ read_block (store_planned store plan grant) ((next.seen i).blocks n)
   content_is n low =
-      sym (cond-true (nat_lt n FILE_BLOCKS) _ _ (lt-ltb n FILE_BLOCKS low)) ∙ gathered_is_read over after n (gathered_itself over (inode_bytes one.meta)) (omega arith)
-      ∙ ap (read_block over) (pointer_after_is num concerned old new image plan grant store parts is one there_one node n (omega arith))
+      sym (cond-true (nat_lt n FILE_BLOCKS) _ _ (lt-ltb n FILE_BLOCKS low)) ∙ gathered_is_read (store_planned store plan grant) after n (gathered_itself (store_planned store plan grant) (inode_bytes one.meta)) (omega arith)
+      ∙ ap (read_block (store_planned store plan grant)) (pointer_after_is num concerned old new image plan grant store parts is one there_one node n (omega arith))
 
   pub block_is : (n : ℕ) → n < FILE_BLOCKS → (o : Option ChangedBlock) → change_of node.seat.changed n ≡ o
       → (next.seen i).blocks n ≡ cond (is_some o) (cond (option_map_or (λ (c : ChangedBlock). c.is_zero) o false) 0 (fresh_for (rewrite_in node.seat) own n)) ((rewrite_in node.seat).pointers n)
@@ -111,15 +109,15 @@ module _ (num : Numbering) (concerned : List ℕ) (old new : TreeState) (image :
       ∙ ap (λ (o : Option ChangedBlock). cond (is_some o) (cond (option_map_or (λ (c : ChangedBlock). c.is_zero) o false) 0 (fresh_for (rewrite_in node.seat) own n)) ((rewrite_in node.seat).pointers n)) e
 
   -- a block that was there is read as before
-  pub old_read : (j n : ℕ) → j < image.count → n < FILE_BLOCKS → read_block over (pointer_at (parts j) n) ≡ slice_index_or (parts j).blocks n []
+  pub old_read : (j n : ℕ) → j < image.count → n < FILE_BLOCKS → read_block (store_planned store plan grant) (pointer_at (parts j) n) ≡ slice_index_or (parts j).blocks n []
   old_read j n low_j low =
       by (cases_Bool (nat_eq (pointer_at (parts j) n) 0))
       ∙ sym (gathered_is_read store (parts j) n (is.standing.gathered j low_j) (omega arith)) ∙ cond-true (nat_lt n FILE_BLOCKS) _ _ (lt-ltb n FILE_BLOCKS low)
     where
-      by : (nat_eq (pointer_at (parts j) n) 0 ≡ true) ⊎ (nat_eq (pointer_at (parts j) n) 0 ≡ false) → read_block over (pointer_at (parts j) n) ≡ read_block store (pointer_at (parts j) n)
-      by (inl none) = hole_is_read over (pointer_at (parts j) n) (eqb-true _ 0 none) ∙ sym (hole_is_read store (pointer_at (parts j) n) (eqb-true _ 0 none))
+      by : (nat_eq (pointer_at (parts j) n) 0 ≡ true) ⊎ (nat_eq (pointer_at (parts j) n) 0 ≡ false) → read_block (store_planned store plan grant) (pointer_at (parts j) n) ≡ read_block store (pointer_at (parts j) n)
+      by (inl none) = hole_is_read (store_planned store plan grant) (pointer_at (parts j) n) (eqb-true _ 0 none) ∙ sym (hole_is_read store (pointer_at (parts j) n) (eqb-true _ 0 none))
       by (inr some) =
-          block_behind over (pointer_at (parts j) n) (eqb-false _ 0 some)
+          block_behind (store_planned store plan grant) (pointer_at (parts j) n) (eqb-false _ 0 some)
           ∙ over_old num concerned old new image plan grant store parts is one there_one node (pointer_at (parts j) n) (held_is_old num concerned old new image plan grant store parts is j n low_j (omega arith))
           ∙ sym (block_behind store (pointer_at (parts j) n) (eqb-false _ 0 some))
 
@@ -137,17 +135,17 @@ module _ (num : Numbering) (concerned : List ℕ) (old new : TreeState) (image :
     in_changed : Contains node.seat.changed c
     in_changed = found_is_in (λ (one : ChangedBlock). nat_eq one.block n) node.seat.changed c said
 
-    pub zero_read : c.is_zero ≡ true → read_block over ((next.seen i).blocks n) ≡ zeros 4096
-    zero_read empty = hole_is_read over _ (block_is n low (Some c) said ∙ ap (λ b. cond b 0 (fresh_for (rewrite_in node.seat) own n)) empty)
+    pub zero_read : c.is_zero ≡ true → read_block (store_planned store plan grant) ((next.seen i).blocks n) ≡ zeros 4096
+    zero_read empty = hole_is_read (store_planned store plan grant) _ (block_is n low (Some c) said ∙ ap (λ b. cond b 0 (fresh_for (rewrite_in node.seat) own n)) empty)
 
     abbrev tx : TxBlock
-    tx = written_data numbers net number own node.seat pages up cut.enough cut.some c
+    tx = written_data (numbers_with change grant.inodes) net number own node.seat pages up cut.enough cut.some c
 
-    pub data_read : c.is_zero ≡ false → read_block over ((next.seen i).blocks n) ≡ content_of (built numbers net number own node.seat) pages n
+    pub data_read : c.is_zero ≡ false → read_block (store_planned store plan grant) ((next.seen i).blocks n) ≡ content_of (built (numbers_with change grant.inodes) net number own node.seat) pages n
     data_read full =
-        let made_of : Built = built numbers net number own node.seat in
+        let made_of : Built = built (numbers_with change grant.inodes) net number own node.seat in
         let place = in_is_there node.seat.changed c in_changed in
-        let given = data_given numbers net number own node.seat pages up cut.enough cut.some place.0 c place.1 full (subst (λ m. m < FILE_BLOCKS) (sym at_n) low) in
+        let given = data_given (numbers_with change grant.inodes) net number own node.seat pages up cut.enough cut.some place.0 c place.1 full (subst (λ m. m < FILE_BLOCKS) (sym at_n) low) in
         let in_node : Contains (fresh_of_node plan.files made_of) tx =
         Contains-append_left (filter_map (data_written made_of pages) node.seat.changed) (filter_map (table_of_place made_of) (range_with_len 0 16)) tx (given_is_in (data_written made_of pages) node.seat.changed c tx in_changed given.1) in
         let in_fresh : Contains fresh (block_of tx) =
@@ -155,7 +153,7 @@ module _ (num : Numbering) (concerned : List ℕ) (old new : TreeState) (image :
         let pointer : (next.seen i).blocks n ≡ tx.block =
         sym (pointer_is num concerned old new image plan grant store parts is one there_one node n (omega arith))
         ∙ (λ j. pointer_kept (meta_is num concerned old new image plan grant store parts is one there_one node j) (tables_are num concerned old new image plan grant store parts is one there_one node j) (sym at_n j)) in
-        ap (read_block over) pointer ∙ block_behind over tx.block given.0
+        ap (read_block (store_planned store plan grant)) pointer ∙ block_behind (store_planned store plan grant) tx.block given.0
         ∙ over_fresh num concerned old new image plan grant store parts is one there_one node (block_of tx) tx.block
         (found_once (λ (other : FreshBlock). other.block) fresh (each_once num concerned old new image plan grant store parts is) (block_of tx) in_fresh)
         ∙ ap (content_of made_of pages) at_n

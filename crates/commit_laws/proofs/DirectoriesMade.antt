@@ -40,11 +40,11 @@ use Rattle.disk_change.specs.Seat.{has_no_row, blocks_to_last_row}
 use Rattle.disk_change.specs.Seated.{Begun, Seated, seated_as, net_of_node, size_of_blocks}
 use Rattle.commit_laws.specs.CommitOfPlan.{CommitPlan, change_planned, commit_of, image_planned, IsCommitPlan}
 use Rattle.commit_laws.specs.DirectoriesMade.{HasSlotContents, IsKeptMade, PlansMakeDirectories}
-use Rattle.commit_laws.specs.PartsMade.{store_over, blocks_planned, part_made, IsPlanOverParts}
+use Rattle.commit_laws.specs.PartsMade.{store_over, blocks_planned, part_made, IsPlanOverParts, store_planned, IsPartMade}
 use Rattle.commit_laws.specs.Ranked.{fresh_cut}
 use Rattle.commit_laws.specs.Rewritten.{IsWrittenPlan, SayTheSame}
 use Rattle.commit_laws.specs.SlotsKept.{slots_joined}
-use Rattle.commit_laws.proofs.BlocksRead.{seat_node, node_is, content_is, block_is, old_read, zero_read, data_read}
+use Rattle.commit_laws.proofs.BlocksRead.{content_is, block_is, old_read, zero_read, data_read, IsOneNode, one_node}
 use Rattle.commit_laws.proofs.JoinedSlots.{Slots, long_blocks, length_joined}
 use Rattle.commit_laws.proofs.KeptShown.{joined_slots, slot_blocks}
 use Rattle.commit_laws.proofs.PartsMade.{shows_node, pointer_after_is, part_is_made}
@@ -80,9 +80,6 @@ module _ (num : Numbering) (concerned : List ℕ) (old new : TreeState) (image :
   abbrev next : SeenInodes
   next = image_planned num concerned new image plan grant
 
-  abbrev over : ℕ → List ℕ
-  over = store_over (blocks_planned plan grant) store
-
   abbrev i : ℕ
   i = node.of.inode
 
@@ -91,9 +88,6 @@ module _ (num : Numbering) (concerned : List ℕ) (old new : TreeState) (image :
 
   abbrev after : Part
   after = part_made store plan grant one
-
-  abbrev numbers : ℕ → Option ℕ
-  numbers = numbers_with change grant.inodes
 
   abbrev net : List NetRow
   net = net_of_node plan.nets node.of.begun.node
@@ -107,14 +101,11 @@ module _ (num : Numbering) (concerned : List ℕ) (old new : TreeState) (image :
   abbrev blocks : List Slots
   blocks = slot_blocks_after change.changes.directories net node.of.begun.slots
 
-  seat_same : node.seat.node ≡ begun.node
-  seat_same = seat_node num concerned old new image plan grant store parts is one there_one node
-
-  node_same : one.node ≡ begun.node
-  node_same = node_is num concerned old new image plan grant store parts is one there_one node
+  same_node : IsOneNode one node.seat node.of.begun
+  same_node = one_node num concerned old new image plan grant store parts is one there_one node
 
   kind_old : kind_of old begun.node ≡ Directory
-  kind_old = sym (node.of.built.leads.nets.between.kinds begun.node) ∙ ap (kind_of new) (sym node_same) ∙ directory
+  kind_old = sym (node.of.built.leads.nets.between.kinds begun.node) ∙ ap (kind_of new) (sym same_node.built_is) ∙ directory
 
   kind_begun : begun.kind ≡ Directory
   kind_begun = node.of.built.begins.kind ∙ kind_old
@@ -127,31 +118,31 @@ module _ (num : Numbering) (concerned : List ℕ) (old new : TreeState) (image :
       (directory_says num concerned old new image plan grant written node.m node.seat node.of kind_begun)
 
   -- the slots that are built
-  slots_are : one.slots ≡ map (block_numbered numbers net) (take (blocks_to_last_row blocks) blocks)
-  slots_are = ap (λ (b : Built). b.slots) node.is ∙ (λ j. map (block_numbered numbers (net_of_node plan.nets (seat_same j))) (seat_is_directory j).slots)
+  slots_are : one.slots ≡ map (block_numbered (numbers_with change grant.inodes) net) (take (blocks_to_last_row blocks) blocks)
+  slots_are = ap (λ (b : Built). b.slots) node.is ∙ (λ j. map (block_numbered (numbers_with change grant.inodes) (net_of_node plan.nets (same_node.seat_is j))) (seat_is_directory j).slots)
 
   long_slots : length one.slots ≡ blocks_to_last_row blocks
-  long_slots = ap length slots_are ∙ length-map (take (blocks_to_last_row blocks) blocks) (block_numbered numbers net) ∙ length-take-le (blocks_to_last_row blocks) blocks (last_within blocks)
+  long_slots = ap length slots_are ∙ length-map (take (blocks_to_last_row blocks) blocks) (block_numbered (numbers_with change grant.inodes) net) ∙ length-take-le (blocks_to_last_row blocks) blocks (last_within blocks)
 
   block_at : (n : ℕ) (d : Slots) → n < blocks_to_last_row blocks → get_or one.slots n d ≡ slots_in_block n slots
   block_at n d low =
       ap (λ those. get_or those n d) slots_are
-      ∙ get_or-map (block_numbered numbers net) (take (blocks_to_last_row blocks) blocks) n empty_block d (omega (arith, low, length-take-le (blocks_to_last_row blocks) blocks (last_within blocks)))
-      ∙ ap (block_numbered numbers net) (get_or-take (blocks_to_last_row blocks) blocks n empty_block low)
+      ∙ get_or-map (block_numbered (numbers_with change grant.inodes) net) (take (blocks_to_last_row blocks) blocks) n empty_block d (omega (arith, low, length-take-le (blocks_to_last_row blocks) blocks (last_within blocks)))
+      ∙ ap (block_numbered (numbers_with change grant.inodes) net) (get_or-take (blocks_to_last_row blocks) blocks n empty_block low)
       ∙ sym (new_block num concerned old new image plan grant written node.m node.seat node.of n)
 
   few : blocks_to_last_row blocks ≤ DIRECTORY_BLOCKS
   few = subst (λ b. b ≤ DIRECTORY_BLOCKS) (sym (end num concerned old new image plan grant written node.m node.seat node.of)) node.of.built.leads.blocks
 
   -- empty slots are read of a hole
-  hole_slots : (n : ℕ) → (next.seen i).blocks n ≡ 0 → list_all is_none (slots_in_block n slots) ≡ true → slots_of (read_block over ((next.seen i).blocks n)) ≡ slots_in_block n slots
-  hole_slots n none empty = ap slots_of (hole_is_read over _ none) ∙ empty_blocks_are_holes n slots empty
+  hole_slots : (n : ℕ) → (next.seen i).blocks n ≡ 0 → list_all is_none (slots_in_block n slots) ≡ true → slots_of (read_block (store_planned store plan grant) ((next.seen i).blocks n)) ≡ slots_in_block n slots
+  hole_slots n none empty = ap slots_of (hole_is_read (store_planned store plan grant) _ none) ∙ empty_blocks_are_holes n slots empty
 
   empties : (n : ℕ) → slots_in_block n slots ≡ empty_block → list_all is_none (slots_in_block n slots) ≡ true
   empties n same = ap (list_all is_none) same
 
   -- a block that is not rewritten has its slots as before
-  kept_block : (n : ℕ) → n < FILE_BLOCKS → rewrites_slots seen slots n ≡ false → slots_of (read_block over ((next.seen i).blocks n)) ≡ slots_in_block n slots
+  kept_block : (n : ℕ) → n < FILE_BLOCKS → rewrites_slots seen slots n ≡ false → slots_of (read_block (store_planned store plan grant) ((next.seen i).blocks n)) ≡ slots_in_block n slots
   kept_block n low unwritten = by (num begun.node) refl
     where
       slots_same : slots_in_block n slots ≡ slots_in_block n seen.slots
@@ -169,7 +160,7 @@ module _ (num : Numbering) (concerned : List ℕ) (old new : TreeState) (image :
       old_empty : (n : ℕ) → length node.of.begun.slots ≤ n → slots_in_block n seen.slots ≡ empty_block
       old_empty n past = old_block num concerned old new image plan grant written node.m node.seat node.of n ∙ get_or_past node.of.begun.slots n empty_block past
 
-      by : (o : Option ℕ) → num begun.node ≡ o → slots_of (read_block over ((next.seen i).blocks n)) ≡ slots_in_block n slots
+      by : (o : Option ℕ) → num begun.node ≡ o → slots_of (read_block (store_planned store plan grant) ((next.seen i).blocks n)) ≡ slots_in_block n slots
       by None e =
           hole_slots n (stays ∙ ap (λ (o : Option ℕ). (option_map_or image.seen o blank).blocks n) e)
           (empties n (slots_same ∙ ap (λ (o : Option ℕ). slots_in_block n (option_map_or image.seen o blank).slots) e ∙ none_in_block))
@@ -196,9 +187,9 @@ module _ (num : Numbering) (concerned : List ℕ) (old new : TreeState) (image :
           in_block : slots_in_block n seen.slots ≡ get_or (map slots_of those) n empty_block
           in_block = ap (slots_in_block n) seen_slots ∙ in_block_joined (map slots_of those) (long_blocks (map slots_of those) (slot_blocks those)) n
 
-          of_old : (n < length those) ⊎ (length those ≤ n) → slots_of (read_block over ((next.seen i).blocks n)) ≡ slots_in_block n slots
+          of_old : (n < length those) ⊎ (length those ≤ n) → slots_of (read_block (store_planned store plan grant) ((next.seen i).blocks n)) ≡ slots_in_block n slots
           of_old (inl there) =
-              ap (λ p. slots_of (read_block over p)) (stays ∙ ap (λ (s : Seen). s.blocks n) seen_j)
+              ap (λ p. slots_of (read_block (store_planned store plan grant) p)) (stays ∙ ap (λ (s : Seen). s.blocks n) seen_j)
               ∙ ap slots_of (old_read num concerned old new image plan grant store parts is one there_one node j n low_j low ∙ sym (taken there))
               ∙ sym (get_or-map slots_of those n [] empty_block there) ∙ sym in_block ∙ sym slots_same
             where
@@ -220,29 +211,29 @@ module _ (num : Numbering) (concerned : List ℕ) (old new : TreeState) (image :
                   omega (arith, past, count, whole_count, length-map those slots_of)
 
   -- a block that is rewritten has the new ones
-  new_slots : (n : ℕ) → n < blocks_to_last_row blocks → rewrites_slots seen slots n ≡ true → slots_of (read_block over ((next.seen i).blocks n)) ≡ slots_in_block n slots
+  new_slots : (n : ℕ) → n < blocks_to_last_row blocks → rewrites_slots seen slots n ≡ true → slots_of (read_block (store_planned store plan grant) ((next.seen i).blocks n)) ≡ slots_in_block n slots
   new_slots n low rewritten = by (change_of node.seat.changed n) refl
     where
       below : n < FILE_BLOCKS
       below = let most = few in omega arith
 
-      by : (o : Option ChangedBlock) → change_of node.seat.changed n ≡ o → slots_of (read_block over ((next.seen i).blocks n)) ≡ slots_in_block n slots
+      by : (o : Option ChangedBlock) → change_of node.seat.changed n ≡ o → slots_of (read_block (store_planned store plan grant) ((next.seen i).blocks n)) ≡ slots_in_block n slots
       by None e = absurd (false_not_true (ap is_some (sym e) ∙ says.rewritten n below ∙ rewritten))
       by (Some c) e = by_zero (cases_Bool c.is_zero)
         where
           zero_is : c.is_zero ≡ list_all is_none (slots_in_block n slots)
           zero_is = ap (λ (o : Option ChangedBlock). option_map_or (λ (one : ChangedBlock). one.is_zero) o false) (sym e) ∙ says.zero n below rewritten
 
-          kind_built : (built numbers (net_of_node plan.nets node.seat.node) (unwrap_or (numbers node.seat.node) 0) (fresh_cut change.seats grant.blocks node.m node.seat) node.seat).meta.kind ≡ 2
+          kind_built : (built (numbers_with change grant.inodes) (net_of_node plan.nets node.seat.node) (unwrap_or ((numbers_with change grant.inodes) node.seat.node) 0) (fresh_cut change.seats grant.blocks node.m node.seat) node.seat).meta.kind ≡ 2
           kind_built = ap (λ (s : Seated). s.meta.kind) seat_is_directory
 
-          slots_built : (built numbers (net_of_node plan.nets node.seat.node) (unwrap_or (numbers node.seat.node) 0) (fresh_cut change.seats grant.blocks node.m node.seat) node.seat).slots ≡ one.slots
+          slots_built : (built (numbers_with change grant.inodes) (net_of_node plan.nets node.seat.node) (unwrap_or ((numbers_with change grant.inodes) node.seat.node) 0) (fresh_cut change.seats grant.blocks node.m node.seat) node.seat).slots ≡ one.slots
           slots_built = ap (λ (b : Built). b.slots) (sym node.is)
 
           there : slice_get one.slots n ≡ Some (slots_in_block n slots)
           there = slice_get-get_or one.slots n empty_block (omega (arith, low, long_slots)) ∙ ap Some (block_at n empty_block low)
 
-          by_zero : (c.is_zero ≡ true) ⊎ (c.is_zero ≡ false) → slots_of (read_block over ((next.seen i).blocks n)) ≡ slots_in_block n slots
+          by_zero : (c.is_zero ≡ true) ⊎ (c.is_zero ≡ false) → slots_of (read_block (store_planned store plan grant) ((next.seen i).blocks n)) ≡ slots_in_block n slots
           by_zero (inl empty) =
               ap slots_of (zero_read num concerned old new image plan grant store parts is one there_one node n below c e empty) ∙ empty_blocks_are_holes n slots (sym zero_is ∙ empty)
           by_zero (inr full) =
@@ -259,12 +250,12 @@ module _ (num : Numbering) (concerned : List ℕ) (old new : TreeState) (image :
         | inr f ↦ kept_block n (let most = few in omega arith) f
       ]
 
-  inode_same : inode_in after ≡ one.meta
-  inode_same = (part_is_made num concerned old new image plan grant store parts is one there_one node).inode
+  made_part : IsPartMade (blocks_planned plan grant) (parts one.number) after one
+  made_part = part_is_made num concerned old new image plan grant store parts is one there_one node
 
   size_same : (inode_in after).size / 4096 ≡ blocks_to_last_row blocks
   size_same =
-      ap (λ (m : Inode). m.size / 4096) inode_same ∙ ap (λ (b : Built). b.meta.size / 4096) node.is ∙ ap (λ (s : Seated). s.meta.size / 4096) seat_is_directory
+      ap (λ (m : Inode). m.size / 4096) made_part.inode ∙ ap (λ (b : Built). b.meta.size / 4096) node.is ∙ ap (λ (s : Seated). s.meta.size / 4096) seat_is_directory
       ∙ whole_size (blocks_to_last_row blocks) few
     where
       whole_size : (b : ℕ) → b ≤ DIRECTORY_BLOCKS → size_of_blocks b / 4096 ≡ b
@@ -274,7 +265,7 @@ module _ (num : Numbering) (concerned : List ℕ) (old new : TreeState) (image :
           back b = omega arith
 
   kind_after : (inode_in after).kind ≡ kind_byte Directory
-  kind_after = ap (λ (m : Inode). m.kind) inode_same ∙ ap (λ (b : Built). b.meta.kind) node.is ∙ ap (λ (s : Seated). s.meta.kind) seat_is_directory
+  kind_after = ap (λ (m : Inode). m.kind) made_part.inode ∙ ap (λ (b : Built). b.meta.kind) node.is ∙ ap (λ (s : Seated). s.meta.kind) seat_is_directory
 
   long_after : length (directory_blocks after) ≡ blocks_to_last_row blocks
   long_after =
@@ -295,14 +286,14 @@ module _ (num : Numbering) (concerned : List ℕ) (old new : TreeState) (image :
   pub directory_is_made : IsKeptMade next after one
   directory_is_made = record {
     kept = λ j. record {
-      inode = inode_same j;
+      inode = made_part.inode j;
       tables = (part_is_made num concerned old new image plan grant store parts is one there_one node).tables j;
       slots = (cond-true (is_directory_part after) (map slots_of (directory_blocks after)) [] is_directory_after ∙ kept_slots_are) j;
     };
     shows = record {
-      kind = ap (λ (m : Inode). m.kind) inode_same ∙ node.shows.kind;
-      links = ap (λ (m : Inode). m.links) inode_same ∙ node.shows.links;
-      size = ap (λ (m : Inode). m.size) inode_same ∙ node.shows.size;
+      kind = ap (λ (m : Inode). m.kind) made_part.inode ∙ node.shows.kind;
+      links = ap (λ (m : Inode). m.links) made_part.inode ∙ node.shows.links;
+      size = ap (λ (m : Inode). m.size) made_part.inode ∙ node.shows.size;
       slots = cond-true (is_directory_part after) (flat_map slots_of (directory_blocks after)) [] is_directory_after ∙ sym (joined_slots (directory_blocks after)) ∙ ap slots_joined kept_slots_are ∙ node.shows.slots;
       bytes = ap (λ k. cond (nat_eq k 1) (tabulate (inode_in after).size (file_byte after)) []) kind_after ∙ sym (ap (λ n. (next.seen n).bytes) node.inode ∙ shows.bytes ∙ plain);
       blocks = λ place low. pointer_after_is num concerned old new image plan grant store parts is one there_one node place low ∙ ap (λ n. (next.seen n).blocks place) (sym node.inode);
@@ -313,7 +304,7 @@ module _ (num : Numbering) (concerned : List ℕ) (old new : TreeState) (image :
       shows = shows_node num concerned old new image plan grant store parts is one there_one node
 
       plain : bytes_of new begun.node ≡ []
-      plain = is.full.sound.storable.limits.plain begun.node (directory_by_kind new begun.node ∙ ap is_directory_kind (ap (kind_of new) (sym node_same) ∙ directory))
+      plain = is.full.sound.storable.limits.plain begun.node (directory_by_kind new begun.node ∙ ap is_directory_kind (ap (kind_of new) (sym same_node.built_is) ∙ directory))
 
 pub plans_make_directories : PlansMakeDirectories
 plans_make_directories num concerned old new image plan grant store parts is contents one there directory =

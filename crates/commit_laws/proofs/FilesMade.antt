@@ -39,12 +39,12 @@ use Rattle.disk_change.proofs.Blocks.{drop_none}
 use Rattle.disk_change.proofs.NumbersGiven.{planned_node, drop_zero}
 use Rattle.commit_laws.specs.CommitOfPlan.{CommitPlan, change_planned, commit_of, image_planned, IsCommitPlan}
 use Rattle.commit_laws.specs.FilesMade.{HasBytesInBlocks, HasFileBlocks, IsFileMade, PlansMakeFiles}
-use Rattle.commit_laws.specs.PartsMade.{store_over, blocks_planned, part_made, IsPlanOverParts}
+use Rattle.commit_laws.specs.PartsMade.{store_over, blocks_planned, part_made, IsPlanOverParts, store_planned, IsPartMade}
 use Rattle.commit_laws.specs.Ranked.{fresh_cut}
 use Rattle.commit_laws.specs.Rewritten.{bytes_in_block}
 use Rattle.commit_laws.specs.SlotsKept.{slots_joined}
 use Rattle.commit_laws.proofs.BegunShown.{made}
-use Rattle.commit_laws.proofs.BlocksRead.{seat_node, node_is, content_is, block_is, old_read, zero_read, data_read}
+use Rattle.commit_laws.proofs.BlocksRead.{content_is, block_is, old_read, zero_read, data_read, IsOneNode, one_node}
 use Rattle.commit_laws.proofs.NumbersGiven.{kept_in}
 use Rattle.commit_laws.proofs.PartsMade.{shows_node, pointer_after_is, part_is_made}
 use Rattle.commit_laws.proofs.PlanShown.{IsBuiltNode, node_built}
@@ -94,9 +94,6 @@ module _ (num : Numbering) (concerned : List ℕ) (old new : TreeState) (image :
   abbrev fresh : List FreshBlock
   fresh = blocks_planned plan grant
 
-  abbrev over : ℕ → List ℕ
-  over = store_over fresh store
-
   abbrev i : ℕ
   i = node.of.inode
 
@@ -109,26 +106,20 @@ module _ (num : Numbering) (concerned : List ℕ) (old new : TreeState) (image :
   abbrev after : Part
   after = part_made store plan grant one
 
-  abbrev numbers : ℕ → Option ℕ
-  numbers = numbers_with change grant.inodes
-
   abbrev net : List NetRow
   net = net_of_node plan.nets node.seat.node
 
   abbrev number : ℕ
-  number = unwrap_or (numbers node.seat.node) 0
+  number = unwrap_or ((numbers_with change grant.inodes) node.seat.node) 0
 
   abbrev pages : List Page
   pages = pages_of_node plan.files node.seat.node
 
-  abbrev seat_same : node.seat.node ≡ begun.node
-  seat_same = seat_node num concerned old new image plan grant store parts is one there_one node
-
-  abbrev node_same : one.node ≡ begun.node
-  node_same = node_is num concerned old new image plan grant store parts is one there_one node
+  same_node : IsOneNode one node.seat node.of.begun
+  same_node = one_node num concerned old new image plan grant store parts is one there_one node
 
   kind_old : kind_of old begun.node ≡ File
-  kind_old = sym (node.of.built.leads.nets.between.kinds begun.node) ∙ ap (kind_of new) (sym node_same) ∙ file
+  kind_old = sym (node.of.built.leads.nets.between.kinds begun.node) ∙ ap (kind_of new) (sym same_node.built_is) ∙ file
 
   kind_begun : begun.kind ≡ File
   kind_begun = node.of.built.begins.kind ∙ kind_old
@@ -144,27 +135,27 @@ module _ (num : Numbering) (concerned : List ℕ) (old new : TreeState) (image :
   no_bytes_before none = elim (seat_comes num concerned old new image plan grant whole node.seat (there_is_in change.seats node.m node.seat node.at)) [
     | inl (entry, stay, same) ↦
         let there = (kept_in _ plan.old entry stay).0 in
-        let here : begun.node ≡ entry.node.0 = sym seat_same ∙ ap (λ (s : Seated). s.node) (sym same) ∙ planned_node change.changes (begun_old entry) (begun_old entry).kind in
+        let here : begun.node ≡ entry.node.0 = sym same_node.seat_is ∙ ap (λ (s : Seated). s.node) (sym same) ∙ planned_node change.changes (begun_old entry) (begun_old entry).kind in
         absurd (none_some (sym none ∙ ap num here ∙ whole.from.numbered.old_numbers entry there))
     | inr (enter, there, same) ↦
-        let here : begun.node ≡ enter.node.0 = sym seat_same ∙ ap (λ (s : Seated). s.node) (sym same) ∙ planned_node change.changes (begun_entering enter) (begun_entering enter).kind in
+        let here : begun.node ≡ enter.node.0 = sym same_node.seat_is ∙ ap (λ (s : Seated). s.node) (sym same) ∙ planned_node change.changes (begun_entering enter) (begun_entering enter).kind in
         ap (bytes_of old) here ∙ is.full.sizes.entering enter there
   ]
 
   untouched_block : (n : ℕ) → n < FILE_BLOCKS → item_with page_block n (pages_of_node plan.files begun.node) ≡ None → slice_index_or after.blocks n [] ≡ bytes_in_block n (bytes_of new begun.node)
-  untouched_block n low none = content_is num concerned old new image plan grant store parts is one there_one node n low ∙ ap (read_block over) stays ∙ by (num begun.node) refl ∙ sym (blocks.untouched begun.node n node.of.among (ap is_some none))
+  untouched_block n low none = content_is num concerned old new image plan grant store parts is one there_one node n low ∙ ap (read_block (store_planned store plan grant)) stays ∙ by (num begun.node) refl ∙ sym (blocks.untouched begun.node n node.of.among (ap is_some none))
     where
       stays : (next.seen i).blocks n ≡ (seen_before commit image begun.node).blocks n
       stays =
           block_is num concerned old new image plan grant store parts is one there_one node n low None (changed_is n ∙ ap (option_map page_said) none)
-          ∙ (made num concerned old new image plan grant is.full).is.pointers node.m n node.seat node.at (omega arith) ∙ ap (λ x. (seen_before commit image x).blocks n) seat_same
+          ∙ (made num concerned old new image plan grant is.full).is.pointers node.m n node.seat node.at (omega arith) ∙ ap (λ x. (seen_before commit image x).blocks n) same_node.seat_is
 
-      by : (o : Option ℕ) → num begun.node ≡ o → read_block over ((seen_before commit image begun.node).blocks n) ≡ bytes_in_block n (bytes_of old begun.node)
+      by : (o : Option ℕ) → num begun.node ≡ o → read_block (store_planned store plan grant) ((seen_before commit image begun.node).blocks n) ≡ bytes_in_block n (bytes_of old begun.node)
       by None e =
-          hole_is_read over _ (ap (λ (o : Option ℕ). (option_map_or image.seen o blank).blocks n) e) ∙ no_bytes n ∙ ap (bytes_in_block n) (sym (no_bytes_before e))
+          hole_is_read (store_planned store plan grant) _ (ap (λ (o : Option ℕ). (option_map_or image.seen o blank).blocks n) e) ∙ no_bytes n ∙ ap (bytes_in_block n) (sym (no_bytes_before e))
       by (Some j) e =
           let low_j = whole.stands.within begun.node j e in
-          ap (read_block over) (ap (λ (o : Option ℕ). (option_map_or image.seen o blank).blocks n) e ∙ ap (λ (s : Seen). s.blocks n) (is.standing.shown j low_j))
+          ap (read_block (store_planned store plan grant)) (ap (λ (o : Option ℕ). (option_map_or image.seen o blank).blocks n) e ∙ ap (λ (s : Seen). s.blocks n) (is.standing.shown j low_j))
           ∙ old_read num concerned old new image plan grant store parts is one there_one node j n low_j low ∙ blocks.before begun.node j node.of.among e kind_old n low
 
   touched_block : (n : ℕ) → n < FILE_BLOCKS → (page : Page) → item_with page_block n (pages_of_node plan.files begun.node) ≡ Some page → slice_index_or after.blocks n [] ≡ bytes_in_block n (bytes_of new begun.node)
@@ -176,17 +167,17 @@ module _ (num : Numbering) (concerned : List ℕ) (old new : TreeState) (image :
       long : length page.bytes ≡ 4096
       long = ap length (page_bytes new plan blocks.pages begun.node n page is_page) ∙ length_block n (bytes_of new begun.node)
 
-      by : ((page_said page).is_zero ≡ true) ⊎ ((page_said page).is_zero ≡ false) → read_block over ((next.seen i).blocks n) ≡ page.bytes
+      by : ((page_said page).is_zero ≡ true) ⊎ ((page_said page).is_zero ≡ false) → read_block (store_planned store plan grant) ((next.seen i).blocks n) ≡ page.bytes
       by (inl empty) = zero_read num concerned old new image plan grant store parts is one there_one node n low (page_said page) said empty ∙ zero_block page.bytes long empty
       by (inr full) = data_read num concerned old new image plan grant store parts is one there_one node n low (page_said page) said full ∙ content
         where
-          kind_file : (built numbers net number own node.seat).meta.kind ≡ 1
+          kind_file : (built (numbers_with change grant.inodes) net number own node.seat).meta.kind ≡ 1
           kind_file = ap (λ (s : Seated). s.meta.kind) seat_is_file
 
-          content : content_of (built numbers net number own node.seat) pages n ≡ page.bytes
+          content : content_of (built (numbers_with change grant.inodes) net number own node.seat) pages n ≡ page.bytes
           content =
-              cond-false (nat_eq (built numbers net number own node.seat).meta.kind 2) _ _ (ap (λ k. nat_eq k 2) kind_file)
-              ∙ ap (λ (o : Option Page). option_map_or (λ p. p.bytes) o zero_bytes) (ap (λ x. item_with page_block n (pages_of_node plan.files x)) seat_same ∙ is_page)
+              cond-false (nat_eq (built (numbers_with change grant.inodes) net number own node.seat).meta.kind 2) _ _ (ap (λ k. nat_eq k 2) kind_file)
+              ∙ ap (λ (o : Option Page). option_map_or (λ p. p.bytes) o zero_bytes) (ap (λ x. item_with page_block n (pages_of_node plan.files x)) same_node.seat_is ∙ is_page)
 
   pub file_blocks : HasBytesInBlocks after (bytes_of new begun.node)
   file_blocks n low = by (item_with page_block n (pages_of_node plan.files begun.node)) refl
@@ -201,28 +192,28 @@ module _ (num : Numbering) (concerned : List ℕ) (old new : TreeState) (image :
   next_is : of_next ≡ next.seen i
   next_is = ap next.seen node.inode
 
-  inode_same : inode_in after ≡ one.meta
-  inode_same = (part_is_made num concerned old new image plan grant store parts is one there_one node).inode
+  made_part : IsPartMade fresh (parts one.number) after one
+  made_part = part_is_made num concerned old new image plan grant store parts is one there_one node
 
   kind_next : (next.seen i).kind ≡ kind_byte File
-  kind_next = (shows_node num concerned old new image plan grant store parts is one there_one node).kind ∙ ap kind_byte (ap (kind_of new) (sym node_same) ∙ file)
+  kind_next = (shows_node num concerned old new image plan grant store parts is one there_one node).kind ∙ ap kind_byte (ap (kind_of new) (sym same_node.built_is) ∙ file)
 
   kind_after : (inode_in after).kind ≡ kind_byte File
-  kind_after = ap (λ (m : Inode). m.kind) inode_same ∙ node.shows.kind ∙ ap (λ (s : Seen). s.kind) next_is ∙ kind_next
+  kind_after = ap (λ (m : Inode). m.kind) made_part.inode ∙ node.shows.kind ∙ ap (λ (s : Seen). s.kind) next_is ∙ kind_next
 
   size_after : (inode_in after).size ≡ length (bytes_of new begun.node)
   size_after =
       let shows = shows_node num concerned old new image plan grant store parts is one there_one node in
-      ap (λ (m : Inode). m.size) inode_same ∙ node.shows.size ∙ ap (λ (s : Seen). s.size) next_is ∙ shows.size
+      ap (λ (m : Inode). m.size) made_part.inode ∙ node.shows.size ∙ ap (λ (s : Seen). s.size) next_is ∙ shows.size
       ∙ ap (λ k. cond (nat_eq k 2) (4096 * (length (next.seen i).slots / 15)) (length (next.seen i).bytes)) kind_next ∙ ap length shows.bytes
 
   pub file_is_made : IsFileMade new next after one
   file_is_made = record {
-    bytes = subst (λ x. HasBytesInBlocks after (bytes_of new x)) (sym node_same) file_blocks;
+    bytes = subst (λ x. HasBytesInBlocks after (bytes_of new x)) (sym same_node.built_is) file_blocks;
     shows = record {
-      kind = ap (λ (m : Inode). m.kind) inode_same ∙ node.shows.kind;
-      links = ap (λ (m : Inode). m.links) inode_same ∙ node.shows.links;
-      size = ap (λ (m : Inode). m.size) inode_same ∙ node.shows.size;
+      kind = ap (λ (m : Inode). m.kind) made_part.inode ∙ node.shows.kind;
+      links = ap (λ (m : Inode). m.links) made_part.inode ∙ node.shows.links;
+      size = ap (λ (m : Inode). m.size) made_part.inode ∙ node.shows.size;
       slots = ap (λ k. cond (nat_eq k 2) (flat_map slots_of (directory_blocks after)) []) kind_after ∙ sym (ap slots_joined no_slots) ∙ node.shows.slots;
       bytes = byte_blocks_show after (bytes_of new begun.node) (record { kind = kind_after; size = size_after; each = each_byte })
           ∙ sym (ap (λ (s : Seen). s.bytes) next_is ∙ (shows_node num concerned old new image plan grant store parts is one there_one node).bytes);
@@ -231,7 +222,7 @@ module _ (num : Numbering) (concerned : List ℕ) (old new : TreeState) (image :
   }
     where
       no_slots : one.slots ≡ []
-      no_slots = ap (λ (b : Built). b.slots) node.is ∙ ap (λ (s : Seated). map (block_numbered numbers net) s.slots) seat_is_file
+      no_slots = ap (λ (b : Built). b.slots) node.is ∙ ap (λ (s : Seated). map (block_numbered (numbers_with change grant.inodes) net) s.slots) seat_is_file
 
       each_byte : (place : ℕ) → place < length (bytes_of new begun.node) → file_byte after place ≡ slice_index (bytes_of new begun.node) place
       each_byte place low =

@@ -82,6 +82,10 @@ fresh_if_written true true e a stays = refl
 fresh_if_written true false e a stays = absurd (cc)
 fresh_if_written false some e a stays = absurd (cc)
 
+-- the pointer at a place of what is built
+abbrev pub pointer_built : Built → ℕ → ℕ
+pointer_built one place = pointer_kept one.meta one.tables place
+
 module _ (numbers : ℕ → Option ℕ) (net : List NetRow) (number : ℕ) (fresh : List ℕ) (seat : Seated) (pages : List Page) where
   abbrev rewrite : Rewrite
   rewrite = rewrite_in seat
@@ -89,25 +93,22 @@ module _ (numbers : ℕ → Option ℕ) (net : List NetRow) (number : ℕ) (fres
   abbrev one_built : Built
   one_built = built numbers net number fresh seat
 
-  abbrev pointer : ℕ → ℕ
-  pointer place = pointer_kept one_built.meta one_built.tables place
-
-  stands : (place : ℕ) → place < PLACES → pointer place ≡ pointer_after rewrite (fresh_for rewrite fresh) place
+  stands : (place : ℕ) → place < PLACES → pointer_built one_built place ≡ pointer_after rewrite (fresh_for rewrite fresh) place
   stands place within = remapped_pointers_stand seat.meta seat.tables seat.changed fresh place within
 
-  fresh_there : (place : ℕ) → pointer place ≡ fresh_for rewrite fresh place → pointer place ≢ 0 → Contains fresh (pointer place)
+  fresh_there : (place : ℕ) → pointer_built one_built place ≡ fresh_for rewrite fresh place → pointer_built one_built place ≢ 0 → Contains fresh (pointer_built one_built place)
   fresh_there place is some = subst (λ b. Contains fresh b) (sym is) (is_in fresh _ (λ e. some (is ∙ e)))
 
   -- a block of data that is written
   data_granted : (one : ChangedBlock) → Contains seat.changed one → (written : TxBlock) → data_written one_built pages one ≡ Some written → Contains fresh written.block
-  data_granted one there written e = by (one.is_zero || (nat_le FILE_BLOCKS one.block || nat_eq (pointer one.block) 0)) refl e
+  data_granted one there written e = by (one.is_zero || (nat_le FILE_BLOCKS one.block || nat_eq (pointer_built one_built one.block) 0)) refl e
     where
-      granted : nat_le FILE_BLOCKS one.block ≡ false → nat_eq (pointer one.block) 0 ≡ false → Contains fresh (pointer one.block)
+      granted : nat_le FILE_BLOCKS one.block ≡ false → nat_eq (pointer_built one_built one.block) 0 ≡ false → Contains fresh (pointer_built one_built one.block)
       granted low some =
           let not_above = leb-false FILE_BLOCKS one.block low in
           let below : one.block < FILE_BLOCKS = omega arith in
-          let not_hole = eqb-false (pointer one.block) 0 some in
-          let at : pointer one.block ≡ cond (rewrite.is_zero one.block) 0 (fresh_for rewrite fresh one.block) =
+          let not_hole = eqb-false (pointer_built one_built one.block) 0 some in
+          let at : pointer_built one_built one.block ≡ cond (rewrite.is_zero one.block) 0 (fresh_for rewrite fresh one.block) =
           stands one.block (omega arith) ∙ cond-true (nat_lt one.block FILE_BLOCKS) _ _ (lt-ltb one.block FILE_BLOCKS below)
           ∙ cond-true (rewrite.is_rewritten one.block) (cond (rewrite.is_zero one.block) 0 (fresh_for rewrite fresh one.block)) (rewrite.pointers one.block) (is_said seat.changed one there) in
           elim (cases_Bool (rewrite.is_zero one.block)) [
@@ -115,7 +116,7 @@ module _ (numbers : ℕ → Option ℕ) (net : List NetRow) (number : ℕ) (fres
             | inr f ↦ fresh_there one.block (at ∙ cond-false (rewrite.is_zero one.block) 0 (fresh_for rewrite fresh one.block) f) not_hole
           ]
 
-      by : (b : Bool) → (one.is_zero || (nat_le FILE_BLOCKS one.block || nat_eq (pointer one.block) 0)) ≡ b → data_written one_built pages one ≡ Some written → Contains fresh written.block
+      by : (b : Bool) → (one.is_zero || (nat_le FILE_BLOCKS one.block || nat_eq (pointer_built one_built one.block) 0)) ≡ b → data_written one_built pages one ≡ Some written → Contains fresh written.block
       by true t e = absurd (none_some (sym (cond-true _ None _ t) ∙ e))
       by false f e =
           let rest = or_second one.is_zero _ f in
@@ -126,10 +127,10 @@ module _ (numbers : ℕ → Option ℕ) (net : List NetRow) (number : ℕ) (fres
   table_granted k within written e =
       by (table_fate rewrite k) refl (ap (λ fate. indirect_block_written fate (slice_index one_built.meta.indirect k) (find (λ t. nat_eq t.place k) one_built.tables)) (sym (get_or-tabulate 16 (table_fate rewrite) k Stays within)) ∙ e)
     where
-      own : slice_index one_built.meta.indirect k ≡ pointer (FILE_BLOCKS + k)
+      own : slice_index one_built.meta.indirect k ≡ pointer_built one_built (FILE_BLOCKS + k)
       own = sym (own_place one_built.meta one_built.tables k)
 
-      is_fresh : table_fate rewrite k ≡ IsWritten → pointer (FILE_BLOCKS + k) ≡ fresh_for rewrite fresh (FILE_BLOCKS + k)
+      is_fresh : table_fate rewrite k ≡ IsWritten → pointer_built one_built (FILE_BLOCKS + k) ≡ fresh_for rewrite fresh (FILE_BLOCKS + k)
       is_fresh fate =
           let back : FILE_BLOCKS + k - FILE_BLOCKS ≡ k = omega arith in
           stands (FILE_BLOCKS + k) (omega arith) ∙ cond-false (nat_lt (FILE_BLOCKS + k) FILE_BLOCKS) _ _ (le-ltb (FILE_BLOCKS + k) FILE_BLOCKS (omega arith))
@@ -141,7 +142,7 @@ module _ (numbers : ℕ → Option ℕ) (net : List NetRow) (number : ℕ) (fres
       by IsWritten is e = elim (cases_Bool (nat_eq (slice_index one_built.meta.indirect k) 0)) [
         | inl t ↦ absurd (none_some (sym (cond-true (nat_eq (slice_index one_built.meta.indirect k) 0) None _ t) ∙ e))
         | inr f ↦
-            let some : pointer (FILE_BLOCKS + k) ≢ 0 = λ hole. eqb-false (slice_index one_built.meta.indirect k) 0 f (own ∙ hole) in
+            let some : pointer_built one_built (FILE_BLOCKS + k) ≢ 0 = λ hole. eqb-false (slice_index one_built.meta.indirect k) 0 f (own ∙ hole) in
             subst (λ (w : TxBlock). Contains fresh w.block) (some_same (sym (cond-false (nat_eq (slice_index one_built.meta.indirect k) 0) None _ f) ∙ e))
             (subst (λ b. Contains fresh b) (sym own) (fresh_there (FILE_BLOCKS + k) (is_fresh is) some))
       ]

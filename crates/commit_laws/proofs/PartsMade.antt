@@ -55,7 +55,7 @@ use Rattle.disk_change.specs.declared.pages.Page.{Page}
 use Rattle.commit_laws.specs.CommitMade.{place_among, inodes_built, rewrites_seated}
 use Rattle.commit_laws.specs.CommitOfPlan.{CommitPlan, change_planned, commit_of, image_planned, IsCommitPlan}
 use Rattle.commit_laws.specs.NumbersGiven.{node_leaves}
-use Rattle.commit_laws.specs.PartsMade.{store_over, blocks_planned, part_made, IsPlanOverParts, IsPartMade, PlansMakeParts}
+use Rattle.commit_laws.specs.PartsMade.{store_over, blocks_planned, part_made, IsPlanOverParts, IsPartMade, PlansMakeParts, store_planned}
 use Rattle.commit_laws.specs.Ranked.{fresh_cut}
 use Rattle.commit_laws.proofs.AllWritten.{IsCutFor, cut_of, table_given, written_table}
 use Rattle.commit_laws.proofs.BegunShown.{made, step}
@@ -118,9 +118,6 @@ module _ (num : Numbering) (concerned : List ℕ) (old new : TreeState) (image :
 
   abbrev fresh : List FreshBlock
   fresh = blocks_planned plan grant
-
-  abbrev over : ℕ → List ℕ
-  over = store_over fresh store
 
   abbrev i : ℕ
   i = node.of.inode
@@ -231,20 +228,20 @@ module _ (num : Numbering) (concerned : List ℕ) (old new : TreeState) (image :
       kind_low Directory e = omega arith
 
   pub inode_is : inode_in after ≡ one.meta
-  inode_is = read_inode over one.meta meta_fits
+  inode_is = read_inode (store_planned store plan grant) one.meta meta_fits
 
   -- what a store with the fresh blocks has of a block
-  pub over_fresh : (b : FreshBlock) (p : ℕ) → find (λ (other : FreshBlock). nat_eq other.block p) fresh ≡ Some b → over p ≡ b.bytes
+  pub over_fresh : (b : FreshBlock) (p : ℕ) → find (λ (other : FreshBlock). nat_eq other.block p) fresh ≡ Some b → (store_planned store plan grant) p ≡ b.bytes
   over_fresh b p found = ap (λ (o : Option FreshBlock). option_map_or (λ (other : FreshBlock). other.bytes) o (store p)) found
 
-  pub over_old : (p : ℕ) → find (λ (other : FreshBlock). nat_eq other.block p) fresh ≡ None → over p ≡ store p
+  pub over_old : (p : ℕ) → find (λ (other : FreshBlock). nat_eq other.block p) fresh ≡ None → (store_planned store plan grant) p ≡ store p
   over_old p none = ap (λ (o : Option FreshBlock). option_map_or (λ (other : FreshBlock). other.bytes) o (store p)) none
 
   -- the indirect block at a place, as it is read
-  table_read : (k : ℕ) → k < 16 → slice_index_or after.tables k [] ≡ read_block over (slice_index one.meta.indirect k)
-  table_read k low = table_is_read over (inode_bytes one.meta) k low ∙ ap (read_block over) (pointer_of_table after k ∙ ap (λ (m : Inode). slice_index m.indirect k) inode_is)
+  table_read : (k : ℕ) → k < 16 → slice_index_or after.tables k [] ≡ read_block (store_planned store plan grant) (slice_index one.meta.indirect k)
+  table_read k low = table_is_read (store_planned store plan grant) (inode_bytes one.meta) k low ∙ ap (read_block (store_planned store plan grant)) (pointer_of_table after k ∙ ap (λ (m : Inode). slice_index m.indirect k) inode_is)
 
-  kept_is : (k : ℕ) → k < 16 → table_kept (inode_in after) after.tables k ≡ cond (nat_eq (slice_index one.meta.indirect k) 0) None (Some (record { place = k; pointers = pointers_of (read_block over (slice_index one.meta.indirect k)) }))
+  kept_is : (k : ℕ) → k < 16 → table_kept (inode_in after) after.tables k ≡ cond (nat_eq (slice_index one.meta.indirect k) 0) None (Some (record { place = k; pointers = pointers_of (read_block (store_planned store plan grant) (slice_index one.meta.indirect k)) }))
   kept_is k low = λ j. cond (nat_eq (slice_index (inode_is j).indirect k) 0) None (Some (record { place = k; pointers = pointers_of (table_read k low j) }))
 
   -- the pointer of an indirect block by its fate
@@ -320,10 +317,10 @@ module _ (num : Numbering) (concerned : List ℕ) (old new : TreeState) (image :
           q_at : q ≡ pointer_at (parts entry.old.number) (FILE_BLOCKS + k)
           q_at = q_is ∙ sym (pointer_of_table (parts entry.old.number) k)
 
-          block_same : q ≢ 0 → read_block over q ≡ slice_index_or (parts entry.old.number).tables k []
+          block_same : q ≢ 0 → read_block (store_planned store plan grant) q ≡ slice_index_or (parts entry.old.number).tables k []
           block_same some =
               let gathered = is.standing.gathered entry.old.number number_in in
-              block_behind over q some
+              block_behind (store_planned store plan grant) q some
               ∙ over_old q (ap (λ p. find (λ (other : FreshBlock). nat_eq other.block p) fresh) q_at ∙ held_is_old num concerned old new image plan grant store parts is entry.old.number (FILE_BLOCKS + k) number_in (omega arith))
               ∙ sym (block_behind store q some) ∙ ap (read_block store) q_at
               ∙ sym (gathered_is_read store (parts entry.old.number) (FILE_BLOCKS + k) gathered (omega arith))
@@ -331,23 +328,20 @@ module _ (num : Numbering) (concerned : List ℕ) (old new : TreeState) (image :
               ∙ ap (λ n. slice_index_or (parts entry.old.number).tables n []) (table_back k)
 
           by_pointer : (nat_eq q 0 ≡ true) ⊎ (nat_eq q 0 ≡ false)
-              → cond (nat_eq q 0) None (Some (record { place = k; pointers = pointers_of (read_block over q) })) ≡ table_kept (inode_in (parts entry.old.number)) (parts entry.old.number).tables k
+              → cond (nat_eq q 0) None (Some (record { place = k; pointers = pointers_of (read_block (store_planned store plan grant) q) })) ≡ table_kept (inode_in (parts entry.old.number)) (parts entry.old.number).tables k
           by_pointer (inl none) = cond-true (nat_eq q 0) None _ none ∙ sym (cond-true (nat_eq (slice_index (inode_in (parts entry.old.number)).indirect k) 0) None _ (ap (λ n. nat_eq n 0) (sym q_is) ∙ none))
           by_pointer (inr some) = λ j. cond (nat_eq (q_is j) 0) None (Some (record { place = k; pointers = pointers_of (block_same (eqb-false q 0 some) j) }))
   by_fate k low IsWritten fate =
-      kept_is k low ∙ table_is (slice_index one.meta.indirect k) k (read_block over (slice_index one.meta.indirect k)) there
-      ∙ ap (λ block. Some (record { place = k; pointers = pointers_of block })) (block_behind over (slice_index one.meta.indirect k) there ∙ over_fresh (block_of (written_table numbers net number own seat pages up enough some k)) (slice_index one.meta.indirect k) found)
+      kept_is k low ∙ table_is (slice_index one.meta.indirect k) k (read_block (store_planned store plan grant) (slice_index one.meta.indirect k)) there
+      ∙ ap (λ block. Some (record { place = k; pointers = pointers_of block })) (block_behind (store_planned store plan grant) (slice_index one.meta.indirect k) there ∙ over_fresh (block_of (written_table (numbers_with change grant.inodes) net number own seat pages up cut.enough cut.some k)) (slice_index one.meta.indirect k) found)
       ∙ ap (λ (o : Option Table). Some (record { place = k; pointers = pointers_of (option_map_or (λ t. pointers_bytes t.pointers) o zero_bytes) })) table_there
       ∙ ap (λ those. Some (record { place = k; pointers = those })) (pointers_of-pointers_bytes (table_written (rewrite_in seat) own k).pointers pointers_fit)
     where
-      numbers : ℕ → Option ℕ
-      numbers = numbers_with change grant.inodes
-
       net : List NetRow
       net = net_of_node plan.nets seat.node
 
       number : ℕ
-      number = unwrap_or (numbers seat.node) 0
+      number = unwrap_or ((numbers_with change grant.inodes) seat.node) 0
 
       pages : List Page
       pages = pages_of_node plan.files seat.node
@@ -358,35 +352,29 @@ module _ (num : Numbering) (concerned : List ℕ) (old new : TreeState) (image :
       cut : IsCutFor seat own
       cut = cut_of change.seats grant.blocks node.m seat node.at (grant_for num concerned old new image plan grant store parts is)
 
-      enough : length own ≡ blocks_taken seat
-      enough = cut.enough
-
-      some : (j : ℕ) → j < length own → slice_index own j ≢ 0
-      some = cut.some
-
-      given : (slice_index one.meta.indirect k ≢ 0) × (table_of_place one k ≡ Some (written_table numbers net number own seat pages up enough some k))
-      given = subst (λ (b : Built). (slice_index b.meta.indirect k ≢ 0) × (table_of_place b k ≡ Some (written_table numbers net number own seat pages up enough some k))) (sym node.is)
-          (table_given numbers net number own seat pages up enough some k low fate)
+      given : (slice_index one.meta.indirect k ≢ 0) × (table_of_place one k ≡ Some (written_table (numbers_with change grant.inodes) net number own seat pages up cut.enough cut.some k))
+      given = subst (λ (b : Built). (slice_index b.meta.indirect k ≢ 0) × (table_of_place b k ≡ Some (written_table (numbers_with change grant.inodes) net number own seat pages up cut.enough cut.some k))) (sym node.is)
+          (table_given (numbers_with change grant.inodes) net number own seat pages up cut.enough cut.some k low fate)
 
       there : slice_index one.meta.indirect k ≢ 0
       there = given.0
 
-      meta_at : slice_index one.meta.indirect k ≡ slice_index (built numbers net number own seat).meta.indirect k
+      meta_at : slice_index one.meta.indirect k ≡ slice_index (built (numbers_with change grant.inodes) net number own seat).meta.indirect k
       meta_at = ap (λ (m : Inode). slice_index m.indirect k) meta_is
 
-      in_node : Contains (fresh_of_node plan.files one) (written_table numbers net number own seat pages up enough some k)
-      in_node = Contains-append_right (filter_map (data_written one (pages_of_node plan.files one.node)) one.changed) (filter_map (table_of_place one) (range_with_len 0 16)) (written_table numbers net number own seat pages up enough some k)
-          (given_is_in (table_of_place one) (range_with_len 0 16) k (written_table numbers net number own seat pages up enough some k) (k, omega (arith, length-range_with_len 0 16), get_or-range_with_len 0 16 k k low ∙ zero_plus k) given.1)
+      in_node : Contains (fresh_of_node plan.files one) (written_table (numbers_with change grant.inodes) net number own seat pages up cut.enough cut.some k)
+      in_node = Contains-append_right (filter_map (data_written one (pages_of_node plan.files one.node)) one.changed) (filter_map (table_of_place one) (range_with_len 0 16)) (written_table (numbers_with change grant.inodes) net number own seat pages up cut.enough cut.some k)
+          (given_is_in (table_of_place one) (range_with_len 0 16) k (written_table (numbers_with change grant.inodes) net number own seat pages up cut.enough cut.some k) (k, omega (arith, length-range_with_len 0 16), get_or-range_with_len 0 16 k k low ∙ zero_plus k) given.1)
 
-      in_fresh : Contains fresh (block_of (written_table numbers net number own seat pages up enough some k))
-      in_fresh = in_mapped block_of (fresh_of_commit change grant) (written_table numbers net number own seat pages up enough some k)
-          (in_flat (fresh_of_node plan.files) (nodes_with_grant change grant) one (written_table numbers net number own seat pages up enough some k) there_one in_node)
+      in_fresh : Contains fresh (block_of (written_table (numbers_with change grant.inodes) net number own seat pages up cut.enough cut.some k))
+      in_fresh = in_mapped block_of (fresh_of_commit change grant) (written_table (numbers_with change grant.inodes) net number own seat pages up cut.enough cut.some k)
+          (in_flat (fresh_of_node plan.files) (nodes_with_grant change grant) one (written_table (numbers_with change grant.inodes) net number own seat pages up cut.enough cut.some k) there_one in_node)
 
-      found : find (λ (other : FreshBlock). nat_eq other.block (slice_index one.meta.indirect k)) fresh ≡ Some (block_of (written_table numbers net number own seat pages up enough some k))
+      found : find (λ (other : FreshBlock). nat_eq other.block (slice_index one.meta.indirect k)) fresh ≡ Some (block_of (written_table (numbers_with change grant.inodes) net number own seat pages up cut.enough cut.some k))
       found = ap (λ p. find (λ (other : FreshBlock). nat_eq other.block p) fresh) meta_at
-          ∙ found_once (λ (other : FreshBlock). other.block) fresh (each_once num concerned old new image plan grant store parts is) (block_of (written_table numbers net number own seat pages up enough some k)) in_fresh
+          ∙ found_once (λ (other : FreshBlock). other.block) fresh (each_once num concerned old new image plan grant store parts is) (block_of (written_table (numbers_with change grant.inodes) net number own seat pages up cut.enough cut.some k)) in_fresh
 
-      table_there : find (λ (t : Table). nat_eq t.place k) (built numbers net number own seat).tables ≡ Some (table_written (rewrite_in seat) own k)
+      table_there : find (λ (t : Table). nat_eq t.place k) (built (numbers_with change grant.inodes) net number own seat).tables ≡ Some (table_written (rewrite_in seat) own k)
       table_there = found_at (table_remapped (rewrite_in seat) own seat.tables) (remapped_at_place (rewrite_in seat) own seat.tables) k 0 16 (omega arith) (omega arith) ∙ ap (λ f. table_by_fate f (rewrite_in seat) own seat.tables k) fate
 
       pointers_fit : ArePointers (table_written (rewrite_in seat) own k).pointers
@@ -411,15 +399,15 @@ module _ (num : Numbering) (concerned : List ℕ) (old new : TreeState) (image :
   -- the pointers of the new part
   pub pointer_after_is : (place : ℕ) → place < PLACES → pointer_at after place ≡ (next.seen i).blocks place
   pointer_after_is place low =
-      sym (kept_pointer over after (gathered_itself over (inode_bytes one.meta)) place low)
+      sym (kept_pointer (store_planned store plan grant) after (gathered_itself (store_planned store plan grant) (inode_bytes one.meta)) place low)
       ∙ (λ j. pointer_kept (inode_is j) (tables_kept_are j) place) ∙ pointer_is place low
 
   comes : (place : ℕ) → place < PLACES → ComesFrom fresh (parts i) (pointer_at after place) (content_at after place)
   comes place low =
-      subst (λ content. ComesFrom fresh (parts i) (pointer_at after place) content) (sym (gathered_is_read over after place (gathered_itself over (inode_bytes one.meta)) low))
+      subst (λ content. ComesFrom fresh (parts i) (pointer_at after place) content) (sym (gathered_is_read (store_planned store plan grant) after place (gathered_itself (store_planned store plan grant) (inode_bytes one.meta)) low))
       (by_pointer (pointer_at after place) refl (cases_Bool (nat_eq (pointer_at after place) 0)))
     where
-      by_found : (p : ℕ) → pointer_at after place ≡ p → p ≢ 0 → (o : Option FreshBlock) → find (λ (other : FreshBlock). nat_eq other.block p) fresh ≡ o → ComesFrom fresh (parts i) p (over p)
+      by_found : (p : ℕ) → pointer_at after place ≡ p → p ≢ 0 → (o : Option FreshBlock) → find (λ (other : FreshBlock). nat_eq other.block p) fresh ≡ o → ComesFrom fresh (parts i) p ((store_planned store plan grant) p)
       by_found p at some (Some b) e =
           let same = eqb-true b.block p (found_passes (λ (other : FreshBlock). nat_eq other.block p) fresh b e) in
           let there = found_is_in (λ (other : FreshBlock). nat_eq other.block p) fresh b e in
@@ -440,21 +428,21 @@ module _ (num : Numbering) (concerned : List ℕ) (old new : TreeState) (image :
               none_some (sym none ∙ ap (λ n. find (λ (other : FreshBlock). nat_eq other.block n) fresh) (sym b.2)
               ∙ found_once (λ (other : FreshBlock). other.block) fresh (each_once num concerned old new image plan grant store parts is) b.0 b.1)
 
-      by_pointer : (p : ℕ) → pointer_at after place ≡ p → (nat_eq p 0 ≡ true) ⊎ (nat_eq p 0 ≡ false) → ComesFrom fresh (parts i) (pointer_at after place) (read_block over (pointer_at after place))
+      by_pointer : (p : ℕ) → pointer_at after place ≡ p → (nat_eq p 0 ≡ true) ⊎ (nat_eq p 0 ≡ false) → ComesFrom fresh (parts i) (pointer_at after place) (read_block (store_planned store plan grant) (pointer_at after place))
       by_pointer p at (inl none) =
           let zero_is : 0 ≡ pointer_at after place = sym (at ∙ eqb-true p 0 none) in
-          subst (λ n. ComesFrom fresh (parts i) n (read_block over n)) zero_is (subst (λ content. ComesFrom fresh (parts i) 0 content) (sym (hole_is_read over 0 refl)) hole)
+          subst (λ n. ComesFrom fresh (parts i) n (read_block (store_planned store plan grant) n)) zero_is (subst (λ content. ComesFrom fresh (parts i) 0 content) (sym (hole_is_read (store_planned store plan grant) 0 refl)) hole)
       by_pointer p at (inr some) =
-          subst (λ n. ComesFrom fresh (parts i) n (read_block over n)) (sym at)
-          (subst (λ content. ComesFrom fresh (parts i) p content) (sym (block_behind over p (eqb-false p 0 some))) (by_found p at (eqb-false p 0 some) (find (λ (other : FreshBlock). nat_eq other.block p) fresh) refl))
+          subst (λ n. ComesFrom fresh (parts i) n (read_block (store_planned store plan grant) n)) (sym at)
+          (subst (λ content. ComesFrom fresh (parts i) p content) (sym (block_behind (store_planned store plan grant) p (eqb-false p 0 some))) (by_found p at (eqb-false p 0 some) (find (λ (other : FreshBlock). nat_eq other.block p) fresh) refl))
 
   pub part_is_made : IsPartMade fresh (parts one.number) after one
   part_is_made = record {
     inode = inode_is;
     tables = tables_kept_are;
     made = subst (λ n. IsMadeOf fresh (parts n) after) (sym node.inode) (record {
-      tables = (lengths over (inode_bytes one.meta)).0;
-      blocks = (lengths over (inode_bytes one.meta)).1;
+      tables = (lengths (store_planned store plan grant) (inode_bytes one.meta)).0;
+      blocks = (lengths (store_planned store plan grant) (inode_bytes one.meta)).1;
       comes = comes;
     });
   }

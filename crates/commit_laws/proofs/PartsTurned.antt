@@ -41,14 +41,10 @@ use Rattle.commit_laws.proofs.NumbersGiven.{kept_in}
 use Rattle.commit_laws.proofs.OwnInodes.{ascending_is_in, written_number}
 use Rattle.commit_laws.proofs.PartsMade.{lengths, gathered_itself, within, granted_or_old, pointer_after_is, part_is_made}
 use Rattle.commit_laws.proofs.PartsStand.{free_fits}
+use Rattle.sfs_image.proofs.AcceptedLaws.{raw_of}
 use Rattle.commit_laws.proofs.PlanShown.{IsBuiltNode, node_built}
 use Rattle.commit_laws.proofs.SeatsOfPlan.{numbers, after_had, inodes_once, in_mapped, in_is_among}
 use Rattle.commit_laws.proofs.Shown.{found_is_in}
-
--- what is gathered has its record
-raw_is : (store : ℕ → List ℕ) (raw : List ℕ) → (part_of store raw).raw ≡ raw
-unfolding part_of
-raw_is store raw = refl
 
 -- a free part has no pointer
 free_has_none : (store : ℕ → List ℕ) (place : ℕ) → pointer_at (part_of store (inode_bytes free_inode)) place ≡ 0
@@ -80,22 +76,19 @@ module _ (num : Numbering) (concerned : List ℕ) (old new : TreeState) (image :
   abbrev nodes : List Built
   nodes = nodes_with_grant change grant
 
-  abbrev after : ℕ → Part
-  after = part_next store parts plan grant
-
   abbrev rest : Bool → ℕ → Part
   rest gone i = cond gone (part_of store (inode_bytes free_inode)) (parts i)
 
   -- by what becomes of an inode
   by_part : (P : ℕ → Part → Type 0) → ((one : Built) → Contains nodes one → P one.number (part_made store plan grant one)) → ((i : ℕ) → P i (part_of store (inode_bytes free_inode))) → ((i : ℕ) → i < image.count → P i (parts i))
-      → (i : ℕ) → i < image.count → P i (after i)
+      → (i : ℕ) → i < image.count → P i (part_next store parts plan grant i)
   by_part P of_built of_free of_other i low = by (find (λ (one : Built). nat_eq one.number i) nodes) refl
     where
       by_gone : (b : Bool) → P i (rest b i)
       by_gone true = of_free i
       by_gone false = of_other i low
 
-      by : (o : Option Built) → find (λ (one : Built). nat_eq one.number i) nodes ≡ o → P i (after i)
+      by : (o : Option Built) → find (λ (one : Built). nat_eq one.number i) nodes ≡ o → P i (part_next store parts plan grant i)
       by (Some one) e =
           let number = eqb-true one.number i (found_passes (λ (one : Built). nat_eq one.number i) nodes one e) in
           subst (P i) (sym (ap (λ (o : Option Built). option_map_or (part_made store plan grant) o (rest (is_among (map entry_number change.gone) i) i)) e))
@@ -103,7 +96,7 @@ module _ (num : Numbering) (concerned : List ℕ) (old new : TreeState) (image :
       by None e =
           subst (P i) (sym (ap (λ (o : Option Built). option_map_or (part_made store plan grant) o (rest (is_among (map entry_number change.gone) i) i)) e)) (by_gone (is_among (map entry_number change.gone) i))
 
-  pub turns : (i : ℕ) → i < image.count → TurnsInto fresh (parts i) (after i)
+  pub turns : (i : ℕ) → i < image.count → TurnsInto fresh (parts i) (part_next store parts plan grant i)
   turns = by_part (λ i part. TurnsInto fresh (parts i) part)
       (λ one there. made_turns fresh (parts one.number) (part_made store plan grant one) (part_is_made num concerned old new image plan grant store parts is one there (node_built num concerned old new image plan grant is.full one there)).made)
       (λ i. made_turns fresh (parts i) (part_of store (inode_bytes free_inode)) (free_is_made fresh (parts i) store))
@@ -125,17 +118,17 @@ module _ (num : Numbering) (concerned : List ℕ) (old new : TreeState) (image :
       by x i has number own leaving (enters none low free) =
           not_used (kind_of old entry.node.0) (sym (whole.stands.each entry.node.0 i (own ∙ ap Some (sym number))).kind ∙ free.kind)
 
-  of_built : (one : Built) → Contains nodes one → (after one.number).raw ≡ inode_bytes one.meta
+  of_built : (one : Built) → Contains nodes one → (part_next store parts plan grant one.number).raw ≡ inode_bytes one.meta
   of_built one there =
       ap (λ (o : Option Built). (option_map_or (part_made store plan grant) o (rest (is_among (map entry_number change.gone) one.number) one.number)).raw)
       (found_once (λ (b : Built). b.number) nodes (inodes_once num concerned old new image plan grant whole) one there)
-      ∙ raw_is (store_over fresh store) (inode_bytes one.meta)
+      ∙ raw_of (store_over fresh store) (inode_bytes one.meta)
 
-  of_gone : (entry : OldEntry) → Contains change.gone entry → (after entry.old.number).raw ≡ inode_bytes free_inode
+  of_gone : (entry : OldEntry) → Contains change.gone entry → (part_next store parts plan grant entry.old.number).raw ≡ inode_bytes free_inode
   of_gone entry there =
       ap (λ (o : Option Built). (option_map_or (part_made store plan grant) o (rest (is_among (map entry_number change.gone) entry.old.number) entry.old.number)).raw) (none_built (find (λ (one : Built). nat_eq one.number entry.old.number) nodes) refl)
       ∙ ap (λ b. (rest b entry.old.number).raw) (in_is_among (map entry_number change.gone) entry.old.number (in_mapped entry_number change.gone entry there))
-      ∙ raw_is store (inode_bytes free_inode)
+      ∙ raw_of store (inode_bytes free_inode)
     where
       none_built : (o : Option Built) → find (λ (one : Built). nat_eq one.number entry.old.number) nodes ≡ o → o ≡ None
       none_built None e = refl
@@ -150,17 +143,17 @@ module _ (num : Numbering) (concerned : List ℕ) (old new : TreeState) (image :
     | inr f ↦ ap (λ (w : TxRecord). w.bytes) (some_same (sym (cond-false (same_inode one.before one.after) None _ f) ∙ e))
   ]
 
-  pub writes : (r : TxRecord) → Contains (records_written change grant) r → (after r.inode).raw ≡ r.bytes
+  pub writes : (r : TxRecord) → Contains (records_written change grant) r → (part_next store parts plan grant r.inode).raw ≡ r.bytes
   writes r there = elim (Contains-append_cases (filter_map written_of_built nodes) (filter_map written_of_gone change.gone) r (ascending_is_in record_inode _ r there)) [
     | inl in_built ↦
         let one = given_by written_of_built nodes r in_built in
-        ap (λ n. (after n).raw) (sym (written_number (record_of_built one.0) r one.2)) ∙ of_built one.0 one.1 ∙ written_bytes (record_of_built one.0) r one.2
+        ap (λ n. (part_next store parts plan grant n).raw) (sym (written_number (record_of_built one.0) r one.2)) ∙ of_built one.0 one.1 ∙ written_bytes (record_of_built one.0) r one.2
     | inr in_gone ↦
         let entry = given_by written_of_gone change.gone r in_gone in
-        ap (λ n. (after n).raw) (sym (written_number (record_of_gone entry.0) r entry.2)) ∙ of_gone entry.0 entry.1 ∙ written_bytes (record_of_gone entry.0) r entry.2
+        ap (λ n. (part_next store parts plan grant n).raw) (sym (written_number (record_of_gone entry.0) r entry.2)) ∙ of_gone entry.0 entry.1 ∙ written_bytes (record_of_gone entry.0) r entry.2
   ]
 
-  pub points : (layout : Layout) → LieInData layout image parts grant → (i : ℕ) → i < image.count → PointsToData layout (after i)
+  pub points : (layout : Layout) → LieInData layout image parts grant → (i : ℕ) → i < image.count → PointsToData layout (part_next store parts plan grant i)
   points layout data_is = by_part (λ i part. PointsToData layout part) of_one (λ i place some. absurd (some (free_has_none store place))) data_is.parts_do
     where
       of_one : (one : Built) → Contains nodes one → PointsToData layout (part_made store plan grant one)

@@ -287,12 +287,9 @@ plans_need_as_defined num concerned old new image plan grant written =
     needs_same rewrite_in defined (change_planned plan).seats (λ seat there. take_same (rewrite_in seat) (defined seat) (plans_rewrite_as_defined num concerned old new image plan grant written seat there))
     ∙ ap blocks_needed (sym (of_nodes (change_planned plan).seats))
   where
-    at_node : ℕ → Rewrite
-    at_node = rewrite_defined (commit_of num concerned plan grant) new image plan.files
-
     defined : Seated → Rewrite
-    defined seat = at_node seat.node
+    defined seat = rewrite_defined (commit_of num concerned plan grant) new image plan.files seat.node
 
-    of_nodes : (seats : List Seated) → map at_node (map (λ (seat : Seated). seat.node) seats) ≡ map defined seats
+    of_nodes : (seats : List Seated) → map (rewrite_defined (commit_of num concerned plan grant) new image plan.files) (map (λ (seat : Seated). seat.node) seats) ≡ map defined seats
     of_nodes [] = refl
     of_nodes (seat ∷ seats) = ap (λ rest. defined seat ∷ rest) (of_nodes seats)

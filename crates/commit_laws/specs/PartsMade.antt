@@ -29,9 +29,13 @@ store_over fresh store n = option_map_or (λ one. one.bytes) (find (λ one. one.
 abbrev pub blocks_planned : CommitPlan → GrantedNumbers → List FreshBlock
 blocks_planned plan grant = map block_of (fresh_of_commit (change_planned plan) grant)
 
--- the part of a node after the commit of a plan: what its new record gathers, where the fresh blocks stand over those that stood before
+-- a store of blocks once the commit of a plan has written its fresh blocks
+abbrev pub store_planned : (ℕ → List ℕ) → CommitPlan → GrantedNumbers → ℕ → List ℕ
+store_planned store plan grant = store_over (blocks_planned plan grant) store
+
+-- the part of a node after the commit of a plan: what its new record gathers from there
 abbrev pub part_made : (ℕ → List ℕ) → CommitPlan → GrantedNumbers → Built → Part
-part_made store plan grant one = part_of (store_over (blocks_planned plan grant) store) (inode_bytes one.meta)
+part_made store plan grant one = part_of (store_planned store plan grant) (inode_bytes one.meta)
 
 -- Parts stand in a store of blocks, and an image shows them; each pointer of theirs fits a record.
 pub record StandInStore (store : ℕ → List ℕ) (parts : ℕ → Part) (image : SeenInodes) : Type 0 where
