@@ -22,7 +22,7 @@ const NODES: u32 = 200;
 
 // The tree after some calls of one core, the machine that was told them, and what they log.
 #[derive(Drop)]
-struct Watch {
+struct Watched {
     alloc: Global,
     trial: Trial,
     run: Run,
@@ -34,10 +34,10 @@ struct Watch {
 }
 
 // Nobody's calls yet. The first new node is 64.
-fn begun(alloc: Global) -> Result<Watch, Fail> {
+fn begun(alloc: Global) -> Result<Watched, Fail> {
     let mut directories = Vec::new(alloc);
     directories.push(0)?;
-    Ok(Watch {
+    Ok(Watched {
         alloc,
         trial: root_alone(alloc, 512)?,
         run: begun_at(alloc, 64, 512)?,
@@ -49,7 +49,15 @@ fn begun(alloc: Global) -> Result<Watch, Fail> {
     })
 }
 
-impl Watch {
+// Puts changes behind the others.
+fn log_all(logged: &mut Vec<Change>, told: Vec<Change>) -> Result<(), Fail> {
+    for change in told {
+        logged.push(change)?;
+    }
+    Ok(())
+}
+
+impl Watched {
     // The child of a row.
     fn child(&self, dir: NodeId, name: &Name) -> Result<Option<NodeId>, Fail> {
         Ok(self.trial.tree.names(dir)?.get(name))
@@ -168,16 +176,17 @@ impl Watch {
     {
         let told = self.told(call)?;
         let reply = self.trial.step(0, call)?;
-        match &reply {
-            Reply::Ok => {
-                for change in told {
-                    self.logged.push(change)?;
-                }
-            }
-            Reply::Node { node, kind } => self.log_made(call, *node, *kind)?,
-            _ => {}
-        }
+        self.log(call, &reply, told)?;
         self.tell_call(rt, call, reply, None)
+    }
+
+    // Logs what a call has changed by its reply.
+    fn log(&mut self, call: &Call, reply: &Reply, told: Vec<Change>) -> Result<(), Fail> {
+        match reply {
+            Reply::Ok => log_all(&mut self.logged, told),
+            Reply::Node { node, kind } => self.log_made(call, *node, *kind),
+            _ => Ok(()),
+        }
     }
 
     // Logs the node that a call has made.
@@ -197,7 +206,8 @@ impl Watch {
     fn tell(&mut self, rt: &impl Abort, event: &Event) -> Result<(), Fail>
         requires { (state : MachineState) → length state.first.made ≡ 2 → MayBeTold state event.now }
     {
-        assert!(rt; self.run.step(event).is_ok(), "{event:?}");
+        let taken = self.run.step(event).is_ok();
+        assert!(rt; taken);
         Ok(())
     }
 
@@ -307,11 +317,10 @@ impl Watch {
     // Compares the members of an fsync, from all logs and from what is not flushed, with those of the machine.
     fn compare(&mut self, rt: &impl Abort, node: u32) -> Result<Vec<u32>, Fail> {
         let members = self.members(rt, node, true)?;
-        assert_eq!(rt;
-            self.members(rt, node, false)?.as_slice(),
-            members.as_slice()
-        );
-        assert_eq!(rt; self.flush(rt, node)?.as_slice(), members.as_slice());
+        let unflushed = self.members(rt, node, false)?;
+        assert!(rt; unflushed.as_slice() == members.as_slice());
+        let raised = self.flush(rt, node)?;
+        assert!(rt; raised.as_slice() == members.as_slice());
         Ok(members)
     }
 }

@@ -1,5 +1,5 @@
 // Histories that are drawn: each fsync has the members that the machine flushes.
-use super::{Watch, begun};
+use super::{Watched, begun};
 use crate::shapes::Row;
 use crate::sweep::Draw;
 use sfs_base::NodeId;
@@ -12,7 +12,7 @@ const HISTORIES: u64 = 60;
 
 const CALLS: u64 = 40;
 
-impl Watch {
+impl Watched {
     // The rows of all directories, with the first bytes of their names.
     fn rows(&self) -> Result<Vec<Row>, Fail> {
         let mut rows = Vec::new(self.alloc);
@@ -28,23 +28,34 @@ impl Watch {
         }
         Ok(rows)
     }
+
+    // Makes a call that is drawn, and at times compares an fsync behind it. It gives how many members that has.
+    fn turn(&mut self, rt: &impl Abort, draw: &mut Draw) -> Result<usize, Fail> {
+        let rows = self.rows()?;
+        let call = draw.call(self.alloc, &rows)?;
+        self.make(rt, &call)?;
+        if draw.up_to(3) != 0 {
+            return Ok(0);
+        }
+        let rows = self.rows()?;
+        let node = draw.row(&rows).child;
+        Ok(self.compare(rt, node)?.len())
+    }
+
+    // Makes calls and compares fsyncs. It gives how many members one had at most.
+    fn turns(&mut self, rt: &impl Abort, draw: &mut Draw) -> Result<usize, Fail> {
+        let mut most = 0;
+        for _ in 0..CALLS {
+            most = most.max(self.turn(rt, draw)?);
+        }
+        Ok(most)
+    }
 }
 
-// Plays a history, and compares the members of its fsyncs. It gives how many members there were at most.
+// Plays a history. It gives how many members an fsync of it had at most.
 fn play(rt: &impl Abort, alloc: Global, draw: &mut Draw) -> Result<usize, Fail> {
     let mut watched = begun(alloc)?;
-    let mut most = 0;
-    for _ in 0..CALLS {
-        let rows = watched.rows()?;
-        let call = draw.call(alloc, &rows)?;
-        watched.make(rt, &call)?;
-        if draw.up_to(3) == 0 {
-            let rows = watched.rows()?;
-            let node = draw.row(&rows).child;
-            most = most.max(watched.compare(rt, node)?.len());
-        }
-    }
-    Ok(most)
+    watched.turns(rt, draw)
 }
 
 #[test]

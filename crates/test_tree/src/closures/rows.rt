@@ -1,5 +1,5 @@
 // Worked histories, with the members of each fsync worked out by hand.
-use super::{Watch, begun};
+use super::{Watched, begun};
 use crate::calls::Asked::{self, Create, Link, Mkdir, Rename, Unlink, Write};
 use crate::calls::call_of;
 use std::alloc::Global;
@@ -14,19 +14,26 @@ enum Step {
 
 use Step::{Call, Fsync};
 
-impl Watch {
-    // Makes calls and fsyncs, and compares the members of each.
+impl Watched {
+    // Makes a call, or an fsync whose members it compares.
+    fn take(&mut self, rt: &impl Abort, step: &Step) -> Result<(), Fail> {
+        match step {
+            Step::Call(asked) => {
+                let call = call_of(self.alloc, asked)?;
+                self.make(rt, &call)
+            }
+            Step::Fsync(node, due) => {
+                let members = self.compare(rt, *node)?;
+                assert!(rt; members.as_slice() == *due);
+                Ok(())
+            }
+        }
+    }
+
+    // Takes steps one after the other.
     fn run(&mut self, rt: &impl Abort, steps: &[Step]) -> Result<(), Fail> {
         for step in steps {
-            match step {
-                Step::Call(asked) => {
-                    let call = call_of(self.alloc, asked)?;
-                    self.make(rt, &call)?;
-                }
-                Step::Fsync(node, due) => {
-                    assert_eq!(rt; self.compare(rt, *node)?.as_slice(), *due);
-                }
-            }
+            self.take(rt, step)?;
         }
         Ok(())
     }
