@@ -3,9 +3,10 @@ use Rattle.std.proofs.Common.{◌≡◌, ℕ, false, cond, List, Option, None, S
 use Rattle.std.specs.Prelude.{nat_lt}
 use borrow.Author.Tests.{le-ltb}
 use Rattle.sfs_base.specs.Ends.{HasRisen}
-use Rattle.sfs_base.proofs.BasicOptions.{none_some}
+use Rattle.sfs_base.proofs.BasicOptions.{none_some, some_same}
 use Rattle.sfs_base.proofs.BasicTruth.{false_not_true}
 use Rattle.sfs_image.specs.Super.{Layout, IsLayout}
+use Rattle.sfs_tree.specs.Laws.{IsSoundTree}
 use Rattle.sfs_dev.specs.Disk.{View, OnlyTold, images}
 use Rattle.sfs_dev.specs.Run.{CountsOn, EachMoment, HasReadCause, Unwritten}
 use Rattle.sfs_dev.specs.Steps.{IfTold}
@@ -45,15 +46,16 @@ image_made layout old new Sink before after status fits made wrote text = record
 }
 
 pub image_shown : (old new : View) (report : Report) (Sink : Type 0) (before after : Option (List ℕ)) (status : Status)
-    → IfTold old.content (λ image. IsReportOf image report)
+    → IsSoundTree report.tree → IfTold old.content (λ image. IsReportOf image report)
     → IfTold old.content (λ image. IsCalm old → CountsOn new → EachMoment old new (λ _ now. ShowsTheSame now image))
     → IfTold old.content (λ image. IsCalm old → EachLeft new (IsRecoveredFrom image))
     → IsWriteStatus Sink status → HasText (tree_text report.tree) before after status → ShowsImage Sink before after old new status
-image_shown old new report Sink before after status is moments ended wrote text = record {
+image_shown old new report Sink before after status sound is moments ended wrote text = record {
   due = Done;
   due_told = λ image told. sym (ap showing_due (has_no_fault image 0 report.tree (is image told).tree));
   status_is = write_status Sink (HasRisen old.faults new.faults) status wrote;
   tree = Some report.tree;
+  sound = λ read same. subst IsSoundTree (some_same same) sound;
   tree_told = λ image told read same. (is image told).tree ∙ same;
   text = text;
   moments = moments;
@@ -91,6 +93,7 @@ module _ (old new : View) (Sink : Type 0) (written : Option (List ℕ)) (moments
     due_told = told;
     status_is = is;
     tree = None;
+    sound = λ read same. absurd (none_some same);
     tree_told = λ image there read same. absurd (none_some same);
     text = (no_text, refl);
     moments = moments;

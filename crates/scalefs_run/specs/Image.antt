@@ -1,6 +1,7 @@
 -- What `mkfs` and `show` do to the image of a disk, and what they write of it.
 use Rattle.std.specs.Prelude.{◌≡◌, ℕ, ◌+◌, ◌-◌, Bool, true, false, List, [], ◌∷◌, ◌++◌, codes, decimal, nat_lt, Option, Some, None, if◌then◌else◌}
 use Rattle.sfs_base.specs.Ends.{HasRisen}
+use Rattle.sfs_tree.specs.Laws.{IsSoundTree}
 use Rattle.sfs_tree.specs.Tree.{TreeState}
 use Rattle.sfs_dev.specs.Disk.{View, images}
 use Rattle.sfs_dev.specs.Run.{CountsOn, EachMoment, Unwritten}
@@ -79,13 +80,15 @@ abbrev pub IsImageRefused : Status → Type 0
 IsImageRefused (BadImage fault) = Unit {0}
 IsImageRefused _ = ⊥
 
--- The image of a disk was shown: the status has its cause, which is the image's first fault where it has one, and the text of its tree was
--- written. Each image that a crash during the call may leave shows the same; a refused image was not written to; and a shown one is recovered.
+-- The image of a disk was shown: the status has its cause, which is the image's first fault where it has one, and the text of its tree,
+-- a sound one, was written. Each image that a crash during the call may leave shows the same; a refused image was not written to; and a
+-- shown one is recovered.
 pub record ShowsImage (Sink : Type 0) (before after : Option (List ℕ)) (old new : View) (status : Status) : Type 0 where
   pub due : Status
   pub due_told : IfTold old.content (λ image. due ≡ showing_due (fault_of image))
   pub status_is : HasStatus due ⊥ Sink (HasRisen old.faults new.faults) status
   pub tree : Option TreeState
+  pub sound : (read : TreeState) → tree ≡ Some read → IsSoundTree read
   pub tree_told : IfTold old.content (λ image. (read : TreeState) → tree ≡ Some read → tree_of image 0 ≡ Some read)
   pub text : HasTreeText tree before after status
   pub moments : IfTold old.content (λ image. IsCalm old → CountsOn new → EachMoment old new (λ _ now. ShowsTheSame now image))
