@@ -1,24 +1,27 @@
 -- The part of a directory after a commit has the new slots in its blocks.
-use Rattle.std.proofs.Common.{◌≡◌, ℕ, suc, ◌*◌, ◌/◌, ◌<◌, ◌≤◌, Bool, true, false, cond, ◌&&◌, List, [], ◌∷◌, length, get_or, map, take, Option, Some, None, is_none, is_some, inl, inr, refl, sym, ap, subst, ◌∙◌, arith, nat_eq, Contains}
+use Rattle.std.proofs.Common.{◌≡◌, ℕ, suc, ◌*◌, ◌/◌, ◌%◌, ◌<◌, ◌≤◌, Bool, true, false, cond, ◌&&◌, List, [], ◌∷◌, length, get_or, map, take, Option, Some, None, is_none, is_some, inl, inr, refl, sym, ap, subst, ◌∙◌, arith, nat_eq, Contains}
 use Rattle.std.specs.Prelude.{◌⊎◌, slice_get, slice_index_or}
 use Rattle.std.specs.List.{list_all, flat_map}
 use Rattle.std.specs.Option.{option_map_or, unwrap_or}
-use borrow.Author.Tests.{eq-eqb}
+use borrow.Author.Tests.{eqb-true, eq-eqb}
 use Rattle.std.proofs.Math.Nat.{min-eq_left}
 use Rattle.std.proofs.lemmas.Bool.{cond-true, cases_Bool, cases_lt}
-use Rattle.std.proofs.lemmas.List.{ext_get_or, get_or-map, get_or-take, get_or_past, length-map, length-take, length-take-le}
+use Rattle.std.proofs.lemmas.List.{ext_get_or, get_or-map, get_or-take, get_or_past, get_or_default, length-map, length-take, length-take-le}
 use Rattle.std.proofs.lemmas.Option.{slice_get-get_or}
 use Rattle.sfs_base.proofs.BasicTruth.{false_not_true}
 use Rattle.sfs_base.specs.declared.numbers.Kind.TheVariants.{Directory}
 use Rattle.absorb.specs.declared.nets.NetRow.{NetRow}
 use Rattle.sfs_image.specs.Inode.{Inode}
 use Rattle.sfs_image.specs.Part.{Part, directory_blocks, is_directory_part, read_block, inode_in, seen_of, file_byte, tabulate}
-use Rattle.sfs_image.specs.Rules.{DIRECTORY_BLOCKS}
+use Rattle.sfs_image.specs.Bytes.{zeros}
+use Rattle.sfs_image.specs.LawsOfParts.{FitsSize}
+use Rattle.sfs_image.specs.Rules.{DIRECTORY_BLOCKS, breaks_slots}
 use Rattle.sfs_image.specs.Seen.{Seen, SeenInodes, FILE_BLOCKS}
 use Rattle.sfs_image.specs.Slot.{kind_byte}
-use Rattle.sfs_image.specs.SlotBlock.{slots_of, slots_bytes}
+use Rattle.sfs_image.specs.SlotBlock.{slots_of, slots_bytes, slots_fault, AreSlots}
 use Rattle.sfs_image.proofs.PartLaws.{hole_is_read}
-use Rattle.sfs_image.proofs.SlotBlockLaws.{slots_of-slots_bytes}
+use Rattle.sfs_image.proofs.SlotBlockLaws.{slots_of-slots_bytes, slots_fault-slots_bytes}
+use Rattle.sfs_image.proofs.RuleFacts.{slots_say}
 use Rattle.sfs_tree.specs.Tree.{TreeState, kind_of, bytes_of, is_directory_kind}
 use Rattle.sfs_tree.proofs.Readings.{directory_by_kind}
 use Rattle.image_tree.specs.Commit.{Commit, blank, seen_before, slots_after}
@@ -45,6 +48,7 @@ use Rattle.commit_laws.specs.Ranked.{fresh_cut}
 use Rattle.commit_laws.specs.Rewritten.{IsWrittenPlan, SayTheSame}
 use Rattle.commit_laws.specs.SlotsKept.{slots_joined}
 use Rattle.commit_laws.proofs.BlocksRead.{content_is, block_is, old_read, zero_read, data_read, IsOneNode, one_node}
+use Rattle.commit_laws.proofs.GoodParts.{zeros_have_no_fault}
 use Rattle.commit_laws.proofs.JoinedSlots.{Slots, long_blocks, length_joined}
 use Rattle.commit_laws.proofs.KeptShown.{joined_slots, slot_blocks}
 use Rattle.commit_laws.proofs.PartsMade.{shows_node, pointer_after_is, part_is_made}
@@ -134,16 +138,18 @@ module _ (num : Numbering) (concerned : List ℕ) (old new : TreeState) (image :
   few : blocks_to_last_row blocks ≤ DIRECTORY_BLOCKS
   few = subst (λ b. b ≤ DIRECTORY_BLOCKS) (sym (end num concerned old new image plan grant written node.m node.seat node.of)) node.of.built.leads.blocks
 
-  -- empty slots are read of a hole
-  hole_slots : (n : ℕ) → (next.seen i).blocks n ≡ 0 → list_all is_none (slots_in_block n slots) ≡ true → slots_of (read_block (store_planned store plan grant) ((next.seen i).blocks n)) ≡ slots_in_block n slots
-  hole_slots n none empty = ap slots_of (hole_is_read (store_planned store plan grant) _ none) ∙ empty_blocks_are_holes n slots empty
+  -- what is read where the pointer of a block then points
+  abbrev reads : ℕ → List ℕ
+  reads n = read_block (store_planned store plan grant) ((next.seen i).blocks n)
 
-  empties : (n : ℕ) → slots_in_block n slots ≡ empty_block → list_all is_none (slots_in_block n slots) ≡ true
-  empties n same = ap (list_all is_none) same
+  -- What is read of a block that is not rewritten: nothing stands there, or a block that the directory had.
+  data ReadsAsBefore (n : ℕ) : Type 0 where
+    nothing : (next.seen i).blocks n ≡ 0 → slots_in_block n slots ≡ empty_block → ReadsAsBefore n
+    stood : (j : ℕ) → j < image.count → is_directory_part (parts j) ≡ true → n < length (directory_blocks (parts j)) → reads n ≡ get_or (directory_blocks (parts j)) n []
+        → slots_in_block n slots ≡ slots_of (get_or (directory_blocks (parts j)) n []) → ReadsAsBefore n
 
-  -- a block that is not rewritten has its slots as before
-  kept_block : (n : ℕ) → n < FILE_BLOCKS → rewrites_slots seen slots n ≡ false → slots_of (read_block (store_planned store plan grant) ((next.seen i).blocks n)) ≡ slots_in_block n slots
-  kept_block n low unwritten = by (num begun.node) refl
+  read_before : (n : ℕ) → n < FILE_BLOCKS → rewrites_slots seen slots n ≡ false → ReadsAsBefore n
+  read_before n low unwritten = by (num begun.node) refl
     where
       slots_same : slots_in_block n slots ≡ slots_in_block n seen.slots
       slots_same = ((blocks_are_kept_or_rewritten seen slots n).0 unwritten).slots_kept
@@ -157,13 +163,10 @@ module _ (num : Numbering) (concerned : List ℕ) (old new : TreeState) (image :
           block_is num concerned old new image plan grant store parts is one there_one node n low None (none_changed (change_of node.seat.changed n) refl)
           ∙ says.pointers n (omega arith)
 
-      old_empty : (n : ℕ) → length node.of.begun.slots ≤ n → slots_in_block n seen.slots ≡ empty_block
-      old_empty n past = old_block num concerned old new image plan grant written node.m node.seat node.of n ∙ get_or_past node.of.begun.slots n empty_block past
-
-      by : (o : Option ℕ) → num begun.node ≡ o → slots_of (read_block (store_planned store plan grant) ((next.seen i).blocks n)) ≡ slots_in_block n slots
+      by : (o : Option ℕ) → num begun.node ≡ o → ReadsAsBefore n
       by None e =
-          hole_slots n (stays ∙ ap (λ (o : Option ℕ). (option_map_or image.seen o blank).blocks n) e)
-          (empties n (slots_same ∙ ap (λ (o : Option ℕ). slots_in_block n (option_map_or image.seen o blank).slots) e ∙ none_in_block))
+          nothing (stays ∙ ap (λ (o : Option ℕ). (option_map_or image.seen o blank).blocks n) e)
+          (slots_same ∙ ap (λ (o : Option ℕ). slots_in_block n (option_map_or image.seen o blank).slots) e ∙ none_in_block)
         where
           none_in_block : slots_in_block n [] ≡ empty_block
           none_in_block = in_block_joined [] (long_blocks [] (λ block there. absurd (let low = there.1 in omega arith))) n ∙ get_or_past [] n empty_block (omega arith)
@@ -187,11 +190,11 @@ module _ (num : Numbering) (concerned : List ℕ) (old new : TreeState) (image :
           in_block : slots_in_block n seen.slots ≡ get_or (map slots_of those) n empty_block
           in_block = ap (slots_in_block n) seen_slots ∙ in_block_joined (map slots_of those) (long_blocks (map slots_of those) (slot_blocks those)) n
 
-          of_old : (n < length those) ⊎ (length those ≤ n) → slots_of (read_block (store_planned store plan grant) ((next.seen i).blocks n)) ≡ slots_in_block n slots
-          of_old (inl there) =
-              ap (λ p. slots_of (read_block (store_planned store plan grant) p)) (stays ∙ ap (λ (s : Seen). s.blocks n) seen_j)
-              ∙ ap slots_of (old_read num concerned old new image plan grant store parts is one there_one node j n low_j low ∙ sym (taken there))
-              ∙ sym (get_or-map slots_of those n [] empty_block there) ∙ sym in_block ∙ sym slots_same
+          of_old : (n < length those) ⊎ (length those ≤ n) → ReadsAsBefore n
+          of_old (inl there) = stood j low_j kind_j there
+              (ap (λ p. read_block (store_planned store plan grant) p) (stays ∙ ap (λ (s : Seen). s.blocks n) seen_j)
+              ∙ old_read num concerned old new image plan grant store parts is one there_one node j n low_j low ∙ sym (taken there))
+              (slots_same ∙ in_block ∙ get_or-map slots_of those n [] empty_block there)
             where
               taken : n < length those → get_or those n [] ≡ slice_index_or (parts j).blocks n []
               taken there = by_size (cases_lt n ((inode_in (parts j)).size / 4096))
@@ -199,10 +202,10 @@ module _ (num : Numbering) (concerned : List ℕ) (old new : TreeState) (image :
                   by_size : (n < (inode_in (parts j)).size / 4096) ⊎ ((inode_in (parts j)).size / 4096 ≤ n) → get_or those n [] ≡ slice_index_or (parts j).blocks n []
                   by_size (inl below) = get_or-take ((inode_in (parts j)).size / 4096) (parts j).blocks n [] below
                   by_size (inr past) = absurd (let few = length-take ((inode_in (parts j)).size / 4096) (parts j).blocks in omega (arith, there, past, few))
-          of_old (inr past) =
-              let empty = slots_same ∙ in_block ∙ get_or_past (map slots_of those) n empty_block (omega (arith, past, length-map those slots_of)) in
-              hole_slots n (stays ∙ ap (λ (s : Seen). s.blocks n) (ap (λ (o : Option ℕ). option_map_or image.seen o blank) e)
-              ∙ contents.behind j n (low_j, (whole.stands.each begun.node j e).kind ∙ ap kind_byte kind_old) low (short past)) (empties n empty)
+          of_old (inr past) = nothing
+              (stays ∙ ap (λ (s : Seen). s.blocks n) (ap (λ (o : Option ℕ). option_map_or image.seen o blank) e)
+              ∙ contents.behind j n (low_j, (whole.stands.each begun.node j e).kind ∙ ap kind_byte kind_old) low (short past))
+              (slots_same ∙ in_block ∙ get_or_past (map slots_of those) n empty_block (omega (arith, past, length-map those slots_of)))
             where
               short : length those ≤ n → length (image.seen j).slots ≤ 15 * n
               short past =
@@ -210,14 +213,18 @@ module _ (num : Numbering) (concerned : List ℕ) (old new : TreeState) (image :
                   let whole_count = length_joined (map slots_of those) (long_blocks (map slots_of those) (slot_blocks those)) in
                   omega (arith, past, count, whole_count, length-map those slots_of)
 
-  -- a block that is rewritten has the new ones
-  new_slots : (n : ℕ) → n < blocks_to_last_row blocks → rewrites_slots seen slots n ≡ true → slots_of (read_block (store_planned store plan grant) ((next.seen i).blocks n)) ≡ slots_in_block n slots
-  new_slots n low rewritten = by (change_of node.seat.changed n) refl
+  -- What is read of a block that is rewritten: it has no row and is a hole, or its slots are written.
+  data ReadsAsNew (n : ℕ) : Type 0 where
+    emptied : reads n ≡ zeros 4096 → list_all is_none (slots_in_block n slots) ≡ true → ReadsAsNew n
+    filled : reads n ≡ slots_bytes (slots_in_block n slots) → AreSlots (slots_in_block n slots) → ReadsAsNew n
+
+  read_new : (n : ℕ) → n < blocks_to_last_row blocks → rewrites_slots seen slots n ≡ true → ReadsAsNew n
+  read_new n low rewritten = by (change_of node.seat.changed n) refl
     where
       below : n < FILE_BLOCKS
       below = let most = few in omega arith
 
-      by : (o : Option ChangedBlock) → change_of node.seat.changed n ≡ o → slots_of (read_block (store_planned store plan grant) ((next.seen i).blocks n)) ≡ slots_in_block n slots
+      by : (o : Option ChangedBlock) → change_of node.seat.changed n ≡ o → ReadsAsNew n
       by None e = absurd (false_not_true (ap is_some (sym e) ∙ says.rewritten n below ∙ rewritten))
       by (Some c) e = by_zero (cases_Bool c.is_zero)
         where
@@ -233,21 +240,29 @@ module _ (num : Numbering) (concerned : List ℕ) (old new : TreeState) (image :
           there : slice_get one.slots n ≡ Some (slots_in_block n slots)
           there = slice_get-get_or one.slots n empty_block (omega (arith, low, long_slots)) ∙ ap Some (block_at n empty_block low)
 
-          by_zero : (c.is_zero ≡ true) ⊎ (c.is_zero ≡ false) → slots_of (read_block (store_planned store plan grant) ((next.seen i).blocks n)) ≡ slots_in_block n slots
-          by_zero (inl empty) =
-              ap slots_of (zero_read num concerned old new image plan grant store parts is one there_one node n below c e empty) ∙ empty_blocks_are_holes n slots (sym zero_is ∙ empty)
-          by_zero (inr full) =
-              ap slots_of (data_read num concerned old new image plan grant store parts is one there_one node n below c e full
+          by_zero : (c.is_zero ≡ true) ⊎ (c.is_zero ≡ false) → ReadsAsNew n
+          by_zero (inl empty) = emptied (zero_read num concerned old new image plan grant store parts is one there_one node n below c e empty) (sym zero_is ∙ empty)
+          by_zero (inr full) = filled
+              (data_read num concerned old new image plan grant store parts is one there_one node n below c e full
               ∙ cond-true (nat_eq _ 2) _ _ (ap (λ k. nat_eq k 2) kind_built)
               ∙ ap (λ (o : Option Slots). option_map_or slots_bytes o zero_bytes) (ap (λ those. slice_get those n) slots_built ∙ there))
-              ∙ slots_of-slots_bytes (slots_in_block n slots) (contents.slots one there_one (slots_in_block n slots) (there_is_in one.slots n (slots_in_block n slots) there))
+              (contents.slots one there_one (slots_in_block n slots) (there_is_in one.slots n (slots_in_block n slots) there))
+
+  -- a block that is not rewritten has its slots as before, and one that is has the new ones
+  kept_block : (n : ℕ) → ReadsAsBefore n → slots_of (reads n) ≡ slots_in_block n slots
+  kept_block n (nothing none same) = ap slots_of (hole_is_read (store_planned store plan grant) _ none) ∙ empty_blocks_are_holes n slots (ap (list_all is_none) same)
+  kept_block n (stood j low kind there read same) = ap slots_of read ∙ sym same
+
+  new_slots : (n : ℕ) → ReadsAsNew n → slots_of (reads n) ≡ slots_in_block n slots
+  new_slots n (emptied read empty) = ap slots_of read ∙ empty_blocks_are_holes n slots empty
+  new_slots n (filled read fits) = ap slots_of read ∙ slots_of-slots_bytes (slots_in_block n slots) fits
 
   content_slots : (n : ℕ) → n < blocks_to_last_row blocks → slots_of (slice_index_or after.blocks n []) ≡ slots_in_block n slots
   content_slots n low =
       ap slots_of (content_is num concerned old new image plan grant store parts is one there_one node n (let most = few in omega arith))
       ∙ elim (cases_Bool (rewrites_slots seen slots n)) [
-        | inl t ↦ new_slots n low t
-        | inr f ↦ kept_block n (let most = few in omega arith) f
+        | inl t ↦ new_slots n (read_new n low t)
+        | inr f ↦ kept_block n (read_before n (let most = few in omega arith) f)
       ]
 
   made_part : IsPartMade (blocks_planned plan grant) (parts one.number) after one
@@ -279,6 +294,41 @@ module _ (num : Numbering) (concerned : List ℕ) (old new : TreeState) (image :
       get_or-map slots_of (directory_blocks after) n [] empty_block (omega (arith, low, long_after))
       ∙ ap slots_of (ap (λ m. get_or (take m after.blocks) n []) size_same ∙ get_or-take (blocks_to_last_row blocks) after.blocks n [] low)
       ∙ content_slots n low ∙ sym (block_at n empty_block low))
+
+  -- nothing is wrong in a block of the new part, where nothing was wrong in those of directories before
+  fault_before : (n : ℕ) → ((j : ℕ) → j < image.count → breaks_slots (parts j) ≡ false) → ReadsAsBefore n → slots_fault (reads n) ≡ None
+  fault_before n sound (nothing none same) = ap slots_fault (hole_is_read (store_planned store plan grant) _ none) ∙ zeros_have_no_fault
+  fault_before n sound (stood j low kind there read same) = ap slots_fault read ∙ (slots_say (parts j)).0 (sound j low) kind n [] there
+
+  fault_new : (n : ℕ) → ReadsAsNew n → slots_fault (reads n) ≡ None
+  fault_new n (emptied read empty) = ap slots_fault read ∙ zeros_have_no_fault
+  fault_new n (filled read fits) = ap slots_fault read ∙ slots_fault-slots_bytes (slots_in_block n slots) fits
+
+  pub no_fault_after : ((j : ℕ) → j < image.count → breaks_slots (parts j) ≡ false) → breaks_slots after ≡ false
+  no_fault_after sound = (slots_say after).1 (λ kind n d inside.
+      let low : n < blocks_to_last_row blocks = omega (arith, inside, long_after) in
+      ap slots_fault (ap (λ m. get_or (take m after.blocks) n d) size_same ∙ get_or-take (blocks_to_last_row blocks) after.blocks n d low ∙ get_or_default after.blocks n d [] (let most = few in let all = made_part.made.blocks in omega arith)
+      ∙ content_is num concerned old new image plan grant store parts is one there_one node n (let most = few in omega arith))
+      ∙ elim (cases_Bool (rewrites_slots seen slots n)) [
+        | inl t ↦ fault_new n (read_new n low t)
+        | inr f ↦ fault_before n sound (read_before n (let most = few in omega arith) f)
+      ])
+
+  -- and its size is one that a directory can have
+  pub size_fits_after : FitsSize after
+  size_fits_after = record {
+    file = λ kind. absurd (let a = eqb-true (inode_in after).kind 1 kind in let b = kind_after in omega arith);
+    whole = λ kind. ap (λ n. n % 4096) size_after ∙ whole_blocks (blocks_to_last_row blocks);
+    few = λ kind. let most = few in let is = size_after in omega arith;
+  }
+    where
+      size_after : (inode_in after).size ≡ 4096 * blocks_to_last_row blocks
+      size_after =
+          ap (λ (m : Inode). m.size) made_part.inode ∙ ap (λ (b : Built). b.meta.size) node.is ∙ ap (λ (s : Seated). s.meta.size) seat_is_directory
+          ∙ min-eq_left (let most = few in omega arith)
+
+      whole_blocks : (b : ℕ) → 4096 * b % 4096 ≡ 0
+      whole_blocks b = omega arith
 
   is_directory_after : is_directory_part after ≡ true
   is_directory_after = eq-eqb (inode_in after).kind (kind_byte Directory) kind_after

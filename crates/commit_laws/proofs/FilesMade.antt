@@ -1,8 +1,9 @@
 -- The part of a file after a commit has the new bytes in its blocks.
-use Rattle.std.proofs.Common.{◌≡◌, ℕ, zero, suc, ◌+◌, ◌*◌, ◌/◌, ◌%◌, ◌<◌, true, false, cond, List, [], ◌∷◌, ◌++◌, length, map, take, drop, Option, Some, None, is_none, is_some, option_map, inl, inr, refl, sym, ap, subst, ◌∙◌, arith, nat_eq, Contains}
+use Rattle.std.proofs.Common.{◌≡◌, ℕ, zero, suc, ◌+◌, ◌*◌, ◌/◌, ◌%◌, ◌<◌, ◌≤◌, true, false, cond, List, [], ◌∷◌, ◌++◌, length, map, take, drop, Option, Some, None, is_none, is_some, option_map, inl, inr, refl, sym, ap, subst, ◌∙◌, arith, nat_eq, Contains}
 use Rattle.std.specs.Prelude.{◌⊎◌, slice_index, slice_index_or}
 use Rattle.std.specs.List.{flat_map}
 use Rattle.std.specs.Option.{option_map_or, unwrap_or}
+use borrow.Author.Tests.{eqb-true}
 use Rattle.std.proofs.lemmas.Bool.{cond-false, cases_Bool}
 use Rattle.std.proofs.lemmas.List.{get_or-take, get_or-drop, get_or_past, take_all, length-append, length-take-le}
 use Rattle.sfs_base.proofs.BasicLists.{zeros_read}
@@ -12,7 +13,10 @@ use Rattle.absorb.specs.declared.nets.NetRow.{NetRow}
 use Rattle.sfs_image.specs.Bytes.{zeros, nonzero_in}
 use Rattle.sfs_image.specs.ImageOf.{FreshBlock}
 use Rattle.sfs_image.specs.Inode.{Inode}
-use Rattle.sfs_image.specs.Part.{Part, directory_blocks, read_block, inode_in, file_byte}
+use Rattle.sfs_image.specs.Part.{Part, directory_blocks, is_directory_part, read_block, inode_in, file_byte}
+use Rattle.sfs_image.specs.LawsOfParts.{FitsSize}
+use Rattle.sfs_image.specs.Rules.{breaks_tail}
+use Rattle.sfs_image.proofs.RuleFacts.{tails_say}
 use Rattle.sfs_image.specs.Seen.{Seen, SeenInodes, FILE_BLOCKS}
 use Rattle.sfs_image.specs.Slot.{kind_byte}
 use Rattle.sfs_image.specs.SlotBlock.{slots_of}
@@ -58,10 +62,10 @@ zeros_past (byte ∷ bytes) m zero = refl
 zeros_past (byte ∷ bytes) m (suc k) = zeros_past bytes m k
 
 -- each byte of a block is that of the file
-byte_in_block : (n r : ℕ) (bytes : List ℕ) → r < 4096 → slice_index (bytes_in_block n bytes) r ≡ slice_index bytes (4096 * n + r)
+pub byte_in_block : (n r : ℕ) (bytes : List ℕ) → r < 4096 → slice_index (bytes_in_block n bytes) r ≡ slice_index bytes (4096 * n + r)
 byte_in_block n r bytes low = get_or-take 4096 (drop (4096 * n) bytes ++ zeros 4096) r 0 low ∙ zeros_past (drop (4096 * n) bytes) 4096 r ∙ get_or-drop (4096 * n) bytes r 0
 
-length_block : (n : ℕ) (bytes : List ℕ) → length (bytes_in_block n bytes) ≡ 4096
+pub length_block : (n : ℕ) (bytes : List ℕ) → length (bytes_in_block n bytes) ≡ 4096
 length_block n bytes = length-take-le 4096 (drop (4096 * n) bytes ++ zeros 4096) (omega (arith, length-append (drop (4096 * n) bytes) (zeros 4096), length-zeros 4096))
 
 -- a block without a byte that is not 0 is one of zeros
@@ -207,9 +211,32 @@ module _ (num : Numbering) (concerned : List ℕ) (old new : TreeState) (image :
       ap (λ (m : Inode). m.size) made_part.inode ∙ node.shows.size ∙ ap (λ (s : Seen). s.size) next_is ∙ shows.size
       ∙ ap (λ k. cond (nat_eq k 2) (4096 * (length (next.seen i).slots / 15)) (length (next.seen i).bytes)) kind_next ∙ ap length shows.bytes
 
+  -- its size is one that a file can have, and behind its end its last block has zeros
+  pub file_fits_after : FitsSize after
+  file_fits_after = record {
+    file = λ kind. let short = blocks.short begun.node in let is = size_after in omega arith;
+    whole = λ kind. absurd (let a = eqb-true (inode_in after).kind 2 kind in let b = kind_after in omega arith);
+    few = λ kind. absurd (let a = eqb-true (inode_in after).kind 2 kind in let b = kind_after in omega arith);
+  }
+
+  pub clean_after : breaks_tail after ≡ false
+  clean_after = (tails_say after).1 (λ kind place past low.
+      let short = blocks.short begun.node in
+      let is = size_after in
+      let within : place / 4096 < FILE_BLOCKS = omega arith in
+      let back : 4096 * (place / 4096) + place % 4096 ≡ place = omega arith in
+      ap (λ block. slice_index block (place % 4096)) (file_blocks (place / 4096) within)
+      ∙ byte_in_block (place / 4096) (place % 4096) (bytes_of new begun.node) (omega arith)
+      ∙ get_or_past (bytes_of new begun.node) (4096 * (place / 4096) + place % 4096) 0 (omega (arith, back, is, past)))
+
   pub file_is_made : IsFileMade new next after one
   file_is_made = record {
     bytes = subst (λ x. HasBytesInBlocks after (bytes_of new x)) (sym same_node.built_is) file_blocks;
+    kept = λ j. record {
+      inode = made_part.inode j;
+      tables = made_part.tables j;
+      slots = (cond-false (is_directory_part after) (map slots_of (directory_blocks after)) [] (ap (λ k. nat_eq k 2) kind_after) ∙ sym no_slots) j;
+    };
     shows = record {
       kind = ap (λ (m : Inode). m.kind) made_part.inode ∙ node.shows.kind;
       links = ap (λ (m : Inode). m.links) made_part.inode ∙ node.shows.links;

@@ -1,11 +1,13 @@
 pub mod AllWritten
 pub mod BegunShown
 pub mod BlocksRead
+pub mod BytesKept
 pub mod CommitMade
 pub mod CommitOfPlan
 pub mod Counting
 pub mod DirectoriesMade
 pub mod FilesMade
+pub mod GoodParts
 pub mod GrantWritten
 pub mod Granted
 pub mod JoinedSlots

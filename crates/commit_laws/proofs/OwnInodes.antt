@@ -1,11 +1,13 @@
 -- Each inode that a commit writes is one of its grant, or an old one.
-use Rattle.std.proofs.Common.{◌≡◌, ℕ, zero, suc, ◌≤◌, List, [], ◌∷◌, length, map, drop, filter_map, Option, Some, None, inl, inr, refl, sym, ap, subst, ◌∙◌, arith, count_by, fold, Contains}
+use Rattle.std.proofs.Common.{◌≡◌, ◌≢◌, ℕ, zero, suc, ◌≤◌, List, [], ◌∷◌, length, map, drop, filter_map, Option, Some, None, inl, inr, refl, sym, ap, subst, ◌∙◌, arith, nat_eq, count_by, fold, Contains}
 use Rattle.std.specs.Prelude.{◌⊎◌}
 use Rattle.std.specs.Option.{unwrap_or}
+use Rattle.std.specs.FinMap.{nat_cmp-IsAntisymmetric}
 use Rattle.std.specs.Ordering.{nat_cmp, match_ordering}
+use borrow.Author.Tests.{eqb-true}
 use Rattle.std.specs.declared.cmp.Ordering.{Ordering}
 use Rattle.std.specs.declared.cmp.Ordering.TheVariants.{Less, Equal, Greater}
-use Rattle.std.proofs.lemmas.Bool.{cond-true, cond-false, cases_Bool}
+use Rattle.std.proofs.lemmas.Bool.{cond-true, cond-false, cases_Bool, eqb-false}
 use Rattle.std.proofs.lemmas.List.Elements.{Contains-append_cases}
 use Rattle.sfs_base.proofs.BasicOptions.{none_some, some_same}
 use Rattle.fmt_journal.specs.declared.tx.TxRecord.{TxRecord}
@@ -58,6 +60,66 @@ ascending_is_in key items y has = elim (in_ascending key items [] y has) [
   | inl is ↦ is
   | inr (k, within, is) ↦ absurd (omega arith)
 ]
+
+-- an item that is put among others is there, and one with another number stays
+put_has : {X : Type 0} (key : X → ℕ) (item : X) (items : List X) → Contains (put_over key item items) item
+put_has key item [] = first_in item []
+put_has key item (other ∷ others) = by (nat_cmp (key item) (key other)) (put_has key item others)
+  where
+    by : (o : Ordering) → Contains (put_over key item others) item → Contains (match_ordering o (item ∷ other ∷ others) (item ∷ others) (other ∷ put_over key item others)) item
+    by Less rest = first_in item (other ∷ others)
+    by Equal rest = first_in item others
+    by Greater rest = further_in other item (put_over key item others) rest
+
+put_keeps : {X : Type 0} (key : X → ℕ) (item : X) (items : List X) (y : X) → key item ≢ key y → Contains items y → Contains (put_over key item items) y
+put_keeps key item [] y apart (k, within, is) = absurd (omega arith)
+put_keeps key item (other ∷ others) y apart has = by (nat_cmp (key item) (key other)) (nat_cmp-IsAntisymmetric (key item) (key other)) has (put_keeps key item others y apart)
+  where
+    by : (o : Ordering) → (o ≡ Equal → key item ≡ key other) → Contains (other ∷ others) y → (Contains others y → Contains (put_over key item others) y)
+        → Contains (match_ordering o (item ∷ other ∷ others) (item ∷ others) (other ∷ put_over key item others)) y
+    by Less same has rest = further_in item y (other ∷ others) has
+    by Equal same (zero, within, is) rest = absurd (apart (same refl ∙ ap key is))
+    by Equal same (suc k, within, is) rest = further_in item y others (k, omega arith, is)
+    by Greater same (zero, within, is) rest = (0, omega arith, is)
+    by Greater same (suc k, within, is) rest = further_in other y (put_over key item others) (rest (k, omega arith, is))
+
+-- so an item is in the ascending list where no other one of the list has its number
+in_fold : {X : Type 0} (key : X → ℕ) (items found : List X) (y : X) → ((x : X) → Contains items x → key x ≡ key y → x ≡ y) → Contains items y ⊎ Contains found y → Contains (fold (λ others item. put_over key item others) found items) y
+in_fold key [] found y once (inl (k, within, is)) = absurd (omega arith)
+in_fold key [] found y once (inr has) = has
+in_fold key (item ∷ items) found y once has = in_fold key items (put_over key item found) y (λ x there. once x (further_in item x items there)) (by has)
+  where
+    own : item ≡ y → Contains (put_over key item found) y
+    own same = subst (λ x. Contains (put_over key item found) x) same (put_has key item found)
+
+    by : Contains (item ∷ items) y ⊎ Contains found y → Contains items y ⊎ Contains (put_over key item found) y
+    by (inl (zero, within, is)) = inr (own is)
+    by (inl (suc k, within, is)) = inl (k, omega arith, is)
+    by (inr has) = elim (cases_Bool (nat_eq (key item) (key y))) [
+      | inl t ↦ inr (own (once item (first_in item items) (eqb-true (key item) (key y) t)))
+      | inr f ↦ inr (put_keeps key item found y (eqb-false (key item) (key y) f) has)
+    ]
+
+pub in_ascending_list : {X : Type 0} (key : X → ℕ) (items : List X) (y : X) → ((x : X) → Contains items x → key x ≡ key y → x ≡ y) → Contains items y → Contains (ascending_by key items) y
+in_ascending_list key items y once has = in_fold key items [] y once (inl has)
+
+-- an item with the number of each item of the list is there
+number_in_fold : {X : Type 0} (key : X → ℕ) (items found : List X) (n : ℕ) → ((y : X) × Contains items y × (key y ≡ n)) ⊎ ((y : X) × Contains found y × (key y ≡ n))
+    → (x : X) × Contains (fold (λ others item. put_over key item others) found items) x × (key x ≡ n)
+number_in_fold key [] found n (inl (y, (k, within, is), same)) = absurd (omega arith)
+number_in_fold key [] found n (inr has) = has
+number_in_fold key (item ∷ items) found n has = number_in_fold key items (put_over key item found) n (by has)
+  where
+    by : ((y : _) × Contains (item ∷ items) y × (key y ≡ n)) ⊎ ((y : _) × Contains found y × (key y ≡ n)) → ((y : _) × Contains items y × (key y ≡ n)) ⊎ ((y : _) × Contains (put_over key item found) y × (key y ≡ n))
+    by (inl (y, (zero, within, is), same)) = inr (item, put_has key item found, ap key is ∙ same)
+    by (inl (y, (suc k, within, is), same)) = inl (y, (k, omega arith, is), same)
+    by (inr (y, has, same)) = elim (cases_Bool (nat_eq (key item) n)) [
+      | inl t ↦ inr (item, put_has key item found, eqb-true (key item) n t)
+      | inr f ↦ inr (y, put_keeps key item found y (λ e. eqb-false (key item) n f (e ∙ same)) has, same)
+    ]
+
+pub number_in_ascending : {X : Type 0} (key : X → ℕ) (items : List X) (y : X) → Contains items y → (x : X) × Contains (ascending_by key items) x × (key x ≡ key y)
+number_in_ascending key items y has = number_in_fold key items [] (key y) (inl (y, has, refl))
 
 -- a node that is built is that of a seat
 seat_of_built : (changes : CommitChanges) (numbers : ℕ → Option ℕ) (seats : List Seated) (fresh : List ℕ) (one : Built) → Contains (nodes_built changes numbers seats fresh) one

@@ -202,7 +202,7 @@ module _ (num : Numbering) (concerned : List ℕ) (old new : TreeState) (image :
       by false e = subst (λ (bytes : List ℕ). length bytes < 2 ^ 64) (sym shows_node.bytes) (is.over.sizes node.of.begun.node)
 
   -- what is built can stand in a record
-  meta_fits : IsInode one.meta
+  pub meta_fits : IsInode one.meta
   meta_fits = record {
     kind = let same = kind_same in kind_low (kind_of new node.of.begun.node) same;
     links = subst (λ n. n < 2 ^ 32) (sym (node.shows.links ∙ ap (λ n. (next.seen n).links) node.inode ∙ shows_node.links)) (is.full.room.links node.of.begun.node);

@@ -47,7 +47,7 @@ use Rattle.commit_laws.proofs.SeatsOfPlan.{numbers, after_had, inodes_once, in_m
 use Rattle.commit_laws.proofs.Shown.{found_is_in}
 
 -- a free part has no pointer
-free_has_none : (store : ℕ → List ℕ) (place : ℕ) → pointer_at (part_of store (inode_bytes free_inode)) place ≡ 0
+pub free_has_none : (store : ℕ → List ℕ) (place : ℕ) → pointer_at (part_of store (inode_bytes free_inode)) place ≡ 0
 free_has_none store place = holes_have_none store (inode_bytes free_inode) (ap (λ (m : Inode). m.direct) (inode_of-inode_bytes free_inode free_fits)) (ap (λ (m : Inode). m.indirect) (inode_of-inode_bytes free_inode free_fits)) place
 
 -- and so it is made of nothing
@@ -80,7 +80,7 @@ module _ (num : Numbering) (concerned : List ℕ) (old new : TreeState) (image :
   rest gone i = cond gone (part_of store (inode_bytes free_inode)) (parts i)
 
   -- by what becomes of an inode
-  by_part : (P : ℕ → Part → Type 0) → ((one : Built) → Contains nodes one → P one.number (part_made store plan grant one)) → ((i : ℕ) → P i (part_of store (inode_bytes free_inode))) → ((i : ℕ) → i < image.count → P i (parts i))
+  pub by_part : (P : ℕ → Part → Type 0) → ((one : Built) → Contains nodes one → P one.number (part_made store plan grant one)) → ((i : ℕ) → P i (part_of store (inode_bytes free_inode))) → ((i : ℕ) → i < image.count → P i (parts i))
       → (i : ℕ) → i < image.count → P i (part_next store parts plan grant i)
   by_part P of_built of_free of_other i low = by (find (λ (one : Built). nat_eq one.number i) nodes) refl
     where
@@ -153,27 +153,28 @@ module _ (num : Numbering) (concerned : List ℕ) (old new : TreeState) (image :
         ap (λ n. (part_next store parts plan grant n).raw) (sym (written_number (record_of_gone entry.0) r entry.2)) ∙ of_gone entry.0 entry.1 ∙ written_bytes (record_of_gone entry.0) r entry.2
   ]
 
-  pub points : (layout : Layout) → LieInData layout image parts grant → (i : ℕ) → i < image.count → PointsToData layout (part_next store parts plan grant i)
-  points layout data_is = by_part (λ i part. PointsToData layout part) of_one (λ i place some. absurd (some (free_has_none store place))) data_is.parts_do
+  -- what is built points to the data area
+  pub built_in_data : (layout : Layout) → LieInData layout image parts grant → (one : Built) → Contains nodes one → PointsToData layout (part_made store plan grant one)
+  built_in_data layout data_is one there place some = elim (cases_lt place PLACES) [
+    | inr past ↦ absurd (some (none_past_places (store_over fresh store) (inode_bytes one.meta) place past))
+    | inl low ↦
+        let node : IsBuiltNode num concerned old new image plan grant is.full one = node_built num concerned old new image plan grant is.full one there in
+        let at = pointer_after_is num concerned old new image plan grant store parts is one there node place low in
+        subst (λ p. (data_start layout ≤ p) × (p < layout.blocks)) (sym at) (by one there node place low (λ none. some (at ∙ none)))
+  ]
     where
-      of_one : (one : Built) → Contains nodes one → PointsToData layout (part_made store plan grant one)
-      of_one one there place some = elim (cases_lt place PLACES) [
-        | inr past ↦ absurd (some (none_past_places (store_over fresh store) (inode_bytes one.meta) place past))
-        | inl low ↦
-            let node : IsBuiltNode num concerned old new image plan grant is.full one = node_built num concerned old new image plan grant is.full one there in
-            let at = pointer_after_is num concerned old new image plan grant store parts is one there node place low in
-            subst (λ p. (data_start layout ≤ p) × (p < layout.blocks)) (sym at) (by one there node place low (λ none. some (at ∙ none)))
+      by : (one : Built) (there : Contains nodes one) (node : IsBuiltNode num concerned old new image plan grant is.full one) (place : ℕ) → place < PLACES
+          → ((image_planned num concerned new image plan grant).seen node.of.inode).blocks place ≢ 0
+          → (data_start layout ≤ ((image_planned num concerned new image plan grant).seen node.of.inode).blocks place) × (((image_planned num concerned new image plan grant).seen node.of.inode).blocks place < layout.blocks)
+      by one there node place low there_is = elim (granted_or_old num concerned old new image plan grant store parts is one there node place low there_is) [
+        | inl in_grant ↦ data_is.granted _ in_grant
+        | inr same ↦
+            subst (λ p. (data_start layout ≤ p) × (p < layout.blocks)) (sym same)
+            (data_is.parts_do node.of.inode (within num concerned old new image plan grant store parts is one there node) place (λ none. there_is (same ∙ none)))
       ]
-        where
-          by : (one : Built) (there : Contains nodes one) (node : IsBuiltNode num concerned old new image plan grant is.full one) (place : ℕ) → place < PLACES
-              → ((image_planned num concerned new image plan grant).seen node.of.inode).blocks place ≢ 0
-              → (data_start layout ≤ ((image_planned num concerned new image plan grant).seen node.of.inode).blocks place) × (((image_planned num concerned new image plan grant).seen node.of.inode).blocks place < layout.blocks)
-          by one there node place low there_is = elim (granted_or_old num concerned old new image plan grant store parts is one there node place low there_is) [
-            | inl in_grant ↦ data_is.granted _ in_grant
-            | inr same ↦
-                subst (λ p. (data_start layout ≤ p) × (p < layout.blocks)) (sym same)
-                (data_is.parts_do node.of.inode (within num concerned old new image plan grant store parts is one there node) place (λ none. there_is (same ∙ none)))
-          ]
+
+  pub points : (layout : Layout) → LieInData layout image parts grant → (i : ℕ) → i < image.count → PointsToData layout (part_next store parts plan grant i)
+  points layout data_is = by_part (λ i part. PointsToData layout part) (built_in_data layout data_is) (λ i place some. absurd (some (free_has_none store place))) data_is.parts_do
 
 pub plans_turn_parts : PlansTurnParts
 plans_turn_parts = turns

@@ -29,10 +29,10 @@ get_mapped f (slot ∷ slots) zero = refl
 get_mapped f (slot ∷ slots) (suc k) = get_mapped f slots k
 
 -- each slot of a block, and that there are 15
-get_in_block : (n : ℕ) (slots : Slots) (k : ℕ) → k < 15 → get_or (slots_in_block n slots) k None ≡ get_or slots (15 * n + k) None
+pub get_in_block : (n : ℕ) (slots : Slots) (k : ℕ) → k < 15 → get_or (slots_in_block n slots) k None ≡ get_or slots (15 * n + k) None
 get_in_block n slots k within = get_or-take 15 (drop (15 * n) slots ++ replicate 15 None) k None within ∙ get_padded (drop (15 * n) slots) 15 k ∙ get_or-drop (15 * n) slots k None
 
-length_in_block : (n : ℕ) (slots : Slots) → length (slots_in_block n slots) ≡ 15
+pub length_in_block : (n : ℕ) (slots : Slots) → length (slots_in_block n slots) ≡ 15
 length_in_block n slots = length-take-le 15 (drop (15 * n) slots ++ replicate 15 None) (omega (arith, length-append (drop (15 * n) slots) (replicate 15 None), length-replicate {A = Option Row} 15 None))
 
 -- slots that are the same at each place are so in each block

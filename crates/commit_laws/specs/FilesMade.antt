@@ -6,8 +6,9 @@ use Rattle.sfs_image.specs.Seen.{Seen, SeenInodes, PLACES, FILE_BLOCKS}
 use Rattle.sfs_tree.specs.Tree.{TreeState, bytes_of, kind_of}
 use Rattle.image_tree.specs.Renamed.{Numbering}
 use Rattle.image_tree.specs.Stands.{BLOCK_BYTES}
+use Rattle.block_map.specs.Kept.{kept_of}
 use Rattle.space_map.specs.Space.{GrantedNumbers}
-use Rattle.disk_change.specs.AllBuilt.{nodes_with_grant}
+use Rattle.disk_change.specs.AllBuilt.{nodes_with_grant, entry_after}
 use Rattle.disk_change.specs.Built.{Built}
 use Rattle.disk_change.specs.Directory.{is_among}
 use Rattle.commit_laws.specs.CommitOfPlan.{CommitPlan, change_planned, image_planned}
@@ -35,9 +36,11 @@ pub record HasFileBlocks (num : Numbering) (concerned : List ℕ) (old new : Tre
   pub untouched : (node n : ℕ) → is_among concerned node ≡ true → has_page plan.files node n ≡ false → bytes_in_block n (bytes_of new node) ≡ bytes_in_block n (bytes_of old node)
   pub short : (node : ℕ) → length (bytes_of new node) ≤ BLOCK_BYTES * FILE_BLOCKS
 
--- The part of a file after the commit has the new bytes in its blocks, and shows what the next image shows.
+-- The part of a file after the commit has the new bytes in its blocks, is what the disk then has of it in memory, and shows what the next
+-- image shows.
 pub record IsFileMade (new : TreeState) (next : SeenInodes) (after : Part) (one : Built) : Type 0 where
   pub bytes : HasBytesInBlocks after (bytes_of new one.node)
+  pub kept : kept_of after ≡ (entry_after one).old.kept
   pub shows : ShowTheSame (seen_of after) (next.seen one.number)
 
 -- So it is of each file that such a plan builds.

@@ -1,3 +1,4 @@
+pub mod BytesKept
 pub mod CommitMade
 pub mod CommitOfPlan
 pub mod Counting

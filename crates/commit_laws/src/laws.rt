@@ -1,4 +1,5 @@
 // What is proved of the definitions: each function's contract is a law.
+ghost use Rattle.commit_laws.specs.BytesKept.{GoodPartsHaveNoneBehind, GoodPartsFit, PlansLeaveGoodBytes, PlansKeepParts};
 ghost use Rattle.commit_laws.specs.CommitMade.{ChangesMakeCommits};
 ghost use Rattle.commit_laws.specs.CommitOfPlan.{PlansMakeCommits, PlansLeaveTrees};
 ghost use Rattle.commit_laws.specs.Counting.{NetsCountLinks};
@@ -160,4 +161,24 @@ pub fn plans_write_parts()
 /// The parts after a commit point to the data area.
 pub fn plans_point_to_data()
     ensures { PlansPointToData }
+{}
+
+/// No directory of good parts has a block behind its slots.
+pub fn good_parts_have_none_behind()
+    ensures { GoodPartsHaveNoneBehind }
+{}
+
+/// And none has more blocks than a directory may have.
+pub fn good_parts_fit()
+    ensures { GoodPartsFit }
+{}
+
+/// The parts after a commit break no rule on the bytes of one inode.
+pub fn plans_leave_good_bytes()
+    ensures { PlansLeaveGoodBytes }
+{}
+
+/// What the disk has of a node after a commit is what is kept of its part.
+pub fn plans_keep_parts()
+    ensures { PlansKeepParts }
 {}

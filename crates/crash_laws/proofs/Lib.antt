@@ -1,0 +1,11 @@
+pub mod Numbers
+pub mod Shapes
+pub mod Fsyncs
+pub mod Longer
+pub mod Splits
+pub mod Growth
+pub mod Steps
+pub mod Commits
+pub mod Untouched
+pub mod Ends
+pub mod Begins

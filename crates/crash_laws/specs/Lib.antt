@@ -1,0 +1,5 @@
+pub mod Laws
+pub mod Listed
+pub mod SoFar
+pub mod Survives
+pub mod Wrote

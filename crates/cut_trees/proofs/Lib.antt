@@ -1,0 +1,3 @@
+mod CutRows
+pub mod Next
+pub mod Spans
