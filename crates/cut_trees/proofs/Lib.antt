@@ -1,3 +1,2 @@
-mod CutRows
 pub mod Next
 pub mod Spans

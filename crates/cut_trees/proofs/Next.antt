@@ -28,7 +28,7 @@ use Rattle.flush_core.specs.Laws.{KeepsAll, HasKindsOf}
 use Rattle.flush_core.specs.LawsInodes.{IsNeverNamed, StaysAsItWas}
 use Rattle.flush_core.proofs.Along.{tree_at-after}
 use Rattle.flush_core.proofs.CutNodes.{cuts_keep_kinds, files_are_cut}
-use Rattle.cut_trees.proofs.CutRows.{directories_are_cut}
+use Rattle.flush_core.proofs.CutRows.{directories_are_cut}
 use Rattle.flush_core.proofs.KeptInodes.{others_stay, directories_are_named}
 use Rattle.flush_core.proofs.Lists.{lists_keep}
 use Rattle.flush_core.proofs.NewNodes.{inodes_are_named}

@@ -14,7 +14,7 @@ use Rattle.sfs_tree.specs.Verdict.{verdict}
 use Rattle.flush_core.specs.Cut.{cut_of}
 use Rattle.flush_core.specs.Rules.{IsOneOf}
 use Rattle.flush_core.proofs.Basics.{in_either, filter_none, filter_same}
-use Rattle.cut_trees.proofs.CutRows.{directories_are_cut}
+use Rattle.flush_core.proofs.CutRows.{directories_are_cut}
 use Rattle.flush_core.proofs.Own.{stamp_of}
 use Rattle.cut_trees.specs.Spans.{is_own_between, SpansMakeRows, SpansMakeCutRows, is_edit_between, SpansMakeBytes}
 

@@ -1,6 +1,6 @@
 pub mod Basics
 pub mod Raises
-mod CutRows
+pub mod CutRows
 pub mod Nodes
 pub mod Own
 pub mod Placed
