@@ -1,6 +1,6 @@
 -- What an fsync goes by, made of what it has gathered.
-use Rattle.std.specs.Prelude.{◌≡◌, ℕ, ◌≤◌, ◌==◌, List, map, filter, flat_map, option_map, All}
-use Rattle.std.specs.Option.{unwrap_or}
+use Rattle.std.specs.Prelude.{◌≡◌, ℕ, ◌≤◌, ◌==◌, List, [], map, filter, flat_map, option_map, max, All, if◌then◌else◌}
+use Rattle.std.specs.Option.{unwrap_or, option_map_or}
 use Rattle.std.specs.List.{find}
 use Rattle.std.specs.List.Sorted.{IsStrictlyIncreasing}
 use Rattle.sfs_base.specs.declared.numbers.NodeId.{NodeId}
@@ -16,7 +16,7 @@ use Rattle.dep_closure.specs.declared.gathered.DirectoryChanges.{DirectoryChange
 use Rattle.dep_closure.specs.declared.gathered.NodeCut.{NodeCut}
 use Rattle.dep_closure.specs.declared.gathered.NodeBirth.{NodeBirth}
 use Rattle.dep_closure.specs.declared.gathered.Gathered.{Gathered}
-use Rattle.dep_closure.specs.Spans.{is_of_stamp}
+use Rattle.dep_closure.specs.Spans.{is_of_stamp, is_in_span}
 
 -- the directory of a log
 abbrev pub log_directory : DirectoryChanges → ℕ
@@ -33,6 +33,18 @@ birth_node birth = birth.node.0
 -- the stamp in a node's cut, 0 for a node that is not in the list
 abbrev pub cut_in : List NodeCut → ℕ → ℕ
 cut_in cuts node = unwrap_or (option_map (λ one. one.cut.0) (find (λ one. cut_node one == node) cuts)) 0
+
+-- the same, where the cuts of some nodes are lifted to a stamp at least
+abbrev pub lifted_cut : List NodeCut → List ℕ → ℕ → ℕ → ℕ
+lifted_cut cuts lifted to node = if is_listed lifted node then max (cut_in cuts node) to else cut_in cuts node
+
+-- the changes that were gathered of a directory, none where it has no log
+abbrev pub logged_changes : List DirectoryChanges → ℕ → List Change
+logged_changes logs node = option_map_or (λ log. log.changes.items) (find (λ log. log_directory log == node) logs) []
+
+-- the changes in a node's span: those of its log from its cut to below a stamp
+abbrev pub span_in : Gathered → Stamp → ℕ → List Change
+span_in gathered below node = filter (is_in_span (cut_in gathered.cuts.items node) below.0) (logged_changes gathered.logs.items node)
 
 -- A directory's change as it was gathered: as a change of a row, by the changes that the directory has at its stamp, and with the
 -- directories that are recorded with it.
@@ -57,12 +69,12 @@ look_of start below gathered = record {
   noted = flat_map noted_in gathered.logs.items;
 }
 
--- A change of a log names a node and does not lie below the directory's cut.
-pub record IsNamedByLog (cuts : List NodeCut) (log : DirectoryChanges) (node : ℕ) : Type 0 where
+-- A change of a log names a node and does not lie below the directory's stamp in a cut.
+pub record IsNamedByLog (cut : ℕ → ℕ) (log : DirectoryChanges) (node : ℕ) : Type 0 where
   pub change : Change
   pub is_logged : IsOneOf log.changes.items change
   pub child : change.child.0 ≡ node
-  pub unflushed : cut_in cuts log.dir.0 ≤ change.stamp.0
+  pub unflushed : cut log.dir.0 ≤ change.stamp.0
 
 -- A log has changes of its own directory alone, by their stamps, and within one stamp removals before additions.
 pub record IsOwnLog (log : DirectoryChanges) : Type 0 where

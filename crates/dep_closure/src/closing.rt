@@ -33,7 +33,7 @@ pub fn closure(
         (is_listed (map node_number nodes.items) node ≡ true) ↔ Gathers (look_of start below logs.now) node) }
     ensures ascending { IfOk result (λ nodes. IsStrictlyIncreasing (map node_number nodes.items)) }
 {
-    let named = named_nodes(alloc, logs)?;
+    let named = named_nodes(alloc, logs, &[], Stamp(0))?;
     let mut found = Found::new(alloc);
     found.add(start)?;
     while let Some(node) = found.next() {

@@ -79,10 +79,18 @@ impl Found {
         ensures members { IfOk result (λ nodes. map node_number nodes.items ≡ self.members.keys) }
         ensures ascending { IfOk result (λ nodes. IsStrictlyIncreasing (map node_number nodes.items)) }
     {
-        let mut nodes = Vec::with_capacity(alloc, self.members.len())?;
-        for node in self.members {
-            nodes.push(NodeId(node))?;
-        }
-        Ok(RoomyList::from_vec(nodes))
+        node_list(alloc, self.members)
     }
+}
+
+/// The nodes with these numbers, ascending. Only want of memory refuses it.
+pub fn node_list(alloc: Global, numbers: BTreeSet<u32>) -> Result<NodeList, NoMemory>
+    ensures members { IfOk result (λ nodes. map node_number nodes.items ≡ numbers.keys) }
+    ensures ascending { IfOk result (λ nodes. IsStrictlyIncreasing (map node_number nodes.items)) }
+{
+    let mut nodes = Vec::with_capacity(alloc, numbers.len())?;
+    for node in numbers {
+        nodes.push(NodeId(node))?;
+    }
+    Ok(RoomyList::from_vec(nodes))
 }

@@ -11,3 +11,8 @@ bytes_in pages size = map (byte_at pages) (range_with_len 0 size)
 pub record KeepsPages (pages : List (List ℕ)) (size : ℕ) : Type 0 where
   pub within : size ≤ 8796093022208
   pub clean : (place : ℕ) → size ≤ place → byte_at pages place ≡ 0
+
+-- The same, and the marks of so many first blocks as a file may have.
+pub record KeepsFile (pages : List (List ℕ)) (size marked : ℕ) : Type 0 where
+  pub kept : KeepsPages pages size
+  pub few : marked ≤ 2147483648

@@ -29,14 +29,15 @@ impl Model for FileBytes {
 
     ghost Value = { File };
 
-    ghost use Rattle.mem_files.specs.Kept.{bytes_in, KeepsPages};
+    ghost use Rattle.std.specs.Prelude.{length};
+    ghost use Rattle.mem_files.specs.Kept.{bytes_in, KeepsFile};
 
     ghost view = { λ file. record {
       bytes = bytes_in file.pages.items file.size;
       marks = file.marks.items;
     } };
 
-    ghost invariant = { λ file. KeepsPages file.pages.items file.size };
+    ghost invariant = { λ file. KeepsFile file.pages.items file.size (length file.marks.items) };
 }
 
 impl FileBytes {
@@ -144,6 +145,13 @@ impl FileBytes {
             Some(mark) => *mark,
             None => None,
         }
+    }
+
+    /// How many first blocks may have a mark. No block behind them has one.
+    pub fn room(&self) -> u32
+        ensures { result ≡ room self.now }
+    {
+        self.marks.len() as u32
     }
 
     /// An equal file.

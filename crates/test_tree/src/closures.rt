@@ -8,6 +8,7 @@ use crate::calls::{Trial, root_alone};
 use crate::machine::{Run, begun_at};
 use dep_closure::{DirectoryChanges, Gathered, NodeBirth, NodeCut, closure};
 use flush_core::Event;
+use plans::OnDisk;
 use sfs_base::{CoreId, Kind, Name, NodeId, NodeList, RoomyList, Stamp};
 use sfs_tree::{Act, Ancestors, Call, Change, Entry, Reply};
 use std::alloc::Global;
@@ -15,6 +16,7 @@ use std::process::Abort;
 use std::test::Fail;
 
 mod drawn;
+mod plans;
 mod rows;
 
 // A number above those of all nodes.
@@ -31,6 +33,7 @@ struct Watched {
     directories: Vec<u32>,
     stamp: u64,
     commits: u64,
+    disk: OnDisk,
 }
 
 // Nobody's calls yet. The first new node is 64.
@@ -46,6 +49,7 @@ fn begun(alloc: Global) -> Result<Watched, Fail> {
         directories,
         stamp: 0,
         commits: 0,
+        disk: plans::made(alloc)?,
     })
 }
 
@@ -314,13 +318,16 @@ impl Watched {
         Ok(raised)
     }
 
-    // Compares the members of an fsync, from all logs and from what is not flushed, with those of the machine.
+    // Compares the members of an fsync, from all logs and from what is not flushed, with those of the machine, and the nodes that have
+    // an inode once its plan was committed.
     fn compare(&mut self, rt: &impl Abort, node: u32) -> Result<Vec<u32>, Fail> {
         let members = self.members(rt, node, true)?;
         let unflushed = self.members(rt, node, false)?;
         assert!(rt; unflushed.as_slice() == members.as_slice());
+        self.commit_plan(rt, node, members.as_slice())?;
         let raised = self.flush(rt, node)?;
         assert!(rt; raised.as_slice() == members.as_slice());
+        self.same_inodes(rt)?;
         Ok(members)
     }
 }

@@ -6,10 +6,10 @@ use std::alloc::Global;
 use std::process::Abort;
 use std::test::Fail;
 
-// A call, or an fsync of a node with its members.
+// A call, or an fsync of a node with its members and with how many inodes and blocks it needs.
 enum Step {
     Call(Asked),
-    Fsync(u32, &'static [u32]),
+    Fsync(u32, &'static [u32], u32, u32),
 }
 
 use Step::{Call, Fsync};
@@ -22,9 +22,11 @@ impl Watched {
                 let call = call_of(self.alloc, asked)?;
                 self.make(rt, &call)
             }
-            Step::Fsync(node, due) => {
+            Step::Fsync(node, due, inodes, blocks) => {
                 let members = self.compare(rt, *node)?;
                 assert!(rt; members.as_slice() == *due);
+                assert_eq!(rt; self.disk.needed.inodes, *inodes);
+                assert_eq!(rt; self.disk.needed.blocks, *blocks);
                 Ok(())
             }
         }
@@ -47,10 +49,10 @@ fn run_anew(rt: &impl Abort, alloc: Global, steps: &[Step]) -> Result<(), Fail> 
 // What came and went between two fsyncs.
 static ABSORBED: [Step; 5] = [
     Call(Mkdir(0, "d")),
-    Fsync(0, &[0]),
+    Fsync(0, &[0], 1, 1),
     Call(Create(64, "a")),
     Call(Unlink(64, "a")),
-    Fsync(64, &[64]),
+    Fsync(64, &[64], 0, 0),
 ];
 
 // A file's fsync flushes where it was made; a link and an unlink of it then flush one directory each.
@@ -59,18 +61,18 @@ static NAMED_TWICE: [Step; 9] = [
     Call(Mkdir(0, "q")),
     Call(Create(64, "f")),
     Call(Write(66, 0, "hi")),
-    Fsync(66, &[0, 64, 66]),
+    Fsync(66, &[0, 64, 66], 3, 2),
     Call(Link(66, 65, "f")),
     Call(Unlink(64, "f")),
-    Fsync(64, &[64]),
-    Fsync(65, &[65]),
+    Fsync(64, &[64], 0, 0),
+    Fsync(65, &[65], 0, 1),
 ];
 
 // Directories that were made in one another.
 static BIRTHS: [Step; 3] = [
     Call(Mkdir(0, "x")),
     Call(Mkdir(64, "y")),
-    Fsync(65, &[0, 64, 65]),
+    Fsync(65, &[0, 64, 65], 2, 2),
 ];
 
 // A rename between two directories.
@@ -78,10 +80,10 @@ static BOTH_SIDES: [Step; 7] = [
     Call(Mkdir(0, "p")),
     Call(Mkdir(0, "q")),
     Call(Create(64, "f")),
-    Fsync(0, &[0]),
-    Fsync(64, &[64]),
+    Fsync(0, &[0], 2, 1),
+    Fsync(64, &[64], 1, 1),
     Call(Rename(64, "f", 65, "g")),
-    Fsync(64, &[64, 65]),
+    Fsync(64, &[64, 65], 0, 1),
 ];
 
 // Directories that move below others.
@@ -91,14 +93,14 @@ static MOVED: [Step; 13] = [
     Call(Mkdir(0, "r")),
     Call(Mkdir(64, "b")),
     Call(Mkdir(66, "a")),
-    Fsync(0, &[0]),
-    Fsync(64, &[64]),
-    Fsync(66, &[66]),
+    Fsync(0, &[0], 3, 1),
+    Fsync(64, &[64], 1, 1),
+    Fsync(66, &[66], 1, 1),
     Call(Rename(64, "b", 68, "b")),
-    Fsync(68, &[0, 64, 66, 68]),
+    Fsync(68, &[0, 64, 66, 68], 0, 1),
     Call(Rename(68, "b", 65, "b")),
     Call(Rename(66, "a", 67, "a")),
-    Fsync(66, &[0, 65, 66, 67, 68]),
+    Fsync(66, &[0, 65, 66, 67, 68], 0, 2),
 ];
 
 #[test]

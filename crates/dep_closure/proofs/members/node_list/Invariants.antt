@@ -1,6 +1,6 @@
 use Rattle.std.proofs.Common.{◌≡◌, map}
 use Rattle.sfs_tree.specs.NameRow.{node_number}
-use Rattle.dep_closure.proofs.members.Found.into_list.Given as goal
+use Rattle.dep_closure.proofs.members.node_list.Given as goal
 
 abbrev pub invariant-loop-node : goal.invariant-loop-node
 invariant-loop-node l = map node_number l.nodes.items ≡ l.yielded

@@ -1,0 +1,7 @@
+pub mod MemberNets
+pub mod Moving
+pub mod Naming
+pub mod Picked
+pub mod Stood
+pub mod Told
+pub mod Touching

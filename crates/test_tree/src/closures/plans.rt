@@ -1,0 +1,144 @@
+// The plan of each fsync, made, granted and built: the disk then has exactly the nodes that the machine gives an inode.
+ghost use Rattle.space_map.specs.Space.{AllGranted};
+
+use super::{NODES, Watched};
+use disk_change::{Built, DiskChange, OldDisk, OldNode, build, need};
+use fmt_inode::{Inode, Tables};
+use fmt_slots::SlotList;
+use fsync_dir::{concerned, plan};
+use mem_files::FileBytes;
+use sfs_base::{Kind, NodeId, NodeList, Stamp};
+use space_map::{Grant, Need, SpaceMap};
+use std::alloc::Global;
+use std::process::Abort;
+use std::test::Fail;
+
+// What the disk has of each node, what is free on it, and what the last commit needed.
+#[derive(Drop)]
+pub(super) struct OnDisk {
+    nodes: OldDisk,
+    space: SpaceMap,
+    pub(super) needed: Need,
+}
+
+// A disk of 4,096 blocks and 512 inodes whose data begins at block 29, with the root alone.
+pub(super) fn made(alloc: Global) -> Result<OnDisk, Fail> {
+    let mut nodes = OldDisk::new(alloc);
+    let root = OldNode {
+        inode: 0,
+        meta: Inode {
+            kind: 2,
+            links: 2,
+            size: 0,
+            direct: [0; 108],
+            indirect: [0; 16],
+        },
+        tables: Tables::new(alloc),
+        slots: SlotList::new(alloc),
+    };
+    put(&mut nodes, NodeId(0), root)?;
+    Ok(OnDisk {
+        nodes,
+        space: SpaceMap::new(alloc, 29, 4_096, 512, &[], &[0])?,
+        needed: Need {
+            inodes: 0,
+            blocks: 0,
+        },
+    })
+}
+
+// Puts what the disk has of a node among the others, where it is not there.
+fn put(nodes: &mut OldDisk, node: NodeId, one: OldNode) -> Result<(), Fail> {
+    if nodes.find(node).is_none() {
+        nodes.add(node, one.inode, one.meta, one.tables, one.slots)?;
+    }
+    Ok(())
+}
+
+// Moves what the disk has of some nodes to others.
+fn move_nodes(from: &mut OldDisk, to: &mut OldDisk, nodes: &NodeList) -> Result<(), Fail> {
+    for node in nodes.as_slice() {
+        if let Some(one) = from.take(*node) {
+            put(to, *node, one)?;
+        }
+    }
+    Ok(())
+}
+
+// A need that is met.
+fn reserved(rt: &impl Abort, space: &mut SpaceMap, due: Need) -> Grant
+    ensures inodes { AllGranted space.new.inodes result.inodes }
+    ensures blocks { AllGranted space.new.blocks result.blocks }
+{
+    match space.reserve(due) {
+        Ok(grant) => grant,
+        Err(_) => panic!(rt; "refused"),
+    }
+}
+
+// Builds a change with a grant of what it needs, which is then no more free.
+fn granted(
+    rt: &impl Abort,
+    alloc: Global,
+    change: DiskChange,
+    space: &mut SpaceMap,
+) -> Result<Built, Fail> {
+    let grant = reserved(rt, space, need(&change));
+    match build(alloc, change, &grant) {
+        Ok(built) => {
+            let blocks = built.tx.freed_blocks.as_slice();
+            let inodes = built.tx.freed_inodes.as_slice();
+            space.free_after(grant, blocks, inodes);
+            Ok(built)
+        }
+        Err(fault) => {
+            space.give_back(grant);
+            Err(fault.into())
+        }
+    }
+}
+
+impl OnDisk {
+    // Whether the disk has an inode of a node.
+    pub(super) fn has(&self, node: NodeId) -> bool {
+        self.nodes.find(node).is_some()
+    }
+}
+
+impl Watched {
+    // Commits the plan of an fsync by what is not flushed, and compares its members with others.
+    pub(super) fn commit_plan(
+        &mut self,
+        rt: &impl Abort,
+        node: u32,
+        members: &[u32],
+    ) -> Result<(), Fail> {
+        let start = NodeId(node);
+        let below = Stamp(self.stamp);
+        let logs = self.gathered(false)?;
+        assert!(rt; logs.is_orderly());
+        let concern = concerned(self.alloc, start, below, &logs)?;
+        let nodes = concern.nodes.copy()?;
+        let mut old = OldDisk::new(self.alloc);
+        move_nodes(&mut self.disk.nodes, &mut old, &nodes)?;
+        let bytes = FileBytes::new(self.alloc);
+        let file = match self.kind(start) {
+            Kind::File => Some(&bytes),
+            Kind::Directory => None,
+        };
+        let plan = plan(self.alloc, start, below, &logs, concern, old, file)?;
+        assert_eq!(rt; plan.members.len(), members.len() as u64);
+        self.disk.needed = need(&plan.change);
+        let mut built = granted(rt, self.alloc, plan.change, &mut self.disk.space)?;
+        move_nodes(&mut built.after, &mut self.disk.nodes, &nodes)
+    }
+
+    // The disk has an inode of exactly the nodes that have one by the machine.
+    pub(super) fn same_inodes(&self, rt: &impl Abort) -> Result<(), Fail> {
+        for node in 0..NODES {
+            let node = NodeId(node);
+            assert_eq!(rt; self.disk.has(node), self.run.state.has_inode(node));
+        }
+        Ok(())
+    }
+}
