@@ -1,0 +1,48 @@
+-- The laws of free space, each of which a function of the module laws proves.
+use Rattle.std.specs.Prelude.{◌≡◌, ◌↔◌, ℕ, ◌<◌, ◌≤◌, Bool, List, map, Contains}
+use Rattle.sfs_image.specs.Part.{Part}
+use Rattle.sfs_image.specs.Super.{Layout, data_start}
+use Rattle.sfs_tree.specs.declared.history.Entry.{Entry}
+use Rattle.sfs_tree.specs.Tree.{TreeState}
+use Rattle.image_tree.specs.Image.{inodes_shown}
+use Rattle.image_tree.specs.Renamed.{Numbering}
+use Rattle.space_map.specs.Pool.{status_of, first_status}
+use Rattle.space_map.specs.Space.{Space, GrantedNumbers}
+use Rattle.disk_change.specs.GivenUp.{IsLeftByGone, entry_number}
+use Rattle.disk_change.specs.declared.old.OldEntry.{OldEntry}
+use Rattle.commit_laws.specs.CommitOfPlan.{CommitPlan, ServesPlan}
+use Rattle.flush_core.specs.Closure.{Flush}
+use Rattle.flush_core.specs.Cut.{Cut}
+use Rattle.flush_commits.specs.Ready.{IsReady, KeepsEntries}
+use Rattle.space_laws.specs.Map.{IsMapOf, WasGranted, WasReturned}
+
+-- A map is right that begins with what nodes have as taken, and with all else free.
+abbrev pub FirstMapsAreRight : Type 0
+FirstMapsAreRight = (layout : Layout) (entries : List OldEntry) (held : List ℕ) (space : Space)
+    → ((block : ℕ) → Contains held block ↔ IsLeftByGone entries block)
+    → ((block : ℕ) → status_of space.blocks block ≡ first_status (data_start layout) layout.blocks held block)
+    → ((inode : ℕ) → status_of space.inodes inode ≡ first_status 0 layout.inodes (map entry_number entries) inode)
+    → IsMapOf layout entries space
+
+-- A grant serves a plan, and its blocks lie in the data area.
+pub record ServesAt (layout : Layout) (parts : ℕ → Part) (plan : CommitPlan) (grant : GrantedNumbers) : Type 0 where
+  pub serves : ServesPlan (inodes_shown layout parts) plan grant
+  pub lies : (block : ℕ) → Contains grant.blocks block → (data_start layout ≤ block) × (block < layout.blocks)
+
+-- Between two commits a grant that was taken from a right map serves the plan that it was taken for.
+abbrev pub GrantsServe : Type 0
+GrantsServe = (first : TreeState) (history : List Entry) (flushes : List Flush) (cut : Cut) (inodes : ℕ → Bool) (num : Numbering) (layout : Layout)
+    (store : ℕ → List ℕ) (parts : ℕ → Part) (entries : List OldEntry) (plan : CommitPlan) (old new : Space) (grant : GrantedNumbers)
+    → IsReady first history flushes cut inodes num layout store parts → KeepsEntries num parts entries
+    → IsMapOf layout entries old → WasGranted plan old grant new
+    → ServesAt layout parts plan grant
+
+-- A grant that is taken leaves a map right.
+abbrev pub GrantsKeepMaps : Type 0
+GrantsKeepMaps = (layout : Layout) (entries : List OldEntry) (plan : CommitPlan) (old new : Space) (grant : GrantedNumbers)
+    → IsMapOf layout entries old → WasGranted plan old grant new → IsMapOf layout entries new
+
+-- So does one that is given back.
+abbrev pub ReturnsKeepMaps : Type 0
+ReturnsKeepMaps = (layout : Layout) (entries : List OldEntry) (old new : Space) (grant : GrantedNumbers)
+    → IsMapOf layout entries old → WasReturned old grant new → IsMapOf layout entries new

@@ -1,0 +1,22 @@
+// What is proved of the definitions: each function's contract is a law.
+ghost use Rattle.space_laws.specs.Laws.{FirstMapsAreRight, GrantsServe, GrantsKeepMaps, ReturnsKeepMaps};
+
+/// A map that begins with what nodes have as taken is right.
+pub fn first_maps_are_right()
+    ensures { FirstMapsAreRight }
+{}
+
+/// A grant taken from such a map serves the plan that it was taken for.
+pub fn grants_serve()
+    ensures { GrantsServe }
+{}
+
+/// And leaves the map right.
+pub fn grants_keep_maps()
+    ensures { GrantsKeepMaps }
+{}
+
+/// So does one that is given back.
+pub fn returns_keep_maps()
+    ensures { ReturnsKeepMaps }
+{}

@@ -1,0 +1,13 @@
+pub mod Logs
+pub mod Keeps
+pub mod Taking
+pub mod Drawing
+pub mod Gathering
+pub mod Asking
+pub mod Hands
+pub mod Entering
+pub mod Leaving
+pub mod Closing
+pub mod Beginning
+pub mod Replacing
+pub mod Calling

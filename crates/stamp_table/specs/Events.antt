@@ -1,0 +1,51 @@
+-- The history of a table: calls, each of which drew a stamp, and what cores told, which drew none.
+use Rattle.std.specs.Prelude.{ℕ, Bool, true, false, List, Option, Some, None, filter_map}
+use Rattle.sfs_tree.specs.Tree.{TreeState}
+use Rattle.sfs_tree.specs.History.{IsLegal}
+use Rattle.sfs_tree.specs.declared.history.Entry.{Entry}
+use Rattle.sfs_tree.specs.declared.call.Call.TheVariants as call
+use Rattle.sfs_tree.specs.declared.reply.Reply.TheVariants as reply
+use Rattle.sfs_tree.specs.Build.{root_alone}
+use Rattle.stamp_table.specs.declared.event.Event.{Event}
+use Rattle.stamp_table.specs.declared.event.Event.TheVariants.{Called, Told}
+
+module _ {X : Type 0} where
+  -- whose an event is
+  abbrev pub event_core : Event X → ℕ
+  event_core (Called entry) = entry.core.0
+  event_core (Told core fact) = core.0
+
+  -- whether an event drew a stamp: a call did
+  abbrev pub is_call : Event X → Bool
+  is_call (Called entry) = true
+  is_call (Told core fact) = false
+
+  -- the entry of a call
+  abbrev pub called : Event X → Option Entry
+  called (Called entry) = Some entry
+  called (Told core fact) = None
+
+  -- what a core tells, whatever number it finds
+  abbrev pub told_by : ℕ → X → ℕ → Event X
+  told_by core fact number = Told (record { 0 = core }) fact
+
+  -- the calls of a history, in their order
+  abbrev pub calls_in : List (Event X) → List Entry
+  calls_in log = filter_map called log
+
+  -- A history whose calls are legal from the first tree on, and in which what was told may stand.
+  pub record IsLawful (lawful : TreeState → List (Event X) → Type 0) (first : TreeState) (log : List (Event X)) : Type 0 where
+    pub legal_calls : IsLegal first (calls_in log)
+    pub told : lawful first log
+
+  -- the value of a cell at home stands for what the history leaves of it; a cell without a value never is at home
+  abbrev pub stands_for : {C : Type 0} → (TreeState → List (Event X) → ℕ → C → Type 0) → TreeState → List (Event X) → ℕ → Option C → Type 0
+  stands_for stands first log place (Some value) = stands first log place value
+  stands_for stands first log place None = ⊥
+
+-- an entry that stands where nothing is said of one, and a tree that does
+abbrev pub NO_ENTRY : ℕ → Entry
+NO_ENTRY number = record { stamp = record { 0 = number }; core = record { 0 = 0 }; call = call.Stat (record { 0 = 0 }); reply = reply.Ok; ack = None }
+
+abbrev pub NO_TREE : TreeState
+NO_TREE = root_alone 1 0 0

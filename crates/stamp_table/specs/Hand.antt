@@ -1,0 +1,62 @@
+-- A core: what contracts see of it, and what holds of its parts.
+use Rattle.std.specs.Prelude.{◌≡◌, ℕ, ◌-◌, ◌≤◌, true, false, Bool, List, [], Option, Some, None, map, length, min, reverse}
+use Rattle.atomic_table.specs.Seated.{TableId}
+use Rattle.atomic_table.specs.declared.shared.Seat.{Seat}
+use Rattle.sfs_tree.specs.Tree.{TreeState}
+use Rattle.sfs_tree.specs.declared.history.Entry.{Entry}
+use Rattle.stamp_table.specs.declared.event.Event.{Event}
+use Rattle.stamp_table.specs.declared.view.View.{View}
+use Rattle.stamp_table.specs.declared.held.HeldCell.{HeldCell}
+use Rattle.stamp_table.specs.Rule.{MOST_ENTRIES}
+use Rattle.stamp_table.specs.Ascending.{Falls, AreBelow}
+use Rattle.stamp_table.specs.Events.{calls_in}
+
+-- A core: its table, what it knows, the cells that it holds with their values, places ascending, for how many further entries and
+-- cells it has room, whether it leads the others to the end, and how many cores there are.
+pub record Hand (C X : Type 0) : Type 0 where
+  pub table : TableId
+  pub view : View TreeState (Event X)
+  pub held : List (HeldCell C)
+  pub spare : ℕ
+  pub room : ℕ
+  pub leads : Bool
+  pub cores : ℕ
+
+-- the places of some cells
+abbrev pub places_of : {C : Type 0} → List (HeldCell C) → List ℕ
+places_of cells = map (λ cell. cell.place) cells
+
+-- the slots of a core's cells are empty while it holds them: it has the values itself
+abbrev pub empty_slots : {C : Type 0} → List ℕ → List (ℕ × Option C)
+empty_slots places = map (λ place. (place, None)) places
+
+-- for how many further entries there is room: in memory, and up to the most that a core may have
+abbrev pub spare_of : ℕ → ℕ → ℕ → ℕ
+spare_of capacity entries events = min (capacity - entries) (MOST_ENTRIES - events)
+
+module _ {C X : Type 0} where
+  -- the seat that gathers, before any list was gathered
+  pub record IsLead (table : TableId) (cores : ℕ) (seat : Seat (Option C) (View TreeState (Event X))) : Type 0 where
+    pub same_table : seat.table_id ≡ table
+    pub no_slots : seat.me.1 ≡ []
+    pub gathers : seat.me.0.gathers ≡ true
+    pub none_gathered : seat.me.0.lists ≡ []
+    pub all_made : seat.me.0.cores ≡ cores
+
+  -- a core that leads has such a seat
+  abbrev pub LeadsWell : TableId → ℕ → Option (Seat (Option C) (View TreeState (Event X))) → Type 0
+  LeadsWell table cores None = Unit {0}
+  LeadsWell table cores (Some seat) = IsLead table cores seat
+
+  -- The parts of a core fit: its entries are the calls that it knows as its own, its places fall, and its slots are empty.
+  pub record IsCore (seat : Seat (Option C) (View TreeState (Event X))) (number : ℕ) (entries : List Entry) (events : ℕ) (cells : List (HeldCell C)) : Type 0 where
+    pub lives : seat.me.0.gone ≡ false
+    pub calls : seat.me.0.gathers ≡ false
+    pub number_known : seat.me.0.core ≡ number
+    pub entries_are : entries ≡ calls_in seat.me.0.mine
+    pub counted : events ≡ length seat.me.0.mine
+    pub few : events ≤ MOST_ENTRIES
+    pub places : seat.me.0.held ≡ reverse (places_of cells)
+    pub falls : Falls seat.me.0.held
+    pub slots : seat.me.1 ≡ empty_slots seat.me.0.held
+    pub within : AreBelow seat.table_id.slots seat.me.0.held

@@ -1,0 +1,209 @@
+-- A table as contracts see it, and what a call asks and tells.
+use Rattle.std.specs.Prelude.{◌≡◌, ℕ, suc, ◌+◌, ◌^◌, ◌<◌, ◌≤◌, ◌==◌, true, false, List, [], ◌∷◌, ◌++◌, Option, Some, None, length, refl, Bool, nat_le, reverse, if◌then◌else◌}
+use Rattle.std.specs.List.{find}
+use Rattle.std.specs.Coded.{Coded, code_by, coded×, coded_ℕ}
+use Rattle.atomic_table.specs.Seated.{TableId, table_id_coded}
+use Rattle.atomic_table.specs.Table.{Me, rest}
+use Rattle.atomic_table.specs.declared.shared.Seat.{Seat}
+use Rattle.sfs_tree.specs.Tree.{TreeState, tree_code}
+use Rattle.sfs_tree.specs.declared.call.Call.{Call}
+use Rattle.sfs_tree.specs.declared.reply.Reply.{Reply}
+use Rattle.sfs_tree.specs.declared.history.Entry.{Entry}
+use Rattle.stamp_table.specs.declared.event.Event.{Event}
+use Rattle.stamp_table.specs.declared.event.Event.TheVariants.{Called}
+use Rattle.stamp_table.specs.declared.view.View.{View}
+use Rattle.stamp_table.specs.declared.held.HeldCell.{HeldCell}
+use Rattle.stamp_table.specs.Rule.{Has}
+use Rattle.stamp_table.specs.Steps.{tail, SawMore, Took, Drew, Adds, MayDraw, IsPast}
+use Rattle.stamp_table.specs.Events.{event_core, is_call, told_by, IsLawful, stands_for}
+use Rattle.stamp_table.specs.Hand.{Hand}
+
+-- A table: which one, the tree before the first call, and how many cores it has.
+pub record TableState : Type 0 where
+  pub table : TableId
+  pub first : TreeState
+  pub cores : ℕ
+
+-- how a table is stored
+abbrev pub table_code : Coded TableState
+table_code =
+    code_by (TableId × (TreeState × ℕ)) (coded× table_id_coded (coded× tree_code coded_ℕ)) (λ t. (t.table, (t.first, t.cores))) (λ p. record {
+      table = p.0;
+      first = p.1.0;
+      cores = p.1.1;
+    }) (λ _. refl)
+
+-- the entry of a core's call with this number: it has no acknowledgement yet
+abbrev pub entry_of : ℕ → Call → Reply → ℕ → Entry
+entry_of core call reply number = record { stamp = record { 0 = number }; core = record { 0 = core }; call = call; reply = reply; ack = None }
+
+module _ {C X : Type 0} where
+  -- a core's seat at this table
+  pub record IsSeatOf (table : TableId) (seat : Seat (Option C) (View TreeState (Event X))) : Type 0 where
+    pub same_table : seat.table_id ≡ table
+    pub lives : seat.me.0.gone ≡ false
+    pub calls : seat.me.0.gathers ≡ false
+
+  -- the seat is still the same
+  pub record IsSameSeat (before after : Seat (Option C) (View TreeState (Event X))) : Type 0 where
+    pub table : after.table_id ≡ before.table_id
+    pub number : after.id ≡ before.id
+
+-- whether the last of some cells stands from a place on; they come here the last one first
+abbrev pub begins_from : {C : Type 0} → ℕ → List (HeldCell C) → Bool
+begins_from from [] = false
+begins_from from (cell ∷ cells) = nat_le from cell.place
+
+-- what is left when the first ones go, as long as they stand from a place on
+abbrev pub drop_from : {C : Type 0} → ℕ → List (HeldCell C) → List (HeldCell C)
+drop_from from [] = []
+drop_from from (cell ∷ cells) = if nat_le from cell.place then drop_from from cells else cell ∷ cells
+
+-- what is left of a core's cells when the last ones go, as long as they stand from a place on
+abbrev pub left_below : {C : Type 0} → ℕ → List (HeldCell C) → List (HeldCell C)
+left_below from cells = reverse (drop_from from (reverse cells))
+
+-- whether a cell lies at a place
+abbrev pub is_at : {C : Type 0} → ℕ → HeldCell C → Bool
+is_at place cell = cell.place == place
+
+-- the cell that is held at a place
+abbrev pub cell_at : {C : Type 0} → ℕ → List (HeldCell C) → Option (HeldCell C)
+cell_at place cells = find (is_at place) cells
+
+-- how many cells come before the one at a place
+abbrev pub cells_before : {C : Type 0} → ℕ → List (HeldCell C) → ℕ
+cells_before place [] = 0
+cells_before place (cell ∷ cells) = if is_at place cell then 0 else suc (cells_before place cells)
+
+-- the cells with another value at a place
+abbrev pub with_value : {C : Type 0} → ℕ → C → List (HeldCell C) → List (HeldCell C)
+with_value place value [] = []
+with_value place value (cell ∷ cells) = if is_at place cell then record { place = cell.place; value = value } ∷ cells else cell ∷ with_value place value cells
+
+-- a fact holds of each cell from a place on
+abbrev pub EachFrom : {C : Type 0} → ℕ → (HeldCell C → Type 0) → List (HeldCell C) → Type 0
+EachFrom from P [] = Unit {0}
+EachFrom from P (cell ∷ cells) = (from ≤ cell.place → P cell) × EachFrom from P cells
+
+-- a fact holds of the last cell, where there is one
+abbrev pub OfLast : {C : Type 0} → (HeldCell C → Type 0) → List (HeldCell C) → Type 0
+OfLast {C} P cells = (front : List (HeldCell C)) (cell : HeldCell C) → cells ≡ front ++ cell ∷ [] → P cell
+
+module _ {C X : Type 0} where
+  -- A core has let go of its last cells.
+  pub record LetsGo (before after : Hand C X) : Type 0 where
+    pub frame : record after { view = before.view; held = before.held; room = before.room } ≡ before
+    pub view : record after.view { held = before.view.held } ≡ before.view
+    pub room : after.room + length after.held ≡ before.room + length before.held
+
+module _ {C X : Type 0} (lawful : TreeState → List (Event X) → Type 0) (stands : TreeState → List (Event X) → ℕ → C → Type 0) where
+  -- a value that stands for what the history that a core has seen leaves of the cell
+  abbrev pub Stands : View TreeState (Event X) → HeldCell C → Type 0
+  Stands view cell = stands view.first view.seen cell.place cell.value
+
+  -- the seat has taken a cell
+  abbrev pub TakesCell : ℕ → Me (Option C) (View TreeState (Event X)) → Me (Option C) (View TreeState (Event X)) → Type 0
+  TakesCell place before after = Took event_core is_call (IsLawful lawful) (stands_for stands) place before after
+
+  -- what is asked of the value with which a cell goes home: it stands for what the history that the core has seen leaves of the cell
+  pub record GoesHome (place : ℕ) (me : Me (Option C) (View TreeState (Event X))) : Type 0 where
+    pub top : (value : C) × (me.1 ≡ (place, Some value) ∷ rest me.1) × stands me.0.first me.0.seen place value
+    pub holds : Has me.0.held place
+    pub once : Has (tail me.0.held) place → ⊥
+
+  -- what is asked of a core's next entry: it is its own, the core has room, and it may come in each history that the core may meet
+  pub record MayDrawEntry (v : View TreeState (Event X)) (entry : ℕ → Entry) : Type 0 where
+    pub own : (number : ℕ) → (entry number).core.0 ≡ v.core
+    pub few : length v.mine < 2 ^ 50
+    pub may : (log : List (Event X)) → IsPast event_core is_call (IsLawful lawful) (stands_for stands) v log → MayDraw event_core is_call (IsLawful lawful) (stands_for stands) v (λ number. Called (entry number)) log
+
+  -- the seat has drawn a number for an entry
+  abbrev pub AddsEntry : (ℕ → Entry) → Me (Option C) (View TreeState (Event X)) → ℕ → Me (Option C) (View TreeState (Event X)) → Type 0
+  AddsEntry entry before number after = Adds event_core is_call (IsLawful lawful) (stands_for stands) (λ number. Called (entry number)) before number after
+
+  -- what is asked of a fact that a core tells: the core has room, and the fact may stand in each history that the core may meet
+  pub record MayTell (v : View TreeState (Event X)) (fact : X) : Type 0 where
+    pub few : length v.mine < 2 ^ 50
+    pub may : (log : List (Event X)) → IsPast event_core is_call (IsLawful lawful) (stands_for stands) v log → MayDraw event_core is_call (IsLawful lawful) (stands_for stands) v (told_by v.core fact) log
+
+  -- a step by which a core tells a fact
+  abbrev pub TellsNow : X → Me (Option C) (View TreeState (Event X)) → Me (Option C) (View TreeState (Event X)) → Type 0
+  TellsNow fact before after = (number : ℕ) × Adds event_core is_call (IsLawful lawful) (stands_for stands) (told_by before.0.core fact) before number after
+
+  -- A core has told a fact, which stands at the end of the history that it has seen.
+  pub record TellsFact (fact : X) (before after : Hand C X) : Type 0 where
+    pub frame : record after { view = before.view; spare = before.spare } ≡ before
+    pub spare : before.spare ≤ after.spare + 1
+    pub told : (log : List (Event X)) × (number : ℕ) × Drew event_core is_call (IsLawful lawful) (stands_for stands) (told_by before.view.core fact) before.view number after.view log
+
+  -- A core holds one cell more. Its value stands for the history that the core has seen now.
+  pub record HoldsMore (place : ℕ) (before after : Hand C X) : Type 0 where
+    pub frame : record after { view = before.view; held = before.held; room = before.room } ≡ before
+    pub room : after.room + 1 ≡ before.room
+    pub saw : SawMore event_core is_call (IsLawful lawful) (stands_for stands) place before.view after.view
+    pub value : (value : C) × (after.held ≡ before.held ++ record { place = place; value = value } ∷ []) × stands before.view.first after.view.seen place value
+
+  -- a core holds these cells more, one after another
+  abbrev pub HoldsAll : List ℕ → Hand C X → Hand C X → Type 0
+  HoldsAll [] before after = after ≡ before
+  HoldsAll (place ∷ places) before after = (between : Hand C X) × HoldsMore place before between × HoldsAll places between after
+
+  -- a call that may come with this reply, in each history that the core may meet
+  abbrev pub MayCall : View TreeState (Event X) → Call → Reply → Type 0
+  MayCall view call reply = (log : List (Event X)) → IsPast event_core is_call (IsLawful lawful) (stands_for stands) view log
+      → MayDraw event_core is_call (IsLawful lawful) (stands_for stands) view (λ number. Called (entry_of view.core call reply number)) log
+
+  -- A core has one entry more, which stands at the end of the history that it has seen.
+  pub record Stamps (call : Call) (reply : Reply) (before : Hand C X) (number : ℕ) (after : Hand C X) : Type 0 where
+    pub frame : record after { view = before.view; spare = before.spare } ≡ before
+    pub spare : after.spare + 1 ≡ before.spare
+    pub drew : (log : List (Event X)) × Drew event_core is_call (IsLawful lawful) (stands_for stands) (λ number. Called (entry_of before.view.core call reply number)) before.view number after.view log
+
+module _ {C X : Type 0} where
+  -- a core of a table, by its number, which holds nothing
+  pub record IsReady (table : TableId) (cores number : ℕ) (hand : Hand C X) : Type 0 where
+    pub table_is : hand.table ≡ table
+    pub cores_are : hand.cores ≡ cores
+    pub number_is : hand.view.core ≡ number
+    pub holds_none : hand.held ≡ []
+
+  -- cores from a number on
+  abbrev pub AreReadyFrom : TableId → ℕ → ℕ → List (Hand C X) → Type 0
+  AreReadyFrom table cores number [] = Unit {0}
+  AreReadyFrom table cores number (hand ∷ hands) = IsReady table cores number hand × AreReadyFrom table cores (number + 1) hands
+
+  -- whether the first core leads
+  abbrev pub first_leads : List (Hand C X) → Bool
+  first_leads [] = false
+  first_leads (hand ∷ hands) = hand.leads
+
+  -- These are all cores of a table, by their numbers; none holds a cell.
+  pub record AreAllCores (t : TableState) (hands : List (Hand C X)) : Type 0 where
+    pub count : length hands ≡ t.cores
+    pub leads : first_leads hands ≡ true
+    pub ready : AreReadyFrom t.table t.cores 0 hands
+
+  -- what a core knows as its own
+  abbrev pub mine_of : Hand C X → List (Event X)
+  mine_of hand = hand.view.mine
+
+  -- a core that has seen nothing yet and has no entries
+  pub record IsNew (first : TreeState) (hand : Hand C X) : Type 0 where
+    pub first_is : hand.view.first ≡ first
+    pub none_seen : hand.view.seen ≡ []
+    pub none_mine : hand.view.mine ≡ []
+    pub none_held : hand.view.held ≡ []
+
+  -- so are all of them
+  abbrev pub AreNew : TreeState → List (Hand C X) → Type 0
+  AreNew first [] = Unit {0}
+  AreNew first (hand ∷ hands) = IsNew first hand × AreNew first hands
+
+  -- the seat of a core that begins: it has seen nothing, and holds nothing
+  pub record IsBegun (seat : Seat (Option C) (View TreeState (Event X))) : Type 0 where
+    pub no_slots : seat.me.1 ≡ []
+    pub lives : seat.me.0.gone ≡ false
+    pub calls : seat.me.0.gathers ≡ false
+    pub none_mine : seat.me.0.mine ≡ []
+    pub none_held : seat.me.0.held ≡ []

@@ -1,0 +1,187 @@
+// A core, and the cells that it holds.
+ghost use Rattle.std.specs.Prelude.{◌≡◌, ◌<◌, ◌≤◌, ◌++◌, ◌∷◌, [], length, reverse, OnOk};
+ghost use Rattle.stamp_table.specs.declared.held.HeldCell.{HeldCell};
+ghost use Rattle.stamp_table.specs.Hand.{places_of};
+ghost use Rattle.stamp_table.specs.Ascending.{LiesAbove, AreBelow, RiseAbove};
+ghost use Rattle.stamp_table.specs.Table.{HoldsMore, HoldsAll, MayCall, MayTell, Stamps, TellsFact, LetsGo, Stands, OfLast, EachFrom, begins_from, left_below};
+
+use crate::shared::CoreSeat;
+use crate::{HeldCell, Meaning, Shared};
+use sfs_base::{CoreId, NoMemory, Stamp};
+use sfs_tree::{Call, Entry, Reply};
+use std::marker::{Brand, Model};
+use std::sync::Wait;
+
+// How many events a core has at most, so that the stamp word never comes to its end.
+const MOST_ENTRIES: u64 = 1 << 50;
+
+/// A core's place at a table. It keeps the list of the core's own entries, and the values of the cells that it holds.
+#[derive(Drop)]
+pub struct Core<C, X> {
+    pub(crate) seat: CoreSeat<C, X>,
+    pub(crate) lead: Option<CoreSeat<C, X>>,
+    pub(crate) number: CoreId,
+    pub(crate) cores: u8,
+    pub(crate) entries: Vec<Entry>,
+    // How many events the core has: its entries, and what it told.
+    pub(crate) events: u64,
+    pub(crate) held: Vec<HeldCell<C>>,
+}
+
+impl<C, X> Model for Core<C, X> {
+    ghost use Rattle.std.specs.Prelude.{◌-◌, is_some};
+    ghost use Rattle.std.specs.Vec.{vec_capacity, vec_len};
+    ghost use Rattle.stamp_table.specs.Hand.{Hand, spare_of, IsCore, LeadsWell};
+    ghost use Rattle.stamp_table.specs.Codes.{hand_code};
+    ghost use Rattle.sfs_tree.specs.contracts.history.Entry as entry;
+
+    ghost Value = { Hand C X };
+
+    ghost coded = { hand_code entry.the_row.coded C.code X.code };
+
+    ghost view = { λ c. record {
+      table = c.seat.table_id;
+      view = c.seat.me.0;
+      held = c.held.items;
+      spare = spare_of (vec_capacity c.entries) (vec_len c.entries) c.events;
+      room = vec_capacity c.held - vec_len c.held;
+      leads = is_some c.lead;
+      cores = c.cores;
+    } };
+
+    ghost invariant = { λ c. IsCore c.seat c.number.0 c.entries.items c.events c.held.items × LeadsWell c.seat.table_id c.cores c.lead };
+}
+
+impl<C: Drop, X> Core<C, X> {
+    /// The core's number.
+    pub fn number(&self) -> CoreId
+        ensures { result.0 ≡ self.now.view.core }
+    {
+        self.number
+    }
+
+    /// Makes room for so many further entries and cells. Where it is refused, the core is as before.
+    pub fn reserve(&mut self, entries: u32, cells: u32) -> Result<(), NoMemory>
+        ensures entries { OnOk result (entries ≤ self.new.spare) }
+        ensures cells { OnOk result (cells ≤ self.new.room) }
+        ensures same { record self.new { spare = self.old.spare; room = self.old.room } ≡ self.old }
+    {
+        if MOST_ENTRIES - self.events < entries as u64 {
+            return Err(NoMemory);
+        }
+        self.entries.reserve(entries as usize)?;
+        self.held.reserve(cells as usize)?;
+        Ok(())
+    }
+
+    /// Holds one cell more, which lies above all that it holds. It waits while another core has the cell.
+    pub fn hold_one<R: Wait, M: Meaning<C, X>>(
+        &mut self,
+        rt: &R,
+        shared: &Shared<C, X, M>,
+        place: usize,
+    )
+        requires table { self.old.table ≡ shared.now.table }
+        requires cell { place < shared.now.table.slots }
+        requires above { LiesAbove place self.old.view.held }
+        requires room { 0 < self.old.room }
+        ensures { HoldsMore M.lawful M.stands place self.old self.new }
+    {
+        shared.take(rt, &mut self.seat, place);
+        let value = shared.bring(&mut self.seat, place);
+        self.held.push_reserved(HeldCell { place, value });
+    }
+
+    /// Holds these cells more, places ascending, each above all that it holds. It waits while another core has one of them.
+    pub fn hold<R: Wait, M: Meaning<C, X>>(
+        &mut self,
+        rt: &R,
+        shared: &Shared<C, X, M>,
+        places: &[usize],
+    )
+        requires table { self.old.table ≡ shared.now.table }
+        requires cells { AreBelow shared.now.table.slots places.now }
+        requires above { RiseAbove self.old.view.held places.now }
+        requires room { length places.now ≤ self.old.room }
+        ensures { HoldsAll M.lawful M.stands places.now self.old self.new }
+    {
+        for place in places {
+            self.hold_one(rt, shared, *place);
+        }
+    }
+
+    /// Adds the entry of a call with this reply, and answers its stamp.
+    pub fn stamp<M: Meaning<C, X>>(
+        &mut self,
+        shared: &Shared<C, X, M>,
+        call: Call,
+        reply: Reply,
+    ) -> Stamp
+        requires table { self.old.table ≡ shared.now.table }
+        requires spare { 0 < self.old.spare }
+        requires may { MayCall M.lawful M.stands self.old.view call reply }
+        ensures { Stamps M.lawful M.stands call reply self.old result.0 self.new }
+    {
+        let core = self.number;
+        let number = shared.draw::<Brand>(&mut self.seat, core, &call, &reply);
+        self.entries.push_reserved(Entry {
+            stamp: Stamp(number),
+            core,
+            call,
+            reply,
+            ack: None,
+        });
+        self.events += 1;
+        Stamp(number)
+    }
+
+    /// Tells a fact: it stands in the history behind all that came before it. It takes no memory.
+    pub fn tell<M: Meaning<C, X>>(&mut self, shared: &Shared<C, X, M>, fact: &X)
+        requires table { self.old.table ≡ shared.now.table }
+        requires spare { 0 < self.old.spare }
+        requires may { MayTell M.lawful M.stands self.old.view fact.now }
+        ensures { TellsFact M.lawful M.stands fact.now self.old self.new }
+    {
+        shared.tell::<Brand>(&mut self.seat, fact);
+        self.events += 1;
+    }
+
+    // Whether the core holds a cell from a place on.
+    fn holds_from(&self, from: usize) -> bool
+        ensures result { result ≡ begins_from from (reverse self.now.held) }
+        ensures places { self.now.view.held ≡ reverse (places_of self.now.held) }
+    {
+        match self.held.last() {
+            Some(cell) => from <= cell.place,
+            None => false,
+        }
+    }
+
+    // Lets go of the last cell.
+    fn give_last<M: Meaning<C, X>>(&mut self, shared: &Shared<C, X, M>)
+        requires table { self.old.table ≡ shared.now.table }
+        requires some { 0 < length self.old.held }
+        requires home { OfLast (Stands M.lawful M.stands self.old.view) self.old.held }
+        ensures lets_go { LetsGo self.old self.new }
+        ensures last { (cell : HeldCell C) × (self.old.held ≡ self.new.held ++ cell ∷ []) }
+    {
+        let Some(HeldCell { place, value }) = self.held.pop() else {
+            unreachable!()
+        };
+        shared.put(&mut self.seat, place, value);
+        shared.give(&mut self.seat, place);
+    }
+
+    /// Lets go of each cell from a place on, the last one first.
+    pub fn let_go<M: Meaning<C, X>>(&mut self, shared: &Shared<C, X, M>, from: usize)
+        requires table { self.old.table ≡ shared.now.table }
+        requires home { EachFrom from (Stands M.lawful M.stands self.old.view) self.old.held }
+        ensures lets_go { LetsGo self.old self.new }
+        ensures left { self.new.held ≡ left_below from self.old.held }
+        ensures places { self.new.view.held ≡ reverse (places_of self.new.held) }
+    {
+        while self.holds_from(from) {
+            self.give_last(shared);
+        }
+    }
+}

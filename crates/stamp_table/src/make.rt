@@ -1,0 +1,125 @@
+// The beginning of a table and of its cores.
+ghost use Rattle.std.specs.Prelude.{◌≡◌, ◌<◌, ◌≤◌, ◌^◌, ℕ, [], ◌∷◌, true, false, length, map, replicate, slice_get, Some, IfOk, OnOk};
+ghost use Rattle.stamp_table.specs.Steps.{gatherer, newcomer};
+ghost use Rattle.stamp_table.specs.Hand.{IsLead};
+ghost use Rattle.stamp_table.specs.Table.{AreAllCores, AreReadyFrom, AreNew, IsReady, IsNew, IsBegun};
+
+use crate::meaning::Make;
+use crate::shared::{CoreSeat, LOCKS};
+use crate::{Core, Event, Law, Meaning, Shared, View};
+use atomic_table::{Refused, Table};
+use sfs_base::{CoreId, NoMemory};
+use sfs_tree::Tree;
+use std::alloc::Global;
+
+// How many cells a table has at most.
+const MOST_CELLS: usize = 1 << 32;
+
+impl<C: Drop, X> Core<C, X> {
+    // A core that begins. It takes no memory.
+    fn begin(alloc: Global, seat: CoreSeat<C, X>, number: CoreId, cores: u8) -> Core<C, X>
+        requires number { seat.me.0.core ≡ number.0 }
+        requires view { IsBegun seat }
+        ensures ready { IsReady seat.table_id cores seat.me.0.core result }
+        ensures view { result.view ≡ seat.me.0 }
+        ensures leads { result.leads ≡ false }
+    {
+        Core {
+            seat,
+            lead: None,
+            number,
+            cores,
+            entries: Vec::new(alloc),
+            events: 0,
+            held: Vec::new(alloc),
+        }
+    }
+
+    // Gives the core the seat that gathers.
+    fn lead_with(&mut self, lead: CoreSeat<C, X>)
+        requires { IsLead self.old.table self.old.cores lead }
+        ensures { self.new ≡ record self.old { leads = true } }
+    {
+        self.lead = Some(lead);
+    }
+}
+
+// So many words, all 0.
+fn zeros(alloc: Global, count: usize) -> Result<Vec<u64>, NoMemory>
+    ensures { IfOk result (λ words. words.items ≡ replicate count 0) }
+{
+    Ok(vec![in alloc; 0u64; count]?)
+}
+
+// The values as slots.
+fn slots_of<C: Drop>(alloc: Global, cells: Vec<C>) -> Result<Vec<Option<C>>, NoMemory>
+    ensures { IfOk result (λ slots. slots.items ≡ map Some cells.items) }
+{
+    let mut slots = Vec::with_capacity(alloc, cells.len())?;
+    for cell in cells {
+        slots.push_reserved(Some(cell));
+    }
+    Ok(slots)
+}
+
+impl<C: Drop, X, M: Meaning<C, X>> Shared<C, X, M> {
+    // The cores of a table, by their numbers.
+    fn cores_of(
+        alloc: Global,
+        table: &Table<Option<C>, View<Tree, Event<X>>, Tree, Law<M>, Global>,
+        lead: &mut CoreSeat<C, X>,
+        cores: u8,
+    ) -> Result<Vec<Core<C, X>>, NoMemory>
+        requires words { 0 < table.now.shared.table_id.words }
+        requires lead { (lead.old.table_id ≡ table.now.shared.table_id) × (lead.old.me ≡ (gatherer table.now.shared.key, [])) }
+        ensures count { IfOk result (λ hands. length hands.items ≡ cores) }
+        ensures ready { IfOk result (λ hands. AreReadyFrom table.now.shared.table_id cores 0 hands.items) }
+        ensures new { IfOk result (λ hands. AreNew table.now.shared.key hands.items) }
+        ensures lead { OnOk result (IsLead table.now.shared.table_id cores lead.new) }
+    {
+        let mut hands = Vec::with_capacity(alloc, cores as usize)?;
+        for number in 0..cores {
+            let seat = table.shared.split_seat::<Make>(lead);
+            hands.push_reserved(Core::begin(alloc, seat, CoreId(number), cores));
+        }
+        Ok(hands)
+    }
+
+    /// A table over a tree with these values as its cells, each at its place, and its cores, ascending by number. Each value stands
+    /// for what no call leaves of its cell.
+    pub fn make(
+        alloc: Global,
+        first: &Tree,
+        cells: Vec<C>,
+        cores: u8,
+    ) -> Result<(Shared<C, X, M>, Vec<Core<C, X>>), NoMemory>
+        requires cores { (0 < cores) × (cores ≡ length first.now.made) }
+        requires cells { (place : ℕ) (value : C) → slice_get cells.items place ≡ Some value → M.stands first.now [] place value }
+        requires lawful { M.lawful first.now [] }
+        ensures first { IfOk result (λ made. made.0.first ≡ first.now) }
+        ensures slots { IfOk result (λ made. made.0.table.slots ≡ length cells.items) }
+        ensures cores { IfOk result (λ made. AreAllCores made.0 made.1.items) }
+        ensures new { IfOk result (λ made. AreNew first.now made.1.items) }
+    {
+        let count = cells.len();
+        if count > MOST_CELLS {
+            return Err(NoMemory);
+        }
+        let words = zeros(alloc, LOCKS + count)?;
+        let parts = Vec::with_capacity(alloc, cores as usize)?;
+        let slots = slots_of(alloc, cells)?;
+        let (table, mut lead) = match Table::new(alloc, words.as_slice(), slots, first) {
+            Ok(made) => made,
+            Err(_) => return Err(NoMemory),
+        };
+        let mut hands = Self::cores_of(alloc, &table, &mut lead, cores)?;
+        hands[0].lead_with(lead);
+        let shared = Shared {
+            table,
+            cells: count,
+            cores,
+            parts,
+        };
+        Ok((shared, hands))
+    }
+}

@@ -1,0 +1,198 @@
+// The table, and the steps on its words.
+ghost use Rattle.std.specs.Prelude.{◌≡◌, ◌<◌, ◌+◌, ◌∷◌, Some, None, MatchBool};
+ghost use Rattle.atomic_table.specs.Table.{rest};
+ghost use Rattle.stamp_table.specs.Rule.{lock_word};
+ghost use Rattle.stamp_table.specs.Steps.{Gave};
+ghost use Rattle.stamp_table.specs.Table.{IsSeatOf, IsSameSeat, TakesCell, GoesHome, MayDrawEntry, AddsEntry, MayTell, TellsNow, entry_of};
+
+use crate::meaning::{Draw, Drawing, Give, Take, Tell, Telling};
+use crate::{Event, Law, Meaning, View};
+use atomic_table::{Seat, Table};
+use sfs_base::CoreId;
+use sfs_tree::{Call, Entry, Reply, Tree};
+use std::alloc::Global;
+use std::hint;
+use std::marker::Model;
+use std::sync::Wait;
+
+// The first lock word. The stamp word before it has a line of memory to itself.
+pub(crate) const LOCKS: usize = 16;
+
+// The stamp word.
+pub(crate) const STAMP: usize = 0;
+
+// How often a core looks again at a lock word before it parks.
+const SPINS: usize = 1000;
+
+/// What a core steps with.
+pub(crate) type CoreSeat<C, X> = Seat<Option<C>, View<Tree, Event<X>>>;
+
+/// The table that cores share: cells, each held by one core at a time or at home, and the word from which stamps are drawn.
+#[derive(Drop)]
+pub struct Shared<C, X, M: Meaning<C, X>> {
+    pub(crate) table: Table<Option<C>, View<Tree, Event<X>>, Tree, Law<M>, Global>,
+    pub(crate) cells: usize,
+    pub(crate) cores: u8,
+    // Room for the cores' lists at the end.
+    pub(crate) parts: Vec<Vec<Entry>>,
+}
+
+impl<C, X, M: Meaning<C, X>> Model for Shared<C, X, M> {
+    ghost use Rattle.std.specs.Prelude.{◌≡◌, ◌+◌, ◌<◌, [], ◌≤◌, ◌^◌, length};
+    ghost use Rattle.std.specs.Vec.{vec_capacity};
+    ghost use Rattle.stamp_table.specs.Table.{TableState, table_code};
+
+    ghost Value = { TableState };
+
+    ghost coded = { table_code };
+
+    ghost view = { λ t. record { table = t.table.shared.table_id; first = t.table.shared.key; cores = t.cores } };
+
+    ghost invariant = { λ t. (t.table.shared.table_id.words ≡ 16 + t.cells) × (t.table.shared.table_id.slots ≡ t.cells)
+        × (16 + t.cells < 2 ^ 63) × (t.parts.items ≡ []) × (t.cores ≤ vec_capacity t.parts) × (t.cores ≡ length t.table.shared.key.made) };
+}
+
+impl<C: Drop, X, M: Meaning<C, X>> Shared<C, X, M> {
+    // The lock word of a cell.
+    fn lock_of(&self, place: usize) -> usize
+        requires { place < self.now.table.slots }
+        ensures { result ≡ lock_word place }
+    {
+        let _last = LOCKS + self.cells;
+        LOCKS + place
+    }
+
+    // Takes a cell where its lock word is 0.
+    fn try_take(&self, seat: &mut CoreSeat<C, X>, place: usize) -> bool
+        requires seat { IsSeatOf self.now.table seat.old }
+        requires cell { place < self.now.table.slots }
+        ensures same { IsSameSeat seat.old seat.new }
+        ensures takes { MatchBool result (TakesCell M.lawful M.stands place seat.old.me seat.new.me) (seat.new.me ≡ seat.old.me) }
+    {
+        let lock = self.lock_of(place);
+        self.table
+            .shared
+            .compare_exchange::<Take<M>>(seat, lock, 0, 1)
+            == 0
+    }
+
+    // The same, and where it is not taken it has to be told when it is free.
+    fn take_or_wait(&self, seat: &mut CoreSeat<C, X>, place: usize) -> bool
+        requires seat { IsSeatOf self.now.table seat.old }
+        requires cell { place < self.now.table.slots }
+        ensures same { IsSameSeat seat.old seat.new }
+        ensures takes { MatchBool result (TakesCell M.lawful M.stands place seat.old.me seat.new.me) (seat.new.me ≡ seat.old.me) }
+    {
+        let lock = self.lock_of(place);
+        self.table.shared.swap::<Take<M>>(seat, lock, 2) == 0
+    }
+
+    // Looks at the lock word for a while, and takes the cell once it is 0.
+    fn spin_for(&self, seat: &mut CoreSeat<C, X>, place: usize) -> bool
+        requires seat { IsSeatOf self.now.table seat.old }
+        requires cell { place < self.now.table.slots }
+        ensures same { IsSameSeat seat.old seat.new }
+        ensures takes { MatchBool result (TakesCell M.lawful M.stands place seat.old.me seat.new.me) (seat.new.me ≡ seat.old.me) }
+    {
+        let lock = self.lock_of(place);
+        for _ in 0..SPINS {
+            if self.table.shared.peek(lock) == 0 && self.try_take(seat, place) {
+                return true;
+            }
+            hint::spin_loop();
+        }
+        false
+    }
+
+    // Takes a cell, and waits for it where another core has it. A core that finds it free changes one word once.
+    pub(crate) fn take<R: Wait>(&self, rt: &R, seat: &mut CoreSeat<C, X>, place: usize)
+        requires seat { IsSeatOf self.now.table seat.old }
+        requires cell { place < self.now.table.slots }
+        ensures same { IsSameSeat seat.old seat.new }
+        ensures takes { TakesCell M.lawful M.stands place seat.old.me seat.new.me }
+    {
+        if self.try_take(seat, place) || self.spin_for(seat, place) {
+            return;
+        }
+        let lock = self.lock_of(place);
+        for _ in rt.forever() {
+            if self.take_or_wait(seat, place) {
+                return;
+            }
+            self.table.shared.park(rt, lock, 2);
+        }
+        unreachable!()
+    }
+
+    // Gives back the cell that was taken last, and wakes a core that waits for it. The value is home before the word is 0.
+    pub(crate) fn give(&self, seat: &mut CoreSeat<C, X>, place: usize)
+        requires seat { IsSeatOf self.now.table seat.old }
+        requires cell { place < self.now.table.slots }
+        requires home { GoesHome M.lawful M.stands place seat.old.me }
+        ensures same { IsSameSeat seat.old seat.new }
+        ensures gave { Gave seat.old.me seat.new.me }
+    {
+        let lock = self.lock_of(place);
+        if self.table.shared.swap::<Give>(seat, lock, 0) == 2 {
+            self.table.shared.wake_one(lock);
+        }
+    }
+
+    // Brings out the value of the cell that was taken last.
+    pub(crate) fn bring(&self, seat: &mut CoreSeat<C, X>, place: usize) -> C
+        requires seat { seat.old.table_id ≡ self.now.table }
+        requires top { (value : C) × (seat.old.me.1 ≡ (place, Some value) ∷ rest seat.old.me.1) }
+        ensures same { IsSameSeat seat.old seat.new }
+        ensures value { seat.old.me.1 ≡ (place, Some result) ∷ rest seat.old.me.1 }
+        ensures empty { seat.new.me ≡ (seat.old.me.0, (place, None) ∷ rest seat.old.me.1) }
+    {
+        let Some(value) = self.table.shared.exchange(seat, place, None) else {
+            unreachable!()
+        };
+        value
+    }
+
+    // Puts a value into the slot of the cell that was taken last.
+    pub(crate) fn put(&self, seat: &mut CoreSeat<C, X>, place: usize, value: C)
+        requires seat { seat.old.table_id ≡ self.now.table }
+        requires top { seat.old.me.1 ≡ (place, None) ∷ rest seat.old.me.1 }
+        ensures same { IsSameSeat seat.old seat.new }
+        ensures full { seat.new.me ≡ (seat.old.me.0, (place, Some value) ∷ rest seat.old.me.1) }
+    {
+        let None = self.table.shared.exchange(seat, place, Some(value)) else {
+            unreachable!()
+        };
+    }
+
+    // Draws a number for the entry of a core's call.
+    pub(crate) fn draw<J: Drawing>(
+        &self,
+        seat: &mut CoreSeat<C, X>,
+        core: CoreId,
+        call: &Call,
+        reply: &Reply,
+    ) -> u64
+        requires seat { IsSeatOf self.now.table seat.old }
+        requires picked { J.entry ≡ entry_of core.0 call.now reply.now }
+        requires entry { MayDrawEntry M.lawful M.stands seat.old.me.0 J.entry }
+        ensures same { IsSameSeat seat.old seat.new }
+        ensures adds { AddsEntry M.lawful M.stands (entry_of core.0 call.now reply.now) seat.old.me result seat.new.me }
+    {
+        let _core = core;
+        let _call = call;
+        let _reply = reply;
+        self.table.shared.fetch_add::<Draw<M, J>>(seat, STAMP, 1)
+    }
+
+    // Tells a fact.
+    pub(crate) fn tell<J: Telling<X>>(&self, seat: &mut CoreSeat<C, X>, fact: &X)
+        requires seat { IsSeatOf self.now.table seat.old }
+        requires picked { J.fact ≡ Some fact.now }
+        requires may { MayTell M.lawful M.stands seat.old.me.0 fact.now }
+        ensures same { IsSameSeat seat.old seat.new }
+        ensures adds { TellsNow M.lawful M.stands fact.now seat.old.me seat.new.me }
+    {
+        let _fact = fact;
+        self.table.shared.load::<Tell<M, J>>(seat, STAMP);
+    }
+}
