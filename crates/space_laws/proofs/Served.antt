@@ -77,12 +77,16 @@ module _ (first : TreeState) (history : List Entry) (flushes : List Flush) (cut 
     | inl (node, has) ↦
         let one = entry_of node i has in
         let shows = kept_parts_show store (parts i) (ready.sound.gathered i inside) in
-        let held : IsLeftByGone entries block = record { entry = one.entry; one = one.among; held = record {
-          some = λ none. omega (arith, lies, behind, none);
-          place = place;
-          within = low;
-          stands = ap (λ k. pointer_kept k.inode k.tables place) one.kept ∙ shows.pointers place low ∙ is;
-        } } in
+        let held : IsLeftByGone entries block = record {
+          entry = one.entry;
+          one = one.among;
+          held = record {
+            some = λ none. omega (arith, lies, behind, none);
+            place = place;
+            within = low;
+            stands = ap (λ k. pointer_kept k.inode k.tables place) one.kept ∙ shows.pointers place low ∙ is;
+          };
+        } in
         let never : Free ≡ Taken = mapped.blocks.held_is_taken block Free free held in cc
     | inr unused ↦ let none = sym is ∙ unused.blocks place low in omega (arith, lies, behind, none)
   ]
