@@ -24,7 +24,7 @@ use Rattle.flush_core.specs.Cut.{Cut}
 use Rattle.flush_core.specs.Machine.{MachineState}
 use Rattle.flush_core.proofs.CutNodes.{cuts_keep_kinds}
 use Rattle.commit_turns.specs.LawsNeed.{NodesAreCounted, AreOnce, ListsNodes, BlocksAreListed, InodesAreListed, IsHeldBy, HeldAreFound}
-use Rattle.commit_turns.specs.Need.{ImageState, is_unused, holds_in_row, is_held, Made, rewrite_needed, node_bound, gets_inode, needs_in_row, need_of}
+use Rattle.commit_turns.specs.Need.{ImageState, is_unused, holds_in_row, is_held, Made, rewrite_needed, node_bound, enters_by_made, needs_in_row, need_of}
 
 none_counted : (test : ℕ → Bool) → rank test 0 ≡ 0
 unfolding rank
@@ -194,7 +194,7 @@ rank_listed test numbers same (suc n) =
 
 pub inodes_are_listed : InodesAreListed
 inodes_are_listed state image made entering lists =
-    rank_listed (gets_inode state made) entering lists.each (node_bound state.first)
+    rank_listed (enters_by_made state made) entering lists.each (node_bound state.first)
     ∙ sum_once (λ x. 1) (node_bound state.first) entering lists.once (λ x listed. lists.below x (sym (lists.each x) ∙ listed))
     ∙ count_listed entering
 

@@ -35,7 +35,7 @@ use Rattle.flush_core.proofs.Recount.{recounts}
 use Rattle.flush_core.proofs.RunFacts.{cuts_stay_low}
 use Rattle.flush_core.proofs.Views.{below, IsHeld, AreAlike}
 use Rattle.flush_core.proofs.WholeHistory.{none_above, cut_trees_grow}
-use Rattle.commit_turns.specs.Need.{ImageState, Made, IsMadeBy, tree_before, tree_made, seen_under, stand_in, rewrite_needed, node_bound, gets_inode, needs_place, needs_in_row, need_of}
+use Rattle.commit_turns.specs.Need.{ImageState, Made, IsMadeBy, tree_before, tree_made, seen_under, stand_in, rewrite_needed, node_bound, enters_by_made, needs_place, needs_in_row, need_of}
 use Rattle.commit_turns.specs.Books.{commit_made, GivesGranted, IsRewritten, Leaves}
 use Rattle.commit_turns.specs.OneThread.{Resting, machine_at}
 use Rattle.commit_turns.specs.Touched.{is_touched_between}
@@ -141,7 +141,7 @@ module _ (first : TreeState) (history more : List Entry) (flushes : List Flush) 
     -- and needs the same
     pub need_longer : (image : ImageState) → need_of (machine_at first whole rest) image made ≡ need_of (machine_at first history rest) image made
     need_longer image = λ i. record {
-      inodes = rank (gets_inode (machine_at first history rest) made) (node_bound first);
+      inodes = rank (enters_by_made (machine_at first history rest) made) (node_bound first);
       blocks = rank (λ p. takes_longer image p i) (PLACES * node_bound first);
     }
 

@@ -23,8 +23,8 @@ use Rattle.flush_core.proofs.Entries.{calls_are_a_run}
 use Rattle.flush_core.proofs.LongerRuns.{runs_lengthen}
 use Rattle.flush_core.proofs.RaiseLists.{raised_once}
 use Rattle.commit_turns.specs.Need.{ImageState}
-use Rattle.commit_turns.specs.Books.{Books, books_of, flush_at, Settles, Does, IsTurn, AreTurns, no_turns, one_turn}
-use Rattle.commit_turns.specs.LawsTurns.{durable_by_act, durable_flush, TurnsAreFlushed, event_by, event_of, events_of, IsRunTo, TurnsAreARun}
+use Rattle.commit_turns.specs.Books.{Books, books_of, flush_at, SettlesCommit, Does, IsTurn, AreTurns, no_turns, one_turn}
+use Rattle.commit_turns.specs.LawsTurns.{durable_by_act, durable_flush, TurnsAreFlushed, event_by, event_of_turn, events_of, IsRunTo, TurnsAreARun}
 
 -- what some function finds in a list with one more
 found_last : {X Y : Type 0} (f : X → Option Y) (xs : List X) (x : X) → filter_map f (xs ++ x ∷ []) ≡ filter_map f xs ++ cons_option (f x) []
@@ -42,7 +42,7 @@ module _ (first : TreeState) (history : List Entry) (flushes : List Flush) (turn
   stays : (m : MachineState) → later.machine ≡ m → IsFlushed first history flushes m → IsFlushed first history (flushes ++ []) later.machine
   stays m same is = subst (λ (l : List Flush). IsFlushed first history l later.machine) (sym (append-nil flushes)) (subst (IsFlushed first history flushes) (sym same) is)
 
-  settled : Settles books turn later → IsFlushed first history (flushes ++ flush_at turn ∷ []) later.machine
+  settled : SettlesCommit books turn later → IsFlushed first history (flushes ++ flush_at turn ∷ []) later.machine
   settled does =
       let moves = does.taken.moves in
       let own : moves.0.flush ≡ flush_at turn = ap (λ (f : Flight). f.flush) (some_same (sym moves.2 ∙ does.flies.flies)) ∙ does.flies.own in
@@ -120,8 +120,8 @@ module _ (first : TreeState) (history : List Entry) (image : ImageState) (before
     last_is = rw (append-nil (map event.Call history)) (ap (λ (h : List Entry). record (start_of first) { history = h }) (ap (λ n. take n history) (length-map history event.Call) ∙ take-length history));
   }
   all_run (one_turn turns turn books later earlier is) =
-      subst (λ (l : List Event). IsRunTo first l later.machine) (append_assoc (map event.Call history) (filter_map event_of turns) _ ∙ ap (λ (l : List Event). map event.Call history ++ l) (sym (found_last event_of turns turn)))
-      (run_on first (events_of history turns) books.machine later.machine (event_of turn) (goes_on turn books later turn.act is.does) (all_run earlier))
+      subst (λ (l : List Event). IsRunTo first l later.machine) (append_assoc (map event.Call history) (filter_map event_of_turn turns) _ ∙ ap (λ (l : List Event). map event.Call history ++ l) (sym (found_last event_of_turn turns turn)))
+      (run_on first (events_of history turns) books.machine later.machine (event_of_turn turn) (goes_on turn books later turn.act is.does) (all_run earlier))
 
 pub turns_are_a_run : TurnsAreARun
 turns_are_a_run first history image before most turns books legal are = all_run first history image before most legal are

@@ -17,7 +17,7 @@ use Rattle.flush_core.specs.Closure.{every_entry, Flush, Closure, HasNaming, IsN
 use Rattle.flush_core.specs.Cut.{Cut, cut_of, with_own, counted_rows_at_cut, tree_at_cut}
 use Rattle.flush_core.specs.Machine.{MachineState}
 use Rattle.commit_turns.specs.LawsNeed.{NeedsOnce}
-use Rattle.commit_turns.specs.Need.{ImageState, Amount, Made, IsMadeBy, tree_before, tree_made, seen_under, stand_in, rewrite_needed, node_bound, gets_inode, needs_place, need_of, IsNeed}
+use Rattle.commit_turns.specs.Need.{ImageState, Amount, Made, IsMadeBy, tree_before, tree_made, seen_under, stand_in, rewrite_needed, node_bound, enters_by_made, needs_place, need_of, IsNeed}
 use Rattle.commit_turns.specs.Touched.{is_touched_between}
 
 -- answers that are true together are the same

@@ -17,7 +17,7 @@ use Rattle.flush_core.specs.Machine.{Flight, BeginsFlight}
 use Rattle.flush_core.specs.LawsRuns.{MayCommit}
 use Rattle.flush_core.specs.Rules.{IsOneOf}
 use Rattle.commit_turns.specs.Need.{ImageState, Amount, nothing, Made, IsMadeBy, need_of}
-use Rattle.commit_turns.specs.Books.{Books, books_of, free_in, least_open, FitsFree, IsShort, Leaves, AreTurns, no_turns, one_turn}
+use Rattle.commit_turns.specs.Books.{Books, books_of, free_in, least_open, FitsFree, IsShortOf, Leaves, AreTurns, no_turns, one_turn}
 use Rattle.commit_turns.specs.LawsOneThread.{TakesNoTurn, TurnsBegin, CallsStand, then_turn, with_begun, CommitsStand, EmptyCommitsStand, ShortsStand, GivenBackStand}
 use Rattle.commit_turns.specs.LawsTurns.{durable_flush}
 use Rattle.commit_turns.specs.OneThread.{Resting, machine_at, books_at, resting_first, TurnsStand, ComesNext, IsNextFsync, fsync_of, turn_of, MayBegin, need_at, granted_at, resting_after}

@@ -23,7 +23,7 @@ use Rattle.flush_core.specs.Machine.{Flight, MachineState, is_flying, flight_of,
 use Rattle.flush_core.specs.Rules.{IsOneOf}
 use Rattle.flush_core.proofs.LongerRuns.{commits_are_accepted}
 use Rattle.commit_turns.specs.Need.{ImageState, Amount, nothing, Made, IsMadeBy, need_of, IsNeed}
-use Rattle.commit_turns.specs.Books.{Grant, Waiting, Books, free_in, least_open, FitsFree, IsShort, is_other_grant, is_other_waiting, inodes_for, Leaves, IsTurn}
+use Rattle.commit_turns.specs.Books.{Grant, Waiting, Books, free_in, least_open, FitsFree, IsShortOf, is_other_grant, is_other_waiting, inodes_for, Leaves, IsTurn}
 use Rattle.sfs_base.specs.Ends.{HasRisen}
 use Rattle.commit_turns.specs.OneThread.{Resting, machine_at, books_at, turn_of, fsync_of, resting_after}
 
@@ -52,7 +52,7 @@ module _ (first : TreeState) (history : List Entry) (rest : Resting) (entry : En
   none_waits : [] ≡ filter (is_other_waiting entry.stamp.0) (waits ∷ [])
   none_waits = sym (ap (λ b. cond (not b) (waits ∷ []) []) (same_number entry.stamp.0))
 
-  pub short : (number moment : ℕ) (made : Made) (kind : SpaceKind) (asked have : ℕ) → IsMadeBy state flush made → IsShort (need_of state rest.image made) (free_in resting) kind asked have
+  pub short : (number moment : ℕ) (made : Made) (kind : SpaceKind) (asked have : ℕ) → IsMadeBy state flush made → IsShortOf (need_of state rest.image made) (free_in resting) kind asked have
       → IsTurn before most resting (turn_of entry node number moment before (act.Short kind asked have)) resting
   short number moment made kind asked have is fits = record {
     own = λ other one same. absurd one;

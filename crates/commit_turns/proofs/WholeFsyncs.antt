@@ -12,7 +12,7 @@ use Rattle.sfs_tree.specs.Tree.{TreeState}
 use Rattle.flush_core.specs.LawsRuns.{with_flight}
 use Rattle.flush_core.specs.Machine.{Flight}
 use Rattle.commit_turns.specs.Need.{ImageState, Amount, nothing, Made, IsMadeBy}
-use Rattle.commit_turns.specs.Books.{Grant, Books, books_of, free_in, least_open, FitsFree, IsShort, is_other_grant, inodes_for, Leaves, AreTurns, one_turn}
+use Rattle.commit_turns.specs.Books.{Grant, Books, books_of, free_in, least_open, FitsFree, IsShortOf, is_other_grant, inodes_for, Leaves, AreTurns, one_turn}
 use Rattle.sfs_base.specs.Ends.{HasRisen}
 use Rattle.commit_turns.specs.LawsOneThread.{then_turn, with_begun, CommitsStand, EmptyCommitsStand, ShortsStand, GivenBackStand, DoubtsFail, OpenedDoubtsFail}
 use Rattle.commit_turns.specs.OneThread.{Resting, machine_at, books_at, TurnsStand, TurnsFailed, over, IsNextFsync, fsync_of, turn_of, MayBegin, need_at, granted_at, resting_after}
@@ -84,14 +84,14 @@ module _ (first : TreeState) (history : List Entry) (image : ImageState) (before
     needs_on : (more : List Entry) → IsLegal first (longer more) → need_at first (longer more) rest made ≡ need_at first history rest made
     needs_on = need_on first history image before turns rest entry node is stand made makes
 
-    short_stands : (number moment : ℕ) (kind : _) (asked have : ℕ) → IsShort (need_at first history rest made) (free_in (books_at first history rest)) kind asked have
+    short_stands : (number moment : ℕ) (kind : _) (asked have : ℕ) → IsShortOf (need_at first history rest made) (free_in (books_at first history rest)) kind asked have
         → EndsBy None (Some (turn_of entry node number moment before (act.Short kind asked have))) entry.reply entry.ack
         → TurnsStand first (history ++ entry ∷ []) image before (then_turn turns (turn_of entry node number moment before (act.Short kind asked have))) rest
     short_stands number moment kind asked have lacks ends =
         stand_on _ (turn_of entry node number moment before (act.Short kind asked have)) rest (more_added turns None none_added number moment before (act.Short kind asked have))
         (λ more most legal. one_turn turns _ _ _ (so_far more most legal)
         (steps.short first (longer more) rest entry node before most number moment made kind asked have (makes_on more legal)
-        (subst (λ (need : Amount). IsShort need (free_in (books_at first history rest)) kind asked have) (sym (needs_on more legal)) lacks)))
+        (subst (λ (need : Amount). IsShortOf need (free_in (books_at first history rest)) kind asked have) (sym (needs_on more legal)) lacks)))
         ends
 
     module _ (fits : FitsFree (need_at first history rest made) (free_in (books_at first history rest))) where

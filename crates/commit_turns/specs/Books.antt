@@ -20,7 +20,7 @@ use Rattle.flush_core.specs.declared.event.Event.TheVariants as event
 use Rattle.flush_core.specs.Closure.{Flush}
 use Rattle.flush_core.specs.Machine.{Flight, MachineState, start_of, flight_of, Accepts}
 use Rattle.flush_core.specs.Rules.{IsOneOf}
-use Rattle.commit_turns.specs.Need.{ImageState, Amount, nothing, is_unused, free_inodes, free_blocks, Made, IsMadeBy, tree_before, tree_made, rewrite_needed, gets_inode, IsNeed}
+use Rattle.commit_turns.specs.Need.{ImageState, Amount, nothing, is_unused, free_inodes, free_blocks, Made, IsMadeBy, tree_before, tree_made, rewrite_needed, enters_by_made, IsNeed}
 
 -- What is reserved for an fsync, which is known by its stamp: how much, and which inodes.
 pub record Grant : Type 0 where
@@ -91,7 +91,7 @@ IsTooFew need free Inodes = free.inodes < need.inodes
 IsTooFew need free Blocks = (need.inodes ≤ free.inodes) × (free.blocks < need.blocks)
 
 -- A need does not fit what is free: there is too little of this kind, and both numbers are told.
-pub record IsShort (need free : Amount) (kind : SpaceKind) (asked have : ℕ) : Type 0 where
+pub record IsShortOf (need free : Amount) (kind : SpaceKind) (asked have : ℕ) : Type 0 where
   pub too_few : IsTooFew need free kind
   pub asked_is : asked ≡ amount_of need kind
   pub have_is : have ≡ amount_of free kind
@@ -133,11 +133,11 @@ pub record Reserves (books : Books) (turn : Turn) (later : Books) : Type 0 where
 pub record LacksRoom (kind : SpaceKind) (asked have : ℕ) (books : Books) (turn : Turn) (later : Books) : Type 0 where
   pub need : Amount
   pub needs : IsNeed books.machine books.image (flush_at turn) need
-  pub short : IsShort need (free_in books) kind asked have
+  pub short : IsShortOf need (free_in books) kind asked have
   pub later_is : later ≡ books
 
 -- A turn begins a commit: that of an fsync that waits, or of one that needs nothing.
-pub record Begins (books : Books) (turn : Turn) (later : Books) : Type 0 where
+pub record BeginsCommit (books : Books) (turn : Turn) (later : Books) : Type 0 where
   pub may : IsOneOf books.waiting (waiting_for turn) ⊎ IsNeed books.machine books.image (flush_at turn) nothing
   pub machine : MachineState
   pub taken : Accepts books.machine (event.CutAt turn.commit turn.node turn.stamp) machine
@@ -150,7 +150,7 @@ pub record FliesFor (machine : MachineState) (turn : Turn) : Type 0 where
   pub own : flight.flush ≡ flush_at turn
 
 -- A turn opens a commit.
-pub record Opens (books : Books) (turn : Turn) (later : Books) : Type 0 where
+pub record OpensCommit (books : Books) (turn : Turn) (later : Books) : Type 0 where
   pub flies : FliesFor books.machine turn
   pub machine : MachineState
   pub taken : Accepts books.machine (event.Opened turn.commit) machine
@@ -171,7 +171,7 @@ commit_made made old new takes fresh = record {
 pub record GivesGranted (state : MachineState) (made : Made) (granted : List ℕ) (old new : ImageState) : Type 0 where
   pub entering : List ℕ
   pub ascending : IsStrictlyIncreasing entering
-  pub each : (node : ℕ) → is_listed entering node ≡ gets_inode state made node
+  pub each : (node : ℕ) → is_listed entering node ≡ enters_by_made state made node
   pub enough : length granted ≡ length entering
   pub numbers : (node : ℕ) → new.num node ≡ numbers_after old.num (λ other. not (made.after other)) entering granted node
 
@@ -193,7 +193,7 @@ pub record Leaves (state : MachineState) (made : Made) (granted : List ℕ) (old
   pub end_block : new.end_block ≡ old.end_block
 
 -- A turn makes a commit durable: its fsync raises the cut, the image is what it leaves, and nothing is reserved for it any more.
-pub record Settles (books : Books) (turn : Turn) (later : Books) : Type 0 where
+pub record SettlesCommit (books : Books) (turn : Turn) (later : Books) : Type 0 where
   pub flies : FliesFor books.machine turn
   pub machine : MachineState
   pub taken : Accepts books.machine (event.Durable turn.commit) machine
@@ -204,7 +204,7 @@ pub record Settles (books : Books) (turn : Turn) (later : Books) : Type 0 where
   pub later_is : later ≡ without_grant turn.stamp.0 (record books { machine = machine; image = image })
 
 -- A turn fails: its commit is left in doubt.
-pub record Fails (books : Books) (turn : Turn) (later : Books) : Type 0 where
+pub record FailsCommit (books : Books) (turn : Turn) (later : Books) : Type 0 where
   pub flies : FliesFor books.machine turn
   pub machine : MachineState
   pub taken : Accepts books.machine (event.Fail turn.commit) machine
@@ -221,10 +221,10 @@ Does act.Granted books turn later = Reserves books turn later
 Does act.GivenBack books turn later = GivesBack books turn later
 Does (act.Short kind asked have) books turn later = LacksRoom kind asked have books turn later
 Does act.Halted books turn later = later ≡ without_waiting turn.stamp.0 books
-Does act.CutAt books turn later = Begins books turn later
-Does act.Opened books turn later = Opens books turn later
-Does act.Durable books turn later = Settles books turn later
-Does act.Fail books turn later = Fails books turn later
+Does act.CutAt books turn later = BeginsCommit books turn later
+Does act.Opened books turn later = OpensCommit books turn later
+Does act.Durable books turn later = SettlesCommit books turn later
+Does act.Fail books turn later = FailsCommit books turn later
 
 -- What a turn's count of faults is: until a commit has failed that before the first failure, and of the failure one that has risen, to at
 -- most another; and once a commit has failed, only turns that halt or give back come, and no others halt.

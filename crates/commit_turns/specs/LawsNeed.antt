@@ -14,7 +14,7 @@ use Rattle.image_tree.specs.Need.{directory_rewrite, blocks_needed}
 use Rattle.image_tree.specs.Stands.{StandsForTree}
 use Rattle.flush_core.specs.Closure.{Flush}
 use Rattle.flush_core.specs.Machine.{MachineState}
-use Rattle.commit_turns.specs.Need.{ImageState, Amount, is_unused, is_held, Made, stand_in, rewrite_needed, node_bound, gets_inode, need_of, IsNeed}
+use Rattle.commit_turns.specs.Need.{ImageState, Amount, is_unused, is_held, Made, stand_in, rewrite_needed, node_bound, enters_by_made, need_of, IsNeed}
 
 -- A commit's numbers go on from an image that stands for the old tree to a tree that may follow it.
 pub record NumbersGoOn (commit : Commit) (old new : TreeState) (image : SeenInodes) : Type 0 where
@@ -55,7 +55,7 @@ BlocksAreListed = (state : MachineState) (image : ImageState) (made : Made) (nod
 
 -- And as many inodes as nodes are listed that get one.
 abbrev pub InodesAreListed : Type 0
-InodesAreListed = (state : MachineState) (image : ImageState) (made : Made) (entering : List ℕ) → ListsNodes state.first (gets_inode state made) entering
+InodesAreListed = (state : MachineState) (image : ImageState) (made : Made) (entering : List ℕ) → ListsNodes state.first (enters_by_made state made) entering
     → (need_of state image made).inodes ≡ length entering
 
 -- An inode that is in use has a block at a place.

@@ -11,7 +11,7 @@ use Rattle.sfs_tree.specs.History.{tree_after}
 use Rattle.sfs_tree.specs.Laws.{IsSoundTree}
 use Rattle.sfs_tree.specs.Tree.{TreeState, is_alive}
 use Rattle.commit_turns.specs.Need.{ImageState, nothing, Made, IsMadeBy}
-use Rattle.commit_turns.specs.Books.{free_in, FitsFree, IsShort, Leaves}
+use Rattle.commit_turns.specs.Books.{free_in, FitsFree, IsShortOf, Leaves}
 use Rattle.sfs_base.specs.Ends.{HasRisen}
 use Rattle.commit_turns.specs.OneThread.{Resting, machine_at, books_at, resting_first, TurnsStand, TurnsFailed, ComesNext, IsNextFsync, fsync_of, turn_of, MayBegin, need_at, granted_at, resting_after}
 use Rattle.commit_turns.specs.Recorded.{IsRecorded}
@@ -71,7 +71,7 @@ abbrev pub ShortsStand : Type 0
 ShortsStand = (first : TreeState) (history : List Entry) (image : ImageState) (before : ℕ) (turns : List Turn) (rest : Resting) (entry : Entry) (node : NodeId)
     (number moment : ℕ) (made : Made) (kind : SpaceKind) (asked have : ℕ)
     → IsNextFsync first history entry node → IsMadeBy (machine_at first history rest) (fsync_of entry node) made
-    → IsShort (need_at first history rest made) (free_in (books_at first history rest)) kind asked have
+    → IsShortOf (need_at first history rest made) (free_in (books_at first history rest)) kind asked have
     → entry.reply ≡ reply.NoSpace kind asked have
     → TurnsStand first history image before turns rest
     → TurnsStand first (history ++ entry ∷ []) image before (then_turn turns (turn_of entry node number moment before (act.Short kind asked have))) rest

@@ -16,7 +16,7 @@ use Rattle.flush_core.specs.Machine.{MachineState}
 use Rattle.flush_core.specs.Rules.{IsOneOf}
 use Rattle.flush_core.specs.Runs.{IsRun}
 use Rattle.commit_turns.specs.Need.{ImageState, Amount, IsNeed}
-use Rattle.commit_turns.specs.Books.{Books, books_of, flush_at, free_in, IsShort, IsTurn, AreTurns}
+use Rattle.commit_turns.specs.Books.{Books, books_of, flush_at, free_in, IsShortOf, IsTurn, AreTurns}
 use Rattle.sfs_base.specs.Ends.{HasRisen}
 use Rattle.commit_turns.specs.Recorded.{IsLiveFsync, last_turn, IsRecorded}
 
@@ -42,12 +42,12 @@ event_by act.Durable turn = Some (event.Durable turn.commit)
 event_by act.Fail turn = Some (event.Fail turn.commit)
 event_by _ turn = None
 
-abbrev pub event_of : Turn → Option Event
-event_of turn = event_by turn.act turn
+abbrev pub event_of_turn : Turn → Option Event
+event_of_turn turn = event_by turn.act turn
 
 -- the events of a mount: its calls in their order, and then those of its turns
 abbrev pub events_of : List Entry → List Turn → List Event
-events_of history turns = map event.Call history ++ filter_map event_of turns
+events_of history turns = map event.Call history ++ filter_map event_of_turn turns
 
 -- The machine accepts events, and they end in this state.
 pub record IsRunTo (first : TreeState) (events : List Event) (last : MachineState) : Type 0 where
@@ -86,7 +86,7 @@ pub record WasShort (first : TreeState) (history : List Entry) (image : ImageSta
   pub kept : AreTurns before most (books_of first history image) earlier books
   pub need : Amount
   pub needs : IsNeed books.machine books.image flush need
-  pub short : IsShort need (free_in books) kind asked have
+  pub short : IsShortOf need (free_in books) kind asked have
 
 -- The reply of an fsync has its cause: what its last turn did.
 pub record HasItsCause (first : TreeState) (history : List Entry) (image : ImageState) (before most : ℕ) (turns : List Turn) (entry : Entry) (node : NodeId) : Type 0 where

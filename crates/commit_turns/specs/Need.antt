@@ -91,8 +91,8 @@ abbrev pub node_bound : TreeState → ℕ
 node_bound first = first.first + length first.made * first.share
 
 -- whether a node gets an inode
-abbrev pub gets_inode : MachineState → Made → ℕ → Bool
-gets_inode state made node = made.after node && not (state.inodes node)
+abbrev pub enters_by_made : MachineState → Made → ℕ → Bool
+enters_by_made state made node = made.after node && not (state.inodes node)
 
 -- whether a place takes a fresh block, in the row of the places of all nodes, where each node is rewritten so: its node is concerned and has
 -- an inode afterwards
@@ -106,7 +106,7 @@ needs_in_row state image made = needs_place made (rewrite_needed state image mad
 -- what is needed for what an fsync makes: an inode for each node that gets one, and a block for each place that takes a fresh one
 abbrev pub need_of : MachineState → ImageState → Made → Amount
 need_of state image made = record {
-  inodes = rank (gets_inode state made) (node_bound state.first);
+  inodes = rank (enters_by_made state made) (node_bound state.first);
   blocks = rank (needs_in_row state image made) (PLACES * node_bound state.first);
 }
 

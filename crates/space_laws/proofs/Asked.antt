@@ -6,6 +6,7 @@ use Rattle.std.proofs.lemmas.Bool.Decides.{nat_tests}
 use Rattle.std.proofs.lemmas.List.{length-map}
 use Rattle.std.proofs.lemmas.List.Sums.{count_by-le-length, sum_by-append, sum_by-cons}
 use Rattle.std.proofs.lemmas.Option.{slice_get-get_or}
+use Rattle.sfs_base.proofs.BasicNumbers.{zero_plus}
 use Rattle.sfs_base.specs.declared.numbers.Kind.{Kind}
 use Rattle.sfs_base.specs.declared.numbers.Kind.TheVariants.{File, Directory}
 use Rattle.space_map.specs.Pool.{Pool, status_of, is_free, free_count, Grants}
@@ -76,7 +77,4 @@ enters_counted plan =
     let changes = (change_planned plan).changes in
     sum_by-append (λ (s : Seated). cond (enters s) 1 0) (map (seated_old changes) (staying plan.old plan.leave)) (map (seated_entering changes) plan.enter)
     ∙ ap (λ n. n + count_by enters (map (seated_entering changes) plan.enter)) (none_enters changes (staying plan.old plan.leave))
-    ∙ none_before (count_by enters (map (seated_entering changes) plan.enter)) ∙ all_enter changes plan.enter ∙ sym (length-map plan.enter enter_node)
-  where
-    none_before : (n : ℕ) → 0 + n ≡ n
-    none_before n = omega arith
+    ∙ zero_plus (count_by enters (map (seated_entering changes) plan.enter)) ∙ all_enter changes plan.enter ∙ sym (length-map plan.enter enter_node)
