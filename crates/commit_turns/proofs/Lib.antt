@@ -12,3 +12,4 @@ pub mod WholeFsyncs
 pub mod Failed
 pub mod ListedNeeds
 pub mod Behind
+pub mod Least

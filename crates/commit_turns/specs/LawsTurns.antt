@@ -1,5 +1,6 @@
 -- The laws of turns, whichever cores they are of, each of which a function of the module laws proves.
-use Rattle.std.specs.Prelude.{◌≡◌, ◌⊎◌, ◌↔◌, ℕ, ◌+◌, ◌≤◌, List, ◌∷◌, ◌++◌, length, map, filter_map, Option, Some, None}
+use Rattle.std.specs.Prelude.{◌≡◌, ◌⊎◌, ◌↔◌, ℕ, ◌+◌, ◌<◌, ◌≤◌, true, List, [], ◌∷◌, ◌++◌, length, map, filter_map, Option, Some, None}
+use Rattle.sfs_base.specs.Listed.{is_listed}
 use Rattle.sfs_base.specs.declared.numbers.NodeId.{NodeId}
 use Rattle.sfs_base.specs.declared.numbers.SpaceKind.{SpaceKind}
 use Rattle.sfs_tree.specs.declared.history.Entry.{Entry}
@@ -16,7 +17,7 @@ use Rattle.flush_core.specs.Machine.{MachineState}
 use Rattle.flush_core.specs.Rules.{IsOneOf}
 use Rattle.flush_core.specs.Runs.{IsRun}
 use Rattle.commit_turns.specs.Need.{ImageState, Amount, IsNeed}
-use Rattle.commit_turns.specs.Books.{Books, books_of, flush_at, free_in, IsShortOf, IsTurn, AreTurns}
+use Rattle.commit_turns.specs.Books.{Grant, Books, is_open, books_of, flush_at, free_in, IsShortOf, IsTurn, AreTurns}
 use Rattle.sfs_base.specs.Ends.{HasRisen}
 use Rattle.commit_turns.specs.Recorded.{IsLiveFsync, last_turn, IsRecorded}
 
@@ -128,6 +129,21 @@ pub record TakesFree (books : Books) (turn : Turn) (later : Books) : Type 0 wher
 
 abbrev pub ReservedIsNotFree : Type 0
 ReservedIsNotFree = (before most : ℕ) (books : Books) (turn : Turn) (later : Books) → IsTurn before most books turn later → turn.act ≡ act.Granted → TakesFree books turn later
+
+-- An inode is one of the least that are free and not reserved: it is such a one, and all such ones below it are taken with it.
+pub record IsLeastOpen (books : Books) (taken : List ℕ) (i : ℕ) : Type 0 where
+  pub within : i < books.image.image.count
+  pub opens : is_open books i ≡ true
+  pub lower : (j : ℕ) → j < i → is_open books j ≡ true → is_listed taken j ≡ true
+
+-- A turn that reserves has one grant more, whose inodes are such ones.
+pub record TakesLeast (books later : Books) : Type 0 where
+  pub grant : Grant
+  pub grants : later.grants ≡ books.grants ++ grant ∷ []
+  pub least : (i : ℕ) → is_listed grant.inodes i ≡ true → IsLeastOpen books grant.inodes i
+
+abbrev pub LeastAreTaken : Type 0
+LeastAreTaken = (before most : ℕ) (books : Books) (turn : Turn) (later : Books) → IsTurn before most books turn later → turn.act ≡ act.Granted → TakesLeast books later
 
 -- Behind a turn that reserves stands one of the same fsync that begins its commit, halts, or gives back; and between them none of its core
 -- is of another fsync.

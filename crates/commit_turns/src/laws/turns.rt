@@ -1,5 +1,5 @@
 //! Laws of turns, whichever cores they are of.
-ghost use Rattle.commit_turns.specs.LawsTurns.{FailuresStopCommits, GrantsAreTakenUp, RepliesHaveCauses, ReservedIsNotFree, TurnsAreARun, TurnsAreFlushed};
+ghost use Rattle.commit_turns.specs.LawsTurns.{FailuresStopCommits, GrantsAreTakenUp, LeastAreTaken, RepliesHaveCauses, ReservedIsNotFree, TurnsAreARun, TurnsAreFlushed};
 
 /// The machine has the cut that the fsyncs of durable commits have raised.
 pub fn turns_are_flushed()
@@ -29,4 +29,9 @@ pub fn reserved_is_not_free()
 /// Each turn that reserves is followed by one that begins the commit, halts or gives back.
 pub fn grants_are_taken_up()
     ensures { GrantsAreTakenUp }
+{}
+
+/// A turn that reserves takes the least inodes that are free and not reserved.
+pub fn least_are_taken()
+    ensures { LeastAreTaken }
 {}
