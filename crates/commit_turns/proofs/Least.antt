@@ -9,7 +9,7 @@ use Rattle.sfs_base.proofs.BasicNumbers.{same_number}
 use Rattle.sfs_base.proofs.BasicTruth.{true_not_false, or_true}
 use Rattle.sfs_base.specs.Listed.{is_listed}
 use Rattle.sfs_tree.specs.declared.turns.TurnAct.{TurnAct}
-use Rattle.commit_turns.specs.Books.{Books, Does, is_open, grant_for_turn, least_open}
+use Rattle.commit_turns.specs.Books.{Books, Does, is_open_in, grant_for_turn, least_open}
 use Rattle.commit_turns.specs.LawsTurns.{IsLeastOpen, LeastAreTaken}
 
 -- A number is among the first of a range that pass a test: all that pass below it are taken too.
@@ -86,7 +86,7 @@ among_first test a (suc m) (suc c) i t = by (test a) refl t (λ count. among_fir
 
 least_is_open : (books : Books) (count i : ℕ) → is_listed (least_open books count) i ≡ true → IsLeastOpen books (least_open books count) i
 least_is_open books count i t =
-    let is = among_first (is_open books) 0 books.image.image.count count i t in
+    let is = among_first (is_open_in books) 0 books.image.image.count count i t in
     let high = is.high in
     record {
       within = omega (arith, high);

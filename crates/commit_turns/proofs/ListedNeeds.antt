@@ -24,7 +24,7 @@ use Rattle.flush_core.specs.Cut.{Cut}
 use Rattle.flush_core.specs.Machine.{MachineState}
 use Rattle.flush_core.proofs.CutNodes.{cuts_keep_kinds}
 use Rattle.commit_turns.specs.LawsNeed.{NodesAreCounted, AreOnce, ListsNodes, BlocksAreListed, InodesAreListed, IsHeldBy, HeldAreFound}
-use Rattle.commit_turns.specs.Need.{ImageState, is_unused, holds_in_row, is_held, Made, rewrite_needed, node_bound, enters_by_made, needs_in_row, need_of}
+use Rattle.commit_turns.specs.Need.{ImageState, is_unused, holds_in_row, is_held_in, Made, rewrite_needed, node_bound, enters_by_made, needs_in_row, need_of}
 
 none_counted : (test : ℕ → Bool) → rank test 0 ≡ 0
 unfolding rank
@@ -213,7 +213,7 @@ found_below test (suc n) some = elim (cases_Bool (test n)) [
 pub held_are_found : HeldAreFound
 held_are_found image block = (there, back)
   where
-    there : is_held image block ≡ true → IsHeldBy image block
+    there : is_held_in image block ≡ true → IsHeldBy image block
     there held =
         let at = found_below (holds_in_row image block) (PLACES * image.count) held in
         let p = at.0 in
@@ -228,7 +228,7 @@ held_are_found image block = (there, back)
           has = eqb-true _ _ (and_second (not (is_unused image (p / PLACES))) _ at.2);
         }
 
-    back : IsHeldBy image block → is_held image block ≡ true
+    back : IsHeldBy image block → is_held_in image block ≡ true
     back is =
         let i = is.inode in
         let place = is.place in

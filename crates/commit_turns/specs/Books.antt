@@ -68,12 +68,12 @@ free_in books = record {
 }
 
 -- whether an inode is free and not reserved
-abbrev pub is_open : Books → ℕ → Bool
-is_open books i = is_unused books.image.image i && not (list_any (λ grant. is_listed grant.inodes i) books.grants)
+abbrev pub is_open_in : Books → ℕ → Bool
+is_open_in books i = is_unused books.image.image i && not (list_any (λ grant. is_listed grant.inodes i) books.grants)
 
 -- so many of the inodes that are free and not reserved, the least ones
 abbrev pub least_open : Books → ℕ → List ℕ
-least_open books count = take count (filter (is_open books) (range_with_len 0 books.image.image.count))
+least_open books count = take count (filter (is_open_in books) (range_with_len 0 books.image.image.count))
 
 -- A need fits what is free.
 pub record FitsFree (need free : Amount) : Type 0 where

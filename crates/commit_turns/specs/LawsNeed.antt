@@ -14,7 +14,7 @@ use Rattle.image_tree.specs.Need.{directory_rewrite, blocks_needed}
 use Rattle.image_tree.specs.Stands.{StandsForTree}
 use Rattle.flush_core.specs.Closure.{Flush}
 use Rattle.flush_core.specs.Machine.{MachineState}
-use Rattle.commit_turns.specs.Need.{ImageState, Amount, is_unused, is_held, Made, stand_in, rewrite_needed, node_bound, enters_by_made, need_of, IsNeed}
+use Rattle.commit_turns.specs.Need.{ImageState, Amount, is_unused, is_held_in, Made, stand_in, rewrite_needed, node_bound, enters_by_made, need_of, IsNeed}
 
 -- A commit's numbers go on from an image that stands for the old tree to a tree that may follow it.
 pub record NumbersGoOn (commit : Commit) (old new : TreeState) (image : SeenInodes) : Type 0 where
@@ -69,4 +69,4 @@ pub record IsHeldBy (image : SeenInodes) (block : ℕ) : Type 0 where
 
 -- A block counts as held exactly where one has it.
 abbrev pub HeldAreFound : Type 0
-HeldAreFound = (image : SeenInodes) (block : ℕ) → (is_held image block ≡ true) ↔ IsHeldBy image block
+HeldAreFound = (image : SeenInodes) (block : ℕ) → (is_held_in image block ≡ true) ↔ IsHeldBy image block

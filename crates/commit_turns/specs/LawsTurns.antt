@@ -17,7 +17,7 @@ use Rattle.flush_core.specs.Machine.{MachineState}
 use Rattle.flush_core.specs.Rules.{IsOneOf}
 use Rattle.flush_core.specs.Runs.{IsRun}
 use Rattle.commit_turns.specs.Need.{ImageState, Amount, IsNeed}
-use Rattle.commit_turns.specs.Books.{Grant, Books, is_open, books_of, flush_at, free_in, IsShortOf, IsTurn, AreTurns}
+use Rattle.commit_turns.specs.Books.{Grant, Books, is_open_in, books_of, flush_at, free_in, IsShortOf, IsTurn, AreTurns}
 use Rattle.sfs_base.specs.Ends.{HasRisen}
 use Rattle.commit_turns.specs.Recorded.{IsLiveFsync, last_turn, IsRecorded}
 
@@ -133,8 +133,8 @@ ReservedIsNotFree = (before most : ℕ) (books : Books) (turn : Turn) (later : B
 -- An inode is one of the least that are free and not reserved: it is such a one, and all such ones below it are taken with it.
 pub record IsLeastOpen (books : Books) (taken : List ℕ) (i : ℕ) : Type 0 where
   pub within : i < books.image.image.count
-  pub opens : is_open books i ≡ true
-  pub lower : (j : ℕ) → j < i → is_open books j ≡ true → is_listed taken j ≡ true
+  pub opens : is_open_in books i ≡ true
+  pub lower : (j : ℕ) → j < i → is_open_in books j ≡ true → is_listed taken j ≡ true
 
 -- A turn that reserves has one grant more, whose inodes are such ones.
 pub record TakesLeast (books later : Books) : Type 0 where

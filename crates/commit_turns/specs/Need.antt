@@ -42,12 +42,12 @@ abbrev pub holds_in_row : SeenInodes → ℕ → ℕ → Bool
 holds_in_row image block p = not (is_unused image (p / PLACES)) && (image.seen (p / PLACES)).blocks (p % PLACES) == block
 
 -- whether some place holds a block
-abbrev pub is_held : SeenInodes → ℕ → Bool
-is_held image block = not (rank (holds_in_row image block) (PLACES * image.count) == 0)
+abbrev pub is_held_in : SeenInodes → ℕ → Bool
+is_held_in image block = not (rank (holds_in_row image block) (PLACES * image.count) == 0)
 
 -- how many blocks of the data area are free: no place holds them
 abbrev pub free_blocks : ImageState → ℕ
-free_blocks state = rank (λ n. not (is_held state.image (state.first_block + n))) (state.end_block - state.first_block)
+free_blocks state = rank (λ n. not (is_held_in state.image (state.first_block + n))) (state.end_block - state.first_block)
 
 -- What an fsync makes: the nodes that it concerns, the cut that it raises, the nodes that then have an inode, and the net of the rows of
 -- each directory.
