@@ -14,7 +14,7 @@ use Rattle.stamp_table.specs.declared.view.View.{View}
 use Rattle.stamp_table.specs.Rule.{Has, stamps_in}
 use Rattle.stamp_table.specs.Steps.{IsPast, MayDraw}
 use Rattle.stamp_table.specs.Events.{event_core, is_call, called, calls_in, IsLawful, stands_for}
-use Rattle.stamp_table.specs.Table.{MayCall, entry_of}
+use Rattle.stamp_table.specs.Table.{MayCall, entry_with}
 
 module _ {X : Type 0} where
   -- each call drew a stamp, and nothing else did
@@ -57,13 +57,13 @@ module _ {C X : Type 0} (lawful : TreeState → List (Event X) → Type 0) (stan
   -- An fsync of the root may come at any time, answered want of memory, where it changes nothing that stands.
   pub root_may_be_flushed : (v : View TreeState (Event X)) → v.core < length v.first.made → ((log : List (Event X)) → lawful v.first log) → ((log next : List (Event X)) (place : ℕ) (value : C) → stands v.first log place value → stands v.first next place value)
       → MayCall lawful stands v (call.Fsync (record { 0 = 0 })) reply.NoMemory
-  root_may_be_flushed v known told kept log past = may_follow v (entry_of v.core (call.Fsync (record { 0 = 0 })) reply.NoMemory) log past (record {
+  root_may_be_flushed v known told kept log past = may_follow v (entry_with v.core (call.Fsync (record { 0 = 0 })) reply.NoMemory) log past (record {
     may_come = record {
       stamped = refl;
       core = let stay = cores_stay v.first (calls_in log) in omega (arith, known, stay);
       due = tt;
       acknowledged = ((λ is. absurd cc), (λ is. absurd cc));
     };
-    told = told (log ++ Called (entry_of v.core (call.Fsync (record { 0 = 0 })) reply.NoMemory (length (calls_in log))) ∷ []);
-    keeps = λ place value not stood. kept log (log ++ Called (entry_of v.core (call.Fsync (record { 0 = 0 })) reply.NoMemory (length (calls_in log))) ∷ []) place value stood;
+    told = told (log ++ Called (entry_with v.core (call.Fsync (record { 0 = 0 })) reply.NoMemory (length (calls_in log))) ∷ []);
+    keeps = λ place value not stood. kept log (log ++ Called (entry_with v.core (call.Fsync (record { 0 = 0 })) reply.NoMemory (length (calls_in log))) ∷ []) place value stood;
   })

@@ -15,8 +15,8 @@ abbrev pub lock_word : ℕ → ℕ
 lock_word place = LOCKS + place
 
 -- how many cores there are at most, and how many entries a core has at most: so the stamp word never comes to its end
-abbrev pub MOST_CORES : ℕ
-MOST_CORES = 256
+abbrev pub MOST_TABLE_CORES : ℕ
+MOST_TABLE_CORES = 256
 
 abbrev pub MOST_ENTRIES : ℕ
 MOST_ENTRIES = 2 ^ 50
@@ -90,7 +90,7 @@ module _ {T E S : Type 0} (core_of : E → ℕ) (draws : E → Bool) (legal : T 
   pub record IsLog (first : T) (cores : ℕ) (log : List E) (words : List ℕ) : Type 0 where
     pub count : slice_index words 0 ≡ stamps_in draws log
     pub legal_log : legal first log
-    pub many : cores ≤ MOST_CORES
+    pub many : cores ≤ MOST_TABLE_CORES
     pub known : AreKnown core_of cores log
     pub few : (core : ℕ) → length (entries_by core_of core log) ≤ MOST_ENTRIES
 

@@ -34,8 +34,8 @@ table_code =
     }) (λ _. refl)
 
 -- the entry of a core's call with this number: it has no acknowledgement yet
-abbrev pub entry_of : ℕ → Call → Reply → ℕ → Entry
-entry_of core call reply number = record { stamp = record { 0 = number }; core = record { 0 = core }; call = call; reply = reply; ack = None }
+abbrev pub entry_with : ℕ → Call → Reply → ℕ → Entry
+entry_with core call reply number = record { stamp = record { 0 = number }; core = record { 0 = core }; call = call; reply = reply; ack = None }
 
 module _ {C X : Type 0} where
   -- a core's seat at this table
@@ -152,13 +152,13 @@ module _ {C X : Type 0} (lawful : TreeState → List (Event X) → Type 0) (stan
   -- a call that may come with this reply, in each history that the core may meet
   abbrev pub MayCall : View TreeState (Event X) → Call → Reply → Type 0
   MayCall view call reply = (log : List (Event X)) → IsPast event_core is_call (IsLawful lawful) (stands_for stands) view log
-      → MayDraw event_core is_call (IsLawful lawful) (stands_for stands) view (λ number. Called (entry_of view.core call reply number)) log
+      → MayDraw event_core is_call (IsLawful lawful) (stands_for stands) view (λ number. Called (entry_with view.core call reply number)) log
 
   -- A core has one entry more, which stands at the end of the history that it has seen.
   pub record Stamps (call : Call) (reply : Reply) (before : Hand C X) (number : ℕ) (after : Hand C X) : Type 0 where
     pub frame : record after { view = before.view; spare = before.spare } ≡ before
     pub spare : after.spare + 1 ≡ before.spare
-    pub drew : (log : List (Event X)) × Drew event_core is_call (IsLawful lawful) (stands_for stands) (λ number. Called (entry_of before.view.core call reply number)) before.view number after.view log
+    pub drew : (log : List (Event X)) × Drew event_core is_call (IsLawful lawful) (stands_for stands) (λ number. Called (entry_with before.view.core call reply number)) before.view number after.view log
 
 module _ {C X : Type 0} where
   -- a core of a table, by its number, which holds nothing
