@@ -48,7 +48,7 @@ use Rattle.flush_core.specs.Closure.{Flush, one_more}
 use Rattle.flush_core.specs.Cut.{Cut, tree_at_cut}
 use Rattle.flush_commits.specs.Laws.{FsyncsAreCommits, IsStoreAfter, FsyncsLeaveReady, AreEntriesAfter, FsyncsKeepEntries}
 use Rattle.flush_commits.specs.Planned.{IsPlannedFsync}
-use Rattle.flush_commits.specs.Ready.{AreSoundParts, IsReady, KeepsEntries}
+use Rattle.flush_commits.specs.Ready.{AreSoundParts, IsBetweenCommits, KeepsEntries}
 use Rattle.flush_commits.proofs.Clean.{numbers_next, whole, next_stands, over_parts, clean_plan}
 
 pub fsyncs_are_commits : FsyncsAreCommits
@@ -90,7 +90,7 @@ module _ (first : TreeState) (history : List Entry) (flushes : List Flush) (cut 
       (λ i. ap length (raw_of store (inode_bytes free_inode)) ∙ length-inode_bytes free_inode free_fits)
       is.ready.sound.records
 
-  pub ready_after : (later : ℕ → List ℕ) → IsStoreAfter layout parts plan grant later → IsReady first history (flushes ++ flush ∷ []) raised after next_num layout later next
+  pub ready_after : (later : ℕ → List ℕ) → IsStoreAfter layout parts plan grant later → IsBetweenCommits first history (flushes ++ flush ∷ []) raised after next_num layout later next
   ready_after later there = record {
     history_is = is.ready.history_is;
     flushed = one_more flushes flush cut raised inodes after is.ready.flushed is.raises is.inodes_after;

@@ -20,7 +20,7 @@ use Rattle.commit_laws.specs.PartsStand.{part_next}
 use Rattle.flush_core.specs.Closure.{Flush}
 use Rattle.flush_core.specs.Cut.{Cut, tree_at_cut}
 use Rattle.flush_commits.specs.Planned.{IsPlannedFsync}
-use Rattle.flush_commits.specs.Ready.{IsReady, KeepsEntries}
+use Rattle.flush_commits.specs.Ready.{IsBetweenCommits, KeepsEntries}
 
 -- The plan of an fsync with a grant is all that the laws of commits ask: it is over the parts of the disk, from the tree at the cut to the tree at
 -- the raised cut, and clean.
@@ -44,7 +44,7 @@ abbrev pub FsyncsLeaveReady : Type 0
 FsyncsLeaveReady = (first : TreeState) (history : List Entry) (flushes : List Flush) (cut : Cut) (inodes : ℕ → Bool) (flush : Flush) (raised : Cut) (after : ℕ → Bool) (num : Numbering) (layout : Layout) (store : ℕ → List ℕ) (parts : ℕ → Part)
     (nodes : List ℕ) (entries : List OldEntry) (plan : CommitPlan) (grant : GrantedNumbers) (later : ℕ → List ℕ) → IsPlannedFsync first history flushes cut inodes flush raised after num layout store parts nodes entries plan grant
     → IsStoreAfter layout parts plan grant later
-    → IsReady first history (flushes ++ flush ∷ []) raised after (numbers_planned num plan grant.inodes) layout later (part_next store parts plan grant)
+    → IsBetweenCommits first history (flushes ++ flush ∷ []) raised after (numbers_planned num plan grant.inodes) layout later (part_next store parts plan grant)
 
 -- What memory has after a commit: what the disk then has of the nodes of the commit, and of all others what it had.
 pub record AreEntriesAfter (nodes : List ℕ) (entries : List OldEntry) (plan : CommitPlan) (grant : GrantedNumbers) (later : List OldEntry) : Type 0 where

@@ -33,7 +33,7 @@ use Rattle.commit_laws.specs.Rewritten.{has_page, bytes_in_block, HasPages}
 use Rattle.flush_core.specs.Closure.{every_entry, Flush, IsConcerned, IsRaised, AreInodesAfter}
 use Rattle.flush_core.specs.Cut.{Cut, tree_at_cut}
 use Rattle.cut_trees.specs.Next.{IsOneMore}
-use Rattle.flush_commits.specs.Ready.{IsReady, KeepsEntries}
+use Rattle.flush_commits.specs.Ready.{IsBetweenCommits, KeepsEntries}
 
 -- Of the entries that memory keeps a plan has those of the nodes that it concerns.
 pub record HasOldEntries (nodes : List ℕ) (entries old : List OldEntry) : Type 0 where
@@ -83,7 +83,7 @@ pub record GrantsPlan (layout : Layout) (parts : ℕ → Part) (plan : CommitPla
 -- What is known where one fsync more has a plan and a grant.
 pub record IsPlannedFsync (first : TreeState) (history : List Entry) (flushes : List Flush) (cut : Cut) (inodes : ℕ → Bool) (flush : Flush) (raised : Cut) (after : ℕ → Bool) (num : Numbering) (layout : Layout) (store : ℕ → List ℕ) (parts : ℕ → Part)
     (nodes : List ℕ) (entries : List OldEntry) (plan : CommitPlan) (grant : GrantedNumbers) : Type 0 where
-  pub ready : IsReady first history flushes cut inodes num layout store parts
+  pub ready : IsBetweenCommits first history flushes cut inodes num layout store parts
   pub keeps : KeepsEntries num parts entries
   pub raises : IsRaised first history every_entry cut inodes flush raised
   pub inodes_after : AreInodesAfter first history every_entry cut inodes flush raised after

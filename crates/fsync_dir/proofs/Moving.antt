@@ -28,10 +28,10 @@ use Rattle.disk_change.specs.declared.enter.Enter.{Enter}
 use Rattle.disk_change.specs.declared.old.OldEntry.{OldEntry}
 use Rattle.fsync_dir.specs.declared.concern.Concern.{Concern}
 use Rattle.fsync_dir.specs.declared.facts.Facts.{Facts}
-use Rattle.fsync_dir.specs.Concerned.{AreConcerned}
+use Rattle.fsync_dir.specs.Concerned.{IsConcernOf}
 use Rattle.fsync_dir.specs.Kinds.{spans_in}
-use Rattle.fsync_dir.specs.Moved.{AreFacts, cuts_after, found_by, gets_inode, loses_inode, enter_by, kind_entering, own_kind}
-use Rattle.fsync_dir.specs.Plan.{Moves}
+use Rattle.fsync_dir.specs.Moved.{AreFacts, cuts_after, found_by, gets_inode, loses_inode, enter_by, kind_entering, kind_of_own_node}
+use Rattle.fsync_dir.specs.Plan.{MovesInodes}
 
 -- tests that hold together hold each
 two : (a b : Bool) → (a && b) ≡ true → (a ≡ true) × (b ≡ true)
@@ -118,7 +118,7 @@ module _ (nodes : List NodeId) (up : IsStrictlyIncreasing (map node_number nodes
       omega arith
 
 module _ (start : NodeId) (below : Stamp) (gathered : Gathered) (concern : Concern) (old : List OldEntry) (file : Option File) (facts : Facts)
-    (are : AreConcerned start below gathered concern) (known : AreFacts below gathered concern old facts) where
+    (are : IsConcernOf start below gathered concern) (known : AreFacts below gathered concern old facts) where
   abbrev look : Look
   look = look_of start below gathered
 
@@ -219,9 +219,9 @@ module _ (start : NodeId) (below : Stamp) (gathered : Gathered) (concern : Conce
     kinds = subst (All (λ one. one.kind ≡ kind_entering start (is_some file) (spans_in gathered below concern.members.items) one.node.0)) (sym enter_is)
         (All-map (λ one. one.kind ≡ kind_entering start (is_some file) (spans_in gathered below concern.members.items) one.node.0) (enter_by start (is_some file) facts) (filter (λ node. gets_inode start (is_some file) gathered facts node.0) concern.nodes.items)
         (λ k d within. let node = get_or (filter (λ one. gets_inode start (is_some file) gathered facts one.0) concern.nodes.items) k d in
-        ap (λ told. cond (nat_eq node.0 start.0) (own_kind (is_some file)) (unwrap_or told Directory)) (known.kinds node.0)))
+        ap (λ told. cond (nat_eq node.0 start.0) (kind_of_own_node (is_some file)) (unwrap_or told Directory)) (known.kinds node.0)))
 
-    pub moves : Moves start below gathered concern old file enter leave
+    pub moves : MovesInodes start below gathered concern old file enter leave
     moves = record {
       enter_ascends = subst (AscendBy enter_node) (sym enter_is) (picked_ascend concern.nodes.items are.nodes.ascending (λ node. gets_inode start (is_some file) gathered facts node.0) (enter_by start (is_some file) facts) (λ node. refl));
       leave_ascends = subst (λ (l : List NodeId). IsStrictlyIncreasing (map node_number l)) (sym leave_is) (picked_increase concern.nodes.items are.nodes.ascending (λ node. loses_inode gathered facts node.0));

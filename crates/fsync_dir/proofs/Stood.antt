@@ -27,7 +27,7 @@ use Rattle.absorb.specs.Net.{IsNetRow, IsNet, rows_with_changes, child_after}
 use Rattle.absorb.proofs.LastChanges.{left_by, get-rows_after}
 use Rattle.absorb.proofs.Rows.{IsNet-from_lent}
 use Rattle.fsync_dir.specs.Ends.{LentChanges, child_lent, lent_between}
-use Rattle.fsync_dir.specs.Net.{child_before, first_change, stood_before, left_after, before_by, after_by, IsRowBy, IsNetBy}
+use Rattle.fsync_dir.specs.Net.{child_before, first_change, stood_before, left_by_change, before_by, after_by, IsRowBy, IsNetBy}
 use Rattle.fsync_dir.specs.Laws.{FitsRows, FitRows, NetsNeedNoRows}
 
 module _ {X : Type 0} (test : X → Bool) where
@@ -64,7 +64,7 @@ one_made rows change name = get-rows_after rows (change ∷ []) name ∙ by (byt
 left_is : (rows : FinMap name_cmp ℕ) (changes : List Change) (name : List ℕ) → get rows name ≡ before_by changes name → get (rows_with_changes rows changes) name ≡ after_by changes name
 left_is rows changes name before = get-rows_after rows changes name ∙ by (last_change name changes) refl
   where
-    by : (o : Option Change) → last_change name changes ≡ o → left_by o (get rows name) ≡ number_of (left_after o)
+    by : (o : Option Change) → last_change name changes ≡ o → left_by o (get rows name) ≡ number_of (left_by_change o)
     by (Some change) is = refl
     by None is = before ∙ ap (λ o. number_of (stood_before o)) (no_first name changes is)
 
@@ -148,7 +148,7 @@ nets_need_no_rows rows changes net fit h = record {
             let before = first_stands rows changes fit row.name first found in
             record { before = is.before ∙ sym before; after = is.after ∙ sym (left_is rows changes row.name before); differs = is.differs }
         by None none =
-            absurd (is.differs (same_nodes row.before row.after (is.before ∙ ap (λ o. number_of (stood_before o)) none) (is.after ∙ ap (λ o. number_of (left_after o)) (no_last row.name changes none))))
+            absurd (is.differs (same_nodes row.before row.after (is.before ∙ ap (λ o. number_of (stood_before o)) none) (is.after ∙ ap (λ o. number_of (left_by_change o)) (no_last row.name changes none))))
 
     by_first : (name : List ℕ) → get rows name ≢ get (rows_with_changes rows changes) name → (o : Option Change) → first_change name changes ≡ o → Contains (map (λ (row : NetRow). row.name) net) name
     by_first name differ (Some first) found =

@@ -32,7 +32,7 @@ pub record AreNetsOf (gathered : Gathered) (below : Stamp) (members : List NodeI
   pub some_row : All (λ one. one.net.items ≢ []) nets
 
 -- What an fsync of a node at a stamp concerns, by what was gathered.
-pub record AreConcerned (start : NodeId) (below : Stamp) (gathered : Gathered) (concern : Concern) : Type 0 where
+pub record IsConcernOf (start : NodeId) (below : Stamp) (gathered : Gathered) (concern : Concern) : Type 0 where
   pub members : AreNodes concern.members.items (Gathers (look_of start below gathered))
   pub nodes : AreNodes concern.nodes.items (Touches (look_of start below gathered))
   pub nets : AreNetsOf gathered below concern.members.items concern.nets.items

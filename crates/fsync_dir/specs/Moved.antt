@@ -33,12 +33,12 @@ abbrev pub found_by : List OldEntry → List DirectoryNet → Option mem.File �
 found_by old nets file = record { named = is_named_after old nets; directory = is_none file }
 
 -- the kind of the fsync's own node, which is a file where it has bytes
-abbrev pub own_kind : Bool → Kind
-own_kind is_file = if is_file then File else Directory
+abbrev pub kind_of_own_node : Bool → Kind
+kind_of_own_node is_file = if is_file then File else Directory
 
 -- the kind of a node that gets an inode: the fsync's own, or what the changes in the spans of members tell, a directory's where they tell nothing
 abbrev pub kind_entering : NodeId → Bool → List Change → ℕ → Kind
-kind_entering start is_file changes node = if node == start.0 then own_kind is_file else unwrap_or (kind_told changes node) Directory
+kind_entering start is_file changes node = if node == start.0 then kind_of_own_node is_file else unwrap_or (kind_told changes node) Directory
 
 -- What is known of the nodes that an fsync touches once its members' cuts are lifted: which are named, which have a naming that is not
 -- flushed, and which kinds the changes tell.
@@ -62,4 +62,4 @@ loses_inode gathered facts node =
 -- a node that gets an inode, with its kind by the facts
 abbrev pub enter_by : NodeId → Bool → Facts → NodeId → Enter
 enter_by start is_file facts node =
-    record { node = node; kind = if node.0 == start.0 then own_kind is_file else unwrap_or (get nat_cmp facts.kinds node.0) Directory }
+    record { node = node; kind = if node.0 == start.0 then kind_of_own_node is_file else unwrap_or (get nat_cmp facts.kinds node.0) Directory }

@@ -10,12 +10,12 @@ use Rattle.disk_change.specs.Lists.{item_with}
 use Rattle.disk_change.specs.Nodes.{entry_node}
 
 -- how many names a node has by its record: a directory has one, and a file as many as its link count says
-abbrev pub names_of : OldEntry → ℕ
-names_of entry = if entry.old.kept.inode.kind == 2 then 1 else entry.old.kept.inode.links
+abbrev pub names_by_record : OldEntry → ℕ
+names_by_record entry = if entry.old.kept.inode.kind == 2 then 1 else entry.old.kept.inode.links
 
 -- how many names a node has on the disk, none where the disk has no inode of it
 abbrev pub names_on_disk : List OldEntry → ℕ → ℕ
-names_on_disk old node = option_map_or names_of (item_with entry_node node old) 0
+names_on_disk old node = option_map_or names_by_record (item_with entry_node node old) 0
 
 -- the nodes that the rows of nets name which come, and which go, once for each row
 abbrev pub named_coming : List DirectoryNet → List ℕ

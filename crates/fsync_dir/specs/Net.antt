@@ -26,9 +26,9 @@ abbrev pub stood_before : Option Change → Option NodeId
 stood_before None = None
 stood_before (Some change) = child_before change.act change.child
 
-abbrev pub left_after : Option Change → Option NodeId
-left_after None = None
-left_after (Some change) = child_after change.act change.child
+abbrev pub left_by_change : Option Change → Option NodeId
+left_by_change None = None
+left_by_change (Some change) = child_after change.act change.child
 
 -- the child that a name has before some changes: that of its first change where that is a removal, and none otherwise
 abbrev pub before_by : List Change → List ℕ → Option ℕ
@@ -36,7 +36,7 @@ before_by changes name = number_of (stood_before (first_change name changes))
 
 -- the child that a name has after some changes: that of its last change where that is an addition, and none otherwise
 abbrev pub after_by : List Change → List ℕ → Option ℕ
-after_by changes name = number_of (left_after (last_change name changes))
+after_by changes name = number_of (left_by_change (last_change name changes))
 
 -- A row is right by the changes where its two children are those that its name has before and after them, and they differ.
 pub record IsRowBy (changes : List Change) (row : NetRow) : Type 0 where

@@ -33,7 +33,7 @@ AreFileChanges start cut None held files = files ≡ []
 
 -- The nodes that get an inode, with their kinds, and those that lose theirs: each list ascends, and they are those that the rule of an
 -- fsync moves at the lifted cuts.
-pub record Moves (start : NodeId) (below : Stamp) (gathered : Gathered) (concern : Concern) (old : List OldEntry) (file : Option File) (enter : List Enter) (leave : List NodeId) : Type 0 where
+pub record MovesInodes (start : NodeId) (below : Stamp) (gathered : Gathered) (concern : Concern) (old : List OldEntry) (file : Option File) (enter : List Enter) (leave : List NodeId) : Type 0 where
   pub enter_ascends : AscendBy enter_node enter
   pub leave_ascends : IsStrictlyIncreasing (map node_number leave)
   pub lifts : Lifts (look_of start below gathered) (cuts_after below gathered concern)
@@ -47,6 +47,6 @@ pub record IsPlanOf (start : NodeId) (below : Stamp) (gathered : Gathered) (conc
   pub files : List FileChange
   pub members : plan.members.items ≡ concern.members.items
   pub nodes : plan.nodes.items ≡ concern.nodes.items
-  pub moves : Moves start below gathered concern old file enter plan.leave.items
+  pub moves : MovesInodes start below gathered concern old file enter plan.leave.items
   pub are_files : AreFileChanges start (cut_in gathered.cuts.items start.0) file (is_held gathered enter start.0) files
   pub made : plan.change ≡ planned old concern.nets.items files enter plan.leave.items

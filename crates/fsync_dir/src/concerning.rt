@@ -5,7 +5,7 @@ ghost use Rattle.sfs_tree.specs.NameRow.{node_number};
 ghost use Rattle.flush_core.specs.Engine.{OfSome};
 ghost use Rattle.dep_closure.specs.Brought.{AddsTo};
 ghost use Rattle.dep_closure.specs.Gathered.{IsOrderly};
-ghost use Rattle.fsync_dir.specs.Concerned.{AreConcerned, AreNodes, AreNetsOf, IsTouchedBy};
+ghost use Rattle.fsync_dir.specs.Concerned.{IsConcernOf, AreNodes, AreNetsOf, IsTouchedBy};
 
 use crate::concern::Concern;
 use crate::nets::net_by;
@@ -26,7 +26,7 @@ pub fn concerned(
     logs: &Gathered,
 ) -> Result<Concern, NoMemory>
     requires { IsOrderly logs.now }
-    ensures { IfOk result (λ concern. AreConcerned start below logs.now concern) }
+    ensures { IfOk result (λ concern. IsConcernOf start below logs.now concern) }
 {
     let members = closure(alloc, start, below, logs)?;
     let nodes = touched_nodes(alloc, &members, below, logs)?;

@@ -6,7 +6,7 @@ ghost use Rattle.std.specs.BTreeSet.{contains};
 ghost use Rattle.sfs_base.specs.Listed.{is_listed};
 ghost use Rattle.sfs_tree.specs.NameRow.{node_number};
 ghost use Rattle.dep_closure.specs.Gathered.{IsOrderly};
-ghost use Rattle.fsync_dir.specs.Moved.{AreFacts, gets_inode, loses_inode, enter_by, own_kind};
+ghost use Rattle.fsync_dir.specs.Moved.{AreFacts, gets_inode, loses_inode, enter_by, kind_of_own_node};
 ghost use Rattle.fsync_dir.specs.Names.{is_named_after};
 
 use crate::concern::Concern;
@@ -146,7 +146,7 @@ fn entered(start: NodeId, is_file: bool, facts: &Facts, node: NodeId) -> Enter
 
 // The kind of the fsync's own node.
 fn kind_if_file(is_file: bool) -> Kind
-    ensures { result ≡ own_kind is_file }
+    ensures { result ≡ kind_of_own_node is_file }
 {
     if is_file { Kind::File } else { Kind::Directory }
 }

@@ -2,7 +2,7 @@
 ghost use Rattle.std.specs.Prelude.{◌≡◌, IfOk};
 ghost use Rattle.std.specs.Option.{option_copied};
 ghost use Rattle.dep_closure.specs.Gathered.{IsOrderly, cut_in};
-ghost use Rattle.fsync_dir.specs.Concerned.{AreConcerned};
+ghost use Rattle.fsync_dir.specs.Concerned.{IsConcernOf};
 ghost use Rattle.fsync_dir.specs.Plan.{AreFileChanges, IsPlanOf, is_held};
 
 use crate::concern::Concern;
@@ -28,7 +28,7 @@ pub fn plan(
     file: Option<&FileBytes>,
 ) -> Result<FsyncPlan, NoMemory>
     requires logs { IsOrderly logs.now }
-    requires concern { AreConcerned start below logs.now concern }
+    requires concern { IsConcernOf start below logs.now concern }
     ensures { IfOk result (λ plan. IsPlanOf start below logs.now concern old.items (option_copied file.entry) plan) }
 {
     let facts = facts_of(alloc, below, logs, &concern, &old)?;

@@ -31,7 +31,7 @@ use Rattle.commit_laws.proofs.Ranked.{needs_are_those}
 use Rattle.commit_laws.proofs.SeatsOfPlan.{in_mapped}
 use Rattle.flush_core.specs.Closure.{Flush}
 use Rattle.flush_core.specs.Cut.{Cut}
-use Rattle.flush_commits.specs.Ready.{IsReady, KeepsEntries}
+use Rattle.flush_commits.specs.Ready.{IsBetweenCommits, KeepsEntries}
 use Rattle.space_laws.specs.Laws.{GrantsServe}
 use Rattle.space_laws.specs.Map.{IsMapOf, WasGranted}
 use Rattle.space_laws.proofs.Asked.{all_asked, enters_counted}
@@ -55,7 +55,7 @@ data_behind_super layout = above (layout.cores * layout.slots * slot_blocks layo
 
 module _ (first : TreeState) (history : List Entry) (flushes : List Flush) (cut : Cut) (inodes : ℕ → Bool) (num : Numbering) (layout : Layout)
     (store : ℕ → List ℕ) (parts : ℕ → Part) (entries : List OldEntry) (plan : CommitPlan) (old new : Space) (grant : GrantedNumbers)
-    (ready : IsReady first history flushes cut inodes num layout store parts) (keeps : KeepsEntries num parts entries)
+    (ready : IsBetweenCommits first history flushes cut inodes num layout store parts) (keeps : KeepsEntries num parts entries)
     (mapped : IsMapOf layout entries old) (granted : WasGranted plan old grant new) where
   -- the entry of an inode that a node has
   pub record HasEntry (i : ℕ) : Type 0 where

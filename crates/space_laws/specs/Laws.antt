@@ -13,7 +13,7 @@ use Rattle.disk_change.specs.declared.old.OldEntry.{OldEntry}
 use Rattle.commit_laws.specs.CommitOfPlan.{CommitPlan, ServesPlan}
 use Rattle.flush_core.specs.Closure.{Flush}
 use Rattle.flush_core.specs.Cut.{Cut}
-use Rattle.flush_commits.specs.Ready.{IsReady, KeepsEntries}
+use Rattle.flush_commits.specs.Ready.{IsBetweenCommits, KeepsEntries}
 use Rattle.space_laws.specs.Map.{IsMapOf, WasGranted, WasReturned}
 
 -- A map is right that begins with what nodes have as taken, and with all else free.
@@ -33,7 +33,7 @@ pub record ServesAt (layout : Layout) (parts : ℕ → Part) (plan : CommitPlan)
 abbrev pub GrantsServe : Type 0
 GrantsServe = (first : TreeState) (history : List Entry) (flushes : List Flush) (cut : Cut) (inodes : ℕ → Bool) (num : Numbering) (layout : Layout)
     (store : ℕ → List ℕ) (parts : ℕ → Part) (entries : List OldEntry) (plan : CommitPlan) (old new : Space) (grant : GrantedNumbers)
-    → IsReady first history flushes cut inodes num layout store parts → KeepsEntries num parts entries
+    → IsBetweenCommits first history flushes cut inodes num layout store parts → KeepsEntries num parts entries
     → IsMapOf layout entries old → WasGranted plan old grant new
     → ServesAt layout parts plan grant
 

@@ -12,7 +12,7 @@ use Rattle.stamp_table.specs.declared.view.View.{View}
 use Rattle.stamp_table.specs.Rule.{lock_word, Kept}
 use Rattle.stamp_table.specs.Steps.{MayTake, Gave, Adds}
 use Rattle.stamp_table.specs.Events.{event_core, is_call, told_by, IsLawful, stands_for}
-use Rattle.stamp_table.specs.Table.{TakesCell, GoesHome, MayDrawEntry, AddsEntry, MayTell}
+use Rattle.stamp_table.specs.Table.{TakesCell, GoesHome, MayDrawEntry, AddsEntry, MayTellNow}
 use Rattle.stamp_table.proofs.Taking.{may_take_word, locked_not_0, may_give}
 use Rattle.stamp_table.proofs.Drawing.{may_draw, may_tell}
 
@@ -58,13 +58,13 @@ module _ {C X : Type 0} (lawful : TreeState → List (Event X) → Type 0) (stan
       (record { lives = lives; calls = calls; own = may.own; few = may.few; asks = may.may }) (λ number. refl)
 
   -- the stamp word may stay as a fact is told
-  pub asks_tell : (id : ℕ) (me : Me (Option C) V) (fact : X) → me.0.gone ≡ false → me.0.gathers ≡ false → MayTell lawful stands me.0 fact
+  pub asks_tell : (id : ℕ) (me : Me (Option C) V) (fact : X) → me.0.gone ≡ false → me.0.gathers ≡ false → MayTellNow lawful stands me.0 fact
       → Allows Holds slots id me 0 (λ n. n) (Adds event_core is_call (IsLawful lawful) (stands_for stands) (told_by me.0.core fact) me)
   asks_tell id me fact lives calls may = may_tell event_core is_call (IsLawful lawful) (stands_for stands) first slots id me.0 me.1 (told_by me.0.core fact)
       (record { lives = lives; calls = calls; own = λ number. refl; few = may.few; asks = may.may }) (λ number. refl)
 
   -- the same, of the fact that was picked
-  pub asks_tell_picked : (id : ℕ) (me : Me (Option C) V) (picked : Option X) (fact : X) → me.0.gone ≡ false → me.0.gathers ≡ false → picked ≡ Some fact → MayTell lawful stands me.0 fact
+  pub asks_tell_picked : (id : ℕ) (me : Me (Option C) V) (picked : Option X) (fact : X) → me.0.gone ≡ false → me.0.gathers ≡ false → picked ≡ Some fact → MayTellNow lawful stands me.0 fact
       → Allows Holds slots id me 0 (λ n. n) (λ n m. (x : X) → picked ≡ Some x → Adds event_core is_call (IsLawful lawful) (stands_for stands) (told_by me.0.core x) me n m)
   asks_tell_picked id me picked fact lives calls is may s holds wide at lt = let r = asks_tell id me fact lives calls may s holds wide at lt in
       (r.0, r.1, r.2, r.3, λ x other. let same : fact ≡ x = cc (is, other) in subst (λ (y : X). Adds event_core is_call (IsLawful lawful) (stands_for stands) (told_by me.0.core y) me (get_or s.words 0 0) (r.0, carried_after me.1 r.1)) same r.4)

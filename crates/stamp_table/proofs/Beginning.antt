@@ -12,7 +12,7 @@ use Rattle.stamp_table.specs.Rule.{Kept}
 use Rattle.stamp_table.specs.Steps.{gatherer, one_more, newcomer}
 use Rattle.stamp_table.specs.Events.{event_core, is_call, IsLawful, stands_for}
 use Rattle.stamp_table.specs.Hand.{Hand}
-use Rattle.stamp_table.specs.Table.{IsReady, AreReadyFrom, IsNew, AreNew}
+use Rattle.stamp_table.specs.Table.{IsIdleCore, AreIdleFrom, IsNew, AreNew}
 use Rattle.stamp_table.proofs.Gathering.{may_split, begins}
 
 -- the seat that gathers, once so many cores are made
@@ -26,12 +26,12 @@ all_zero (suc count) zero = refl
 all_zero (suc count) (suc place) = all_zero count place
 
 module _ {C X : Type 0} where
-  pub ready_snoc : (table : TableId) (cores number : ℕ) (hands : List (Hand C X)) (hand : Hand C X) → AreReadyFrom table cores number hands → IsReady table cores (number + length hands) hand → AreReadyFrom table cores number (hands ++ hand ∷ [])
-  ready_snoc table cores number [] hand ready next = (subst (λ n. IsReady table cores n hand) (omega arith) next, tt)
-  ready_snoc table cores number (h ∷ hands) hand ready next = (ready.0, ready_snoc table cores (number + 1) hands hand ready.1 (subst (λ n. IsReady table cores n hand) (omega arith) next))
+  pub ready_snoc : (table : TableId) (cores number : ℕ) (hands : List (Hand C X)) (hand : Hand C X) → AreIdleFrom table cores number hands → IsIdleCore table cores (number + length hands) hand → AreIdleFrom table cores number (hands ++ hand ∷ [])
+  ready_snoc table cores number [] hand ready next = (subst (λ n. IsIdleCore table cores n hand) (omega arith) next, tt)
+  ready_snoc table cores number (h ∷ hands) hand ready next = (ready.0, ready_snoc table cores (number + 1) hands hand ready.1 (subst (λ n. IsIdleCore table cores n hand) (omega arith) next))
 
-  pub ready_next : (table : TableId) (cores : ℕ) (hands : List (Hand C X)) (hand : Hand C X) → AreReadyFrom table cores 0 hands → IsReady table cores (length hands) hand → AreReadyFrom table cores 0 (hands ++ hand ∷ [])
-  ready_next table cores hands hand ready next = ready_snoc table cores 0 hands hand ready (subst (λ n. IsReady table cores n hand) (omega arith) next)
+  pub ready_next : (table : TableId) (cores : ℕ) (hands : List (Hand C X)) (hand : Hand C X) → AreIdleFrom table cores 0 hands → IsIdleCore table cores (length hands) hand → AreIdleFrom table cores 0 (hands ++ hand ∷ [])
+  ready_next table cores hands hand ready next = ready_snoc table cores 0 hands hand ready (subst (λ n. IsIdleCore table cores n hand) (omega arith) next)
 
   pub new_snoc : (first : TreeState) (hands : List (Hand C X)) (hand : Hand C X) → AreNew first hands → IsNew first hand → AreNew first (hands ++ hand ∷ [])
   new_snoc first [] hand new next = (next, tt)

@@ -1,5 +1,5 @@
 -- When a call may come: what is asked, in the words of the tree.
-use Rattle.std.proofs.Common.{◌≡◌, ℕ, suc, ◌<◌, List, [], ◌∷◌, ◌++◌, length, Option, Some, None, sym, refl, ap, subst, arith}
+use Rattle.std.proofs.Common.{◌≡◌, ℕ, suc, ◌<◌, List, [], ◌∷◌, ◌++◌, length, Option, Some, None, sym, refl, ap, ◌∙◌, subst, arith, append-nil}
 use Rattle.std.proofs.lemmas.List.Elements.{filter_map-append}
 use Rattle.sfs_tree.specs.Tree.{TreeState}
 use Rattle.sfs_tree.specs.History.{tree_after, MayCome, IsLegal}
@@ -13,8 +13,8 @@ use Rattle.stamp_table.specs.declared.event.Event.TheVariants.{Called, Told}
 use Rattle.stamp_table.specs.declared.view.View.{View}
 use Rattle.stamp_table.specs.Rule.{Has, stamps_in}
 use Rattle.stamp_table.specs.Steps.{IsPast, MayDraw}
-use Rattle.stamp_table.specs.Events.{event_core, is_call, called, calls_in, IsLawful, stands_for}
-use Rattle.stamp_table.specs.Table.{MayCall, entry_with}
+use Rattle.stamp_table.specs.Events.{event_core, is_call, called, told_by, calls_in, IsLawful, stands_for}
+use Rattle.stamp_table.specs.Table.{MayCall, MayTell, entry_numbered}
 
 module _ {X : Type 0} where
   -- each call drew a stamp, and nothing else did
@@ -57,13 +57,24 @@ module _ {C X : Type 0} (lawful : TreeState → List (Event X) → Type 0) (stan
   -- An fsync of the root may come at any time, answered want of memory, where it changes nothing that stands.
   pub root_may_be_flushed : (v : View TreeState (Event X)) → v.core < length v.first.made → ((log : List (Event X)) → lawful v.first log) → ((log next : List (Event X)) (place : ℕ) (value : C) → stands v.first log place value → stands v.first next place value)
       → MayCall lawful stands v (call.Fsync (record { 0 = 0 })) reply.NoMemory
-  root_may_be_flushed v known told kept log past = may_follow v (entry_with v.core (call.Fsync (record { 0 = 0 })) reply.NoMemory) log past (record {
+  root_may_be_flushed v known told kept log past = may_follow v (entry_numbered v.core (call.Fsync (record { 0 = 0 })) reply.NoMemory) log past (record {
     may_come = record {
       stamped = refl;
       core = let stay = cores_stay v.first (calls_in log) in omega (arith, known, stay);
       due = tt;
       acknowledged = ((λ is. absurd cc), (λ is. absurd cc));
     };
-    told = told (log ++ Called (entry_with v.core (call.Fsync (record { 0 = 0 })) reply.NoMemory (length (calls_in log))) ∷ []);
-    keeps = λ place value not stood. kept log (log ++ Called (entry_with v.core (call.Fsync (record { 0 = 0 })) reply.NoMemory (length (calls_in log))) ∷ []) place value stood;
+    told = told (log ++ Called (entry_numbered v.core (call.Fsync (record { 0 = 0 })) reply.NoMemory (length (calls_in log))) ∷ []);
+    keeps = λ place value not stood. kept log (log ++ Called (entry_numbered v.core (call.Fsync (record { 0 = 0 })) reply.NoMemory (length (calls_in log))) ∷ []) place value stood;
   })
+
+  -- A fact may be told at any time, where no history refuses it, and it changes nothing that stands.
+  pub fact_may_be_told : (v : View TreeState (Event X)) (fact : X) → ((log : List (Event X)) → lawful v.first log) → ((log next : List (Event X)) (place : ℕ) (value : C) → stands v.first log place value → stands v.first next place value)
+      → MayTell lawful stands v fact
+  fact_may_be_told v fact told kept log past =
+      let next : List (Event X) = log ++ told_by v.core fact 0 ∷ [] in
+      let same : calls_in next ≡ calls_in log = filter_map-append called log (told_by v.core fact 0 ∷ []) ∙ append-nil (calls_in log) in
+      record {
+        legal_next = record { legal_calls = subst (λ l. IsLegal v.first l) (sym same) past.legal_log.legal_calls; told = told next };
+        keeps = keeps_slots v log next (λ place value not stood. kept log next place value stood);
+      }

@@ -1,5 +1,5 @@
 -- A table as contracts see it, and what a call asks and tells.
-use Rattle.std.specs.Prelude.{◌≡◌, ℕ, suc, ◌+◌, ◌^◌, ◌<◌, ◌≤◌, ◌==◌, true, false, List, [], ◌∷◌, ◌++◌, Option, Some, None, length, refl, Bool, nat_le, reverse, if◌then◌else◌}
+use Rattle.std.specs.Prelude.{◌≡◌, ℕ, suc, ◌+◌, ◌<◌, ◌≤◌, ◌==◌, true, false, List, [], ◌∷◌, ◌++◌, Option, Some, None, length, refl, Bool, nat_le, reverse, if◌then◌else◌}
 use Rattle.std.specs.List.{find}
 use Rattle.std.specs.Coded.{Coded, code_by, coded×, coded_ℕ}
 use Rattle.atomic_table.specs.Seated.{TableId, table_id_coded}
@@ -13,7 +13,7 @@ use Rattle.stamp_table.specs.declared.event.Event.{Event}
 use Rattle.stamp_table.specs.declared.event.Event.TheVariants.{Called}
 use Rattle.stamp_table.specs.declared.view.View.{View}
 use Rattle.stamp_table.specs.declared.held.HeldCell.{HeldCell}
-use Rattle.stamp_table.specs.Rule.{Has}
+use Rattle.stamp_table.specs.Rule.{Has, MOST_ENTRIES}
 use Rattle.stamp_table.specs.Steps.{tail, SawMore, Took, Drew, Adds, MayDraw, IsPast}
 use Rattle.stamp_table.specs.Events.{event_core, is_call, told_by, IsLawful, stands_for}
 use Rattle.stamp_table.specs.Hand.{Hand}
@@ -34,8 +34,8 @@ table_code =
     }) (λ _. refl)
 
 -- the entry of a core's call with this number: it has no acknowledgement yet
-abbrev pub entry_with : ℕ → Call → Reply → ℕ → Entry
-entry_with core call reply number = record { stamp = record { 0 = number }; core = record { 0 = core }; call = call; reply = reply; ack = None }
+abbrev pub entry_numbered : ℕ → Call → Reply → ℕ → Entry
+entry_numbered core call reply number = record { stamp = record { 0 = number }; core = record { 0 = core }; call = call; reply = reply; ack = None }
 
 module _ {C X : Type 0} where
   -- a core's seat at this table
@@ -115,17 +115,22 @@ module _ {C X : Type 0} (lawful : TreeState → List (Event X) → Type 0) (stan
   -- what is asked of a core's next entry: it is its own, the core has room, and it may come in each history that the core may meet
   pub record MayDrawEntry (v : View TreeState (Event X)) (entry : ℕ → Entry) : Type 0 where
     pub own : (number : ℕ) → (entry number).core.0 ≡ v.core
-    pub few : length v.mine < 2 ^ 50
+    pub few : length v.mine < MOST_ENTRIES
     pub may : (log : List (Event X)) → IsPast event_core is_call (IsLawful lawful) (stands_for stands) v log → MayDraw event_core is_call (IsLawful lawful) (stands_for stands) v (λ number. Called (entry number)) log
 
   -- the seat has drawn a number for an entry
   abbrev pub AddsEntry : (ℕ → Entry) → Me (Option C) (View TreeState (Event X)) → ℕ → Me (Option C) (View TreeState (Event X)) → Type 0
   AddsEntry entry before number after = Adds event_core is_call (IsLawful lawful) (stands_for stands) (λ number. Called (entry number)) before number after
 
-  -- what is asked of a fact that a core tells: the core has room, and the fact may stand in each history that the core may meet
-  pub record MayTell (v : View TreeState (Event X)) (fact : X) : Type 0 where
-    pub few : length v.mine < 2 ^ 50
-    pub may : (log : List (Event X)) → IsPast event_core is_call (IsLawful lawful) (stands_for stands) v log → MayDraw event_core is_call (IsLawful lawful) (stands_for stands) v (told_by v.core fact) log
+  -- a fact that may stand in each history that the core may meet
+  abbrev pub MayTell : View TreeState (Event X) → X → Type 0
+  MayTell view fact = (log : List (Event X)) → IsPast event_core is_call (IsLawful lawful) (stands_for stands) view log
+      → MayDraw event_core is_call (IsLawful lawful) (stands_for stands) view (told_by view.core fact) log
+
+  -- what is asked of a fact that a core tells now: the core has room, and the fact may stand there
+  pub record MayTellNow (view : View TreeState (Event X)) (fact : X) : Type 0 where
+    pub few : length view.mine < MOST_ENTRIES
+    pub may : MayTell view fact
 
   -- a step by which a core tells a fact
   abbrev pub TellsNow : X → Me (Option C) (View TreeState (Event X)) → Me (Option C) (View TreeState (Event X)) → Type 0
@@ -152,26 +157,26 @@ module _ {C X : Type 0} (lawful : TreeState → List (Event X) → Type 0) (stan
   -- a call that may come with this reply, in each history that the core may meet
   abbrev pub MayCall : View TreeState (Event X) → Call → Reply → Type 0
   MayCall view call reply = (log : List (Event X)) → IsPast event_core is_call (IsLawful lawful) (stands_for stands) view log
-      → MayDraw event_core is_call (IsLawful lawful) (stands_for stands) view (λ number. Called (entry_with view.core call reply number)) log
+      → MayDraw event_core is_call (IsLawful lawful) (stands_for stands) view (λ number. Called (entry_numbered view.core call reply number)) log
 
   -- A core has one entry more, which stands at the end of the history that it has seen.
   pub record Stamps (call : Call) (reply : Reply) (before : Hand C X) (number : ℕ) (after : Hand C X) : Type 0 where
     pub frame : record after { view = before.view; spare = before.spare } ≡ before
     pub spare : after.spare + 1 ≡ before.spare
-    pub drew : (log : List (Event X)) × Drew event_core is_call (IsLawful lawful) (stands_for stands) (λ number. Called (entry_with before.view.core call reply number)) before.view number after.view log
+    pub drew : (log : List (Event X)) × Drew event_core is_call (IsLawful lawful) (stands_for stands) (λ number. Called (entry_numbered before.view.core call reply number)) before.view number after.view log
 
 module _ {C X : Type 0} where
   -- a core of a table, by its number, which holds nothing
-  pub record IsReady (table : TableId) (cores number : ℕ) (hand : Hand C X) : Type 0 where
+  pub record IsIdleCore (table : TableId) (cores number : ℕ) (hand : Hand C X) : Type 0 where
     pub table_is : hand.table ≡ table
     pub cores_are : hand.cores ≡ cores
     pub number_is : hand.view.core ≡ number
     pub holds_none : hand.held ≡ []
 
   -- cores from a number on
-  abbrev pub AreReadyFrom : TableId → ℕ → ℕ → List (Hand C X) → Type 0
-  AreReadyFrom table cores number [] = Unit {0}
-  AreReadyFrom table cores number (hand ∷ hands) = IsReady table cores number hand × AreReadyFrom table cores (number + 1) hands
+  abbrev pub AreIdleFrom : TableId → ℕ → ℕ → List (Hand C X) → Type 0
+  AreIdleFrom table cores number [] = Unit {0}
+  AreIdleFrom table cores number (hand ∷ hands) = IsIdleCore table cores number hand × AreIdleFrom table cores (number + 1) hands
 
   -- whether the first core leads
   abbrev pub first_leads : List (Hand C X) → Bool
@@ -182,7 +187,7 @@ module _ {C X : Type 0} where
   pub record AreAllCores (t : TableState) (hands : List (Hand C X)) : Type 0 where
     pub count : length hands ≡ t.cores
     pub leads : first_leads hands ≡ true
-    pub ready : AreReadyFrom t.table t.cores 0 hands
+    pub ready : AreIdleFrom t.table t.cores 0 hands
 
   -- what a core knows as its own
   abbrev pub mine_of : Hand C X → List (Event X)

@@ -8,7 +8,7 @@ ghost use Rattle.std.specs.Mem.Slots.{IsFull};
 ghost use Rattle.stamp_table.specs.Events.{calls_in};
 ghost use Rattle.stamp_table.specs.Steps.{gathered};
 ghost use Rattle.stamp_table.specs.Hand.{Hand, IsLead};
-ghost use Rattle.stamp_table.specs.Table.{AreAllCores, AreReadyFrom, first_leads, mine_of, IsSameSeat};
+ghost use Rattle.stamp_table.specs.Table.{AreAllCores, AreIdleFrom, first_leads, mine_of, IsSameSeat};
 
 use crate::meaning::Gather;
 use crate::shared::CoreSeat;
@@ -60,7 +60,7 @@ fn gather<C: Drop, X, M: Meaning<C, X>>(
 // The seat that gathers, which the first of the cores has.
 fn first_lead<C: Drop, X>(cores: &mut Vec<Core<C, X>>) -> CoreSeat<C, X>
     requires { first_leads cores.old.items ≡ true }
-    ensures ready { (table : TableId) (count : ℕ) → AreReadyFrom table count 0 cores.old.items → AreReadyFrom table count 0 cores.new.items × IsLead table count result }
+    ensures ready { (table : TableId) (count : ℕ) → AreIdleFrom table count 0 cores.old.items → AreIdleFrom table count 0 cores.new.items × IsLead table count result }
     ensures mine { map mine_of cores.new.items ≡ map mine_of cores.old.items }
 {
     cores[0].take_lead()
@@ -74,7 +74,7 @@ fn gather_all<C: Drop, X, M: Meaning<C, X>>(
 ) -> (CoreSeat<C, X>, Vec<Vec<Entry>>)
     requires words { 0 < table.now.shared.table_id.words }
     requires leads { first_leads cores.items ≡ true }
-    requires ready { AreReadyFrom table.now.shared.table_id (length cores.items) 0 cores.items }
+    requires ready { AreIdleFrom table.now.shared.table_id (length cores.items) 0 cores.items }
     requires room { (parts.items ≡ []) × (length cores.items ≤ vec_capacity parts) }
     ensures lead { (result.0.table_id ≡ table.now.shared.table_id) × (result.0.me.0.gathers ≡ true) }
     ensures lists { result.0.me.0.lists ≡ map mine_of cores.items }

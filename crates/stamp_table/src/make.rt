@@ -2,7 +2,7 @@
 ghost use Rattle.std.specs.Prelude.{◌≡◌, ◌<◌, ◌≤◌, ◌^◌, ℕ, [], ◌∷◌, true, false, length, map, replicate, slice_get, Some, IfOk, OnOk};
 ghost use Rattle.stamp_table.specs.Steps.{gatherer, newcomer};
 ghost use Rattle.stamp_table.specs.Hand.{IsLead};
-ghost use Rattle.stamp_table.specs.Table.{AreAllCores, AreReadyFrom, AreNew, IsReady, IsNew, IsBegun};
+ghost use Rattle.stamp_table.specs.Table.{AreAllCores, AreIdleFrom, AreNew, IsIdleCore, IsNew, IsBegun};
 
 use crate::meaning::Make;
 use crate::shared::{CoreSeat, LOCKS};
@@ -20,7 +20,7 @@ impl<C: Drop, X> Core<C, X> {
     fn begin(alloc: Global, seat: CoreSeat<C, X>, number: CoreId, cores: u8) -> Core<C, X>
         requires number { seat.me.0.core ≡ number.0 }
         requires view { IsBegun seat }
-        ensures ready { IsReady seat.table_id cores seat.me.0.core result }
+        ensures ready { IsIdleCore seat.table_id cores seat.me.0.core result }
         ensures view { result.view ≡ seat.me.0 }
         ensures leads { result.leads ≡ false }
     {
@@ -73,7 +73,7 @@ impl<C: Drop, X, M: Meaning<C, X>> Shared<C, X, M> {
         requires words { 0 < table.now.shared.table_id.words }
         requires lead { (lead.old.table_id ≡ table.now.shared.table_id) × (lead.old.me ≡ (gatherer table.now.shared.key, [])) }
         ensures count { IfOk result (λ hands. length hands.items ≡ cores) }
-        ensures ready { IfOk result (λ hands. AreReadyFrom table.now.shared.table_id cores 0 hands.items) }
+        ensures ready { IfOk result (λ hands. AreIdleFrom table.now.shared.table_id cores 0 hands.items) }
         ensures new { IfOk result (λ hands. AreNew table.now.shared.key hands.items) }
         ensures lead { OnOk result (IsLead table.now.shared.table_id cores lead.new) }
     {

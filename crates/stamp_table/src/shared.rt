@@ -3,7 +3,7 @@ ghost use Rattle.std.specs.Prelude.{◌≡◌, ◌<◌, ◌+◌, ◌∷◌, Some
 ghost use Rattle.atomic_table.specs.Table.{rest};
 ghost use Rattle.stamp_table.specs.Rule.{lock_word};
 ghost use Rattle.stamp_table.specs.Steps.{Gave};
-ghost use Rattle.stamp_table.specs.Table.{IsSeatOf, IsSameSeat, TakesCell, GoesHome, MayDrawEntry, AddsEntry, MayTell, TellsNow, entry_with};
+ghost use Rattle.stamp_table.specs.Table.{IsSeatOf, IsSameSeat, TakesCell, GoesHome, MayDrawEntry, AddsEntry, MayTellNow, TellsNow, entry_numbered};
 
 use crate::meaning::{Draw, Drawing, Give, Take, Tell, Telling};
 use crate::{Event, Law, Meaning, View};
@@ -173,10 +173,10 @@ impl<C: Drop, X, M: Meaning<C, X>> Shared<C, X, M> {
         reply: &Reply,
     ) -> u64
         requires seat { IsSeatOf self.now.table seat.old }
-        requires picked { J.entry ≡ entry_with core.0 call.now reply.now }
+        requires picked { J.entry ≡ entry_numbered core.0 call.now reply.now }
         requires entry { MayDrawEntry M.lawful M.stands seat.old.me.0 J.entry }
         ensures same { IsSameSeat seat.old seat.new }
-        ensures adds { AddsEntry M.lawful M.stands (entry_with core.0 call.now reply.now) seat.old.me result seat.new.me }
+        ensures adds { AddsEntry M.lawful M.stands (entry_numbered core.0 call.now reply.now) seat.old.me result seat.new.me }
     {
         let _core = core;
         let _call = call;
@@ -188,7 +188,7 @@ impl<C: Drop, X, M: Meaning<C, X>> Shared<C, X, M> {
     pub(crate) fn tell<J: Telling<X>>(&self, seat: &mut CoreSeat<C, X>, fact: &X)
         requires seat { IsSeatOf self.now.table seat.old }
         requires picked { J.fact ≡ Some fact.now }
-        requires may { MayTell M.lawful M.stands seat.old.me.0 fact.now }
+        requires may { MayTellNow M.lawful M.stands seat.old.me.0 fact.now }
         ensures same { IsSameSeat seat.old seat.new }
         ensures adds { TellsNow M.lawful M.stands fact.now seat.old.me seat.new.me }
     {

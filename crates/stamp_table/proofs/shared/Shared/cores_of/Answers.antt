@@ -1,7 +1,7 @@
 use Rattle.std.proofs.Common.{rules, ◌≡◌, ℕ, ◌<◌, List, length, subst, sym, ap, ◌∙◌}
 use Rattle.atomic_table.specs.Seated.{TableId}
 use Rattle.stamp_table.specs.Hand.{Hand}
-use Rattle.stamp_table.specs.Table.{IsReady, AreReadyFrom, IsNew, AreNew}
+use Rattle.stamp_table.specs.Table.{IsIdleCore, AreIdleFrom, IsNew, AreNew}
 use Rattle.atomic_table.specs.Table.{Splits}
 use Rattle.stamp_table.specs.Rule.{Kept}
 use Rattle.stamp_table.specs.Events.{event_core, is_call, IsLawful, stands_for}
@@ -26,8 +26,8 @@ loop-number-preserved g c =
     let knows : c.split_seat-seat.result.me.0 ≡ newcomer c.loop-number.lead.me.0 = ap (λ m. m.0) split.4 in
     let first_is : c.split_seat-seat.result.me.0.first ≡ c.args.table.now.shared.key = ap (λ v. v.first) knows ∙ ap (λ v. v.first) lead in
     let core_is : c.split_seat-seat.result.me.0.core ≡ c.loop-number.number = ap (λ v. v.core) knows ∙ ap (λ v. v.cores) lead in
-    let ready : IsReady c.args.table.now.shared.table_id c.args.cores (length c.loop-number.hands.items) c.begin.result =
-    subst (λ (z : TableId × ℕ). IsReady z.0 c.args.cores z.1 c.begin.result) (λ i. ((split.3 ∙ inv.table) i, (core_is ∙ sym inv.count) i)) c.begin.ensures.ready in
+    let ready : IsIdleCore c.args.table.now.shared.table_id c.args.cores (length c.loop-number.hands.items) c.begin.result =
+    subst (λ (z : TableId × ℕ). IsIdleCore z.0 c.args.cores z.1 c.begin.result) (λ i. ((split.3 ∙ inv.table) i, (core_is ∙ sym inv.count) i)) c.begin.ensures.ready in
     let new : IsNew c.args.table.now.shared.key c.begin.result = record {
       first_is = ap (λ v. v.first) c.begin.ensures.view ∙ first_is;
       none_seen = ap (λ v. v.seen) c.begin.ensures.view ∙ ap (λ v. v.seen) knows;
@@ -40,6 +40,6 @@ loop-number-preserved g c =
       within = search rules;
       count = search rules;
       room = search rules;
-      ready = subst (λ (hands : List (Hand g.row.C.Denot g.row.X.Denot)). AreReadyFrom c.args.table.now.shared.table_id c.args.cores 0 hands) (sym c.push_reserved.ensures.items) (ready_next c.args.table.now.shared.table_id c.args.cores c.loop-number.hands.items c.begin.result inv.ready ready);
+      ready = subst (λ (hands : List (Hand g.row.C.Denot g.row.X.Denot)). AreIdleFrom c.args.table.now.shared.table_id c.args.cores 0 hands) (sym c.push_reserved.ensures.items) (ready_next c.args.table.now.shared.table_id c.args.cores c.loop-number.hands.items c.begin.result inv.ready ready);
       new = subst (λ (hands : List (Hand g.row.C.Denot g.row.X.Denot)). AreNew c.args.table.now.shared.key hands) (sym c.push_reserved.ensures.items) (new_snoc c.args.table.now.shared.key c.loop-number.hands.items c.begin.result inv.new new);
     }

@@ -1,6 +1,6 @@
 use Rattle.std.proofs.Common.{◌≡◌, ◌≤◌, [], length}
 use Rattle.std.specs.Vec.{vec_capacity}
-use Rattle.stamp_table.specs.Table.{AreReadyFrom, AreNew}
+use Rattle.stamp_table.specs.Table.{AreIdleFrom, AreNew}
 use Rattle.stamp_table.proofs.Beginning.{gatherer_with}
 use Rattle.stamp_table.proofs.shared.Shared.cores_of.Given as goal
 
@@ -11,6 +11,6 @@ invariant-loop-number g l = record {
   within : l.number ≤ l.cores;
   count : length l.hands.items ≡ l.number;
   room : l.cores ≤ vec_capacity l.hands;
-  ready : AreReadyFrom l.table.shared.table_id l.cores 0 l.hands.items;
+  ready : AreIdleFrom l.table.shared.table_id l.cores 0 l.hands.items;
   new : AreNew l.table.shared.key l.hands.items;
 }
