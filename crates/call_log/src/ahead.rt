@@ -15,12 +15,7 @@ use std::alloc::Global;
 /// call. A node that it makes has the number 0 in them, until its reply tells it. A rename of a directory
 /// to another one takes time in proportion to the directories above the latter; every other call takes as
 /// long as its names. Only want of memory refuses it.
-pub fn foresee(
-    alloc: Global,
-    tree: &Tree,
-    stamp: Stamp,
-    call: &Call,
-) -> Result<Changes, NoMemory>
+pub fn foresee(alloc: Global, tree: &Tree, stamp: Stamp, call: &Call) -> Result<Changes, NoMemory>
     requires { IsSound tree.now }
     ensures { IfOk result (λ changes. IsForeseen tree.now stamp.0 call.now changes.items) }
 {
@@ -29,7 +24,10 @@ pub fn foresee(
             one(alloc, added(alloc, stamp, *dir, name, NodeId(0), *kind)?)
         }
         Call::Link { file, dir, name } => {
-            one(alloc, added(alloc, stamp, *dir, name, *file, kind_in(tree, *file))?)
+            one(
+                alloc,
+                added(alloc, stamp, *dir, name, *file, kind_in(tree, *file))?,
+            )
         }
         Call::Unlink { dir, name } | Call::Rmdir { dir, name } => {
             removal(alloc, tree, stamp, *dir, name)
@@ -91,7 +89,10 @@ fn removal(
         None => Ok(Changes::new(alloc)),
         Some(child) => {
             let kind = kind_in(tree, child);
-            one(alloc, removed(alloc, stamp, dir, name, (child, kind), None)?)
+            one(
+                alloc,
+                removed(alloc, stamp, dir, name, (child, kind), None)?,
+            )
         }
     }
 }

@@ -100,7 +100,14 @@ fn replaced_row(
         ≡ log_entry stamp.0 to.entry.0.0 to.entry.1.now there.0 (kind_of tree.now there.0) Removing (other_side to.entry.0.0 from.0) []) }
 {
     let kind = kind_in(tree, there);
-    removed(alloc, stamp, to.0, to.1, (there, kind), other_of(to.0, from))
+    removed(
+        alloc,
+        stamp,
+        to.0,
+        to.1,
+        (there, kind),
+        other_of(to.0, from),
+    )
 }
 
 // The old row.
@@ -116,7 +123,14 @@ fn gone_row(
         ≡ log_entry stamp.0 from.entry.0.0 from.entry.1.now child.0 (kind_of tree.now child.0) Removing (other_side from.entry.0.0 to.0) []) }
 {
     let kind = kind_in(tree, child);
-    removed(alloc, stamp, from.0, from.1, (child, kind), other_of(from.0, to))
+    removed(
+        alloc,
+        stamp,
+        from.0,
+        from.1,
+        (child, kind),
+        other_of(from.0, to),
+    )
 }
 
 // The new row, with the directories above it where a directory comes from another one.

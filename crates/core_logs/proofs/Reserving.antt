@@ -89,7 +89,8 @@ listed_more (one ∷ numbers) last number = ap (λ b. nat_eq one number || b) (l
 trimmed_again : (a b c : CoreLog) (directory below : ℕ) → IsTrimmedLog a directory below b → IsTrimmedLog b directory below c → IsTrimmedLog a directory below c
 trimmed_again a b c directory below (inl one) (inl other) = inl (
   (let x = one.0 in let y = other.0 in grind (arith, x, y)),
-  other.1 ∙ ap (filter (is_from below)) one.1 ∙ twice_kept below below (changes_kept a directory) ∙ ap (λ n. filter (is_from n) (changes_kept a directory)) (max_same below))
+  other.1 ∙ ap (filter (is_from below)) one.1 ∙ twice_kept below below (changes_kept a directory) ∙ ap (λ n. filter (is_from n) (changes_kept a directory)) (max_same below),
+)
   where
     max_same : (n : ℕ) → max n n ≡ n
     max_same n = grind arith
