@@ -48,7 +48,7 @@ one_twice true b both mark below change rest whole is first none same =
     ap (λ (l : List Change). cond (is_from below change) (change ∷ l) l) same ∙ ap (λ t. cond t (change ∷ whole) whole) (sym (first refl ∙ is))
 one_twice false b both mark below change rest whole is first none same = same ∙ sym (cond-false both (change ∷ whole) whole (none refl))
 
-twice_kept : (mark below : ℕ) (changes : List Change) → filter (is_from below) (filter (is_from mark) changes) ≡ filter (is_from (max mark below)) changes
+pub twice_kept : (mark below : ℕ) (changes : List Change) → filter (is_from below) (filter (is_from mark) changes) ≡ filter (is_from (max mark below)) changes
 twice_kept mark below [] = refl
 twice_kept mark below (change ∷ changes) =
     one_twice (is_from mark change) (is_from below change) (is_from (max mark below) change) mark below change (filter (is_from mark) changes) (filter (is_from (max mark below)) changes) refl (both_from change.stamp.0 mark below) (none_from change.stamp.0 mark below) (twice_kept mark below changes)
