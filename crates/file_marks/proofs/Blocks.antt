@@ -1,12 +1,11 @@
 -- What the changes of a span leave of a file's blocks.
-use Rattle.std.proofs.Common.{◌≡◌, ℕ, zero, suc, ◌+◌, ◌*◌, ◌/◌, ◌<◌, ◌≤◌, Bool, true, false, cond, ◌&&◌, List, length, inl, inr, refl, sym, ap, subst, ◌∙◌, arith, nat_eq, nat_lt, nat_le}
-use Rattle.std.specs.Prelude.{slice_index}
+use Rattle.std.proofs.Common.{◌≡◌, ℕ, zero, suc, ◌+◌, ◌*◌, ◌/◌, ◌<◌, ◌≤◌, true, false, cond, ◌&&◌, List, length, inl, inr, refl, sym, ap, subst, ◌∙◌, arith, nat_eq, nat_lt, nat_le}
 use Rattle.std.proofs.lemmas.Bool.{cases_Bool, cases_lt}
 use Rattle.std.proofs.lemmas.Bool.Decides.{nat_tests}
 use Rattle.std.proofs.lemmas.List.{ext_get_or}
 use Rattle.sfs_base.specs.Files.{resized, written}
 use Rattle.sfs_base.proofs.Bytes.{length-resized, length-written}
-use Rattle.mem_files.specs.File.{blocks_of, no_blocks, is_touched, trunc_touches}
+use Rattle.mem_files.specs.File.{blocks_of, no_blocks, is_touched}
 use Rattle.mem_files.specs.Laws.{byte_in}
 use Rattle.mem_files.proofs.Inside.{writes_stay_inside, truncations_stay_inside}
 use Rattle.sfs_tree.specs.declared.history.Entry.{Entry}
@@ -15,7 +14,6 @@ use Rattle.sfs_tree.specs.Effect.{Edit, Puts, Resizes, edited}
 use Rattle.sfs_tree.specs.History.{IsLegal}
 use Rattle.sfs_tree.specs.Laws.{IsSoundTree}
 use Rattle.sfs_tree.specs.Tree.{TreeState}
-use Rattle.image_tree.specs.Stands.{BLOCK_BYTES}
 use Rattle.commit_laws.specs.Rewritten.{bytes_in_block}
 use Rattle.commit_laws.proofs.FilesMade.{byte_in_block, length_block}
 use Rattle.file_marks.specs.Touched.{touched_by, IsTouchedBetween}

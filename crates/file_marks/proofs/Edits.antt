@@ -1,5 +1,5 @@
 -- The changes of a file along a legal history, stamp by stamp.
-use Rattle.std.proofs.Common.{◌≡◌, ℕ, zero, suc, ◌+◌, ◌<◌, ◌≤◌, Bool, true, false, cond, List, [], ◌∷◌, ◌++◌, length, inl, inr, refl, sym, ap, subst, ◌∙◌, arith, nat_eq}
+use Rattle.std.proofs.Common.{◌≡◌, ℕ, zero, suc, ◌+◌, ◌≤◌, true, false, cond, List, [], ◌∷◌, inl, inr, refl, sym, ap, subst, ◌∙◌, arith, nat_eq}
 use Rattle.std.specs.Prelude.{◌⊎◌}
 use Rattle.std.proofs.lemmas.Bool.{eqb-true}
 use Rattle.sfs_base.proofs.BasicNumbers.{zero_plus, plus_zero, suc_plus}
@@ -98,11 +98,11 @@ module _ (first : TreeState) (history : List Entry) (is : IsSoundTree first) (le
       by (Moves p n q m c) e = inl (next (Moves p n q m c) e)
       by (Edits file edit) e = elim (nat_eq file node) as (λ b. nat_eq file node ≡ b → (bytes_at first history node (suc k) ≡ bytes_at first history node k) ⊎ IsEditAt first history node k) [
         | true ↦ λ same. inr (record {
-            change = record { stamp = k; file = file; edit = edit };
-            among = edit_in first history k (record { stamp = k; file = file; edit = edit }) legal (subst (λ o. IsOneOf (edits_by k o) (record { stamp = k; file = file; edit = edit })) (sym e) (inl refl));
-            own = eqb-true file node same;
-            stamp = refl;
-            makes = next (Edits file edit) e ∙ ap (λ b. cond b (edited edit (bytes_at first history node k)) (bytes_at first history node k)) same;
-          })
+          change = record { stamp = k; file = file; edit = edit };
+          among = edit_in first history k (record { stamp = k; file = file; edit = edit }) legal (subst (λ o. IsOneOf (edits_by k o) (record { stamp = k; file = file; edit = edit })) (sym e) (inl refl));
+          own = eqb-true file node same;
+          stamp = refl;
+          makes = next (Edits file edit) e ∙ ap (λ b. cond b (edited edit (bytes_at first history node k)) (bytes_at first history node k)) same;
+        })
         | false ↦ λ other. inl (next (Edits file edit) e ∙ ap (λ b. cond b (edited edit (bytes_at first history node k)) (bytes_at first history node k)) other)
       ] refl

@@ -1,18 +1,17 @@
 -- No file of the tree of an image has more bytes than a file may have.
-use Rattle.std.proofs.Common.{◌≡◌, ℕ, ◌*◌, ◌<◌, ◌≤◌, Bool, true, false, cond, List, [], length, Option, Some, None, inl, inr, refl, sym, ap, subst, ◌∙◌, arith}
+use Rattle.std.proofs.Common.{◌≡◌, ℕ, ◌*◌, ◌<◌, ◌≤◌, Bool, true, false, cond, List, [], length, Option, Some, None, inl, inr, refl, sym, subst, arith}
 use Rattle.std.specs.Prelude.{is_none}
-use Rattle.std.specs.FinMap.{get}
 use Rattle.std.specs.Option.{option_map_or}
 use Rattle.std.proofs.lemmas.Bool.{cases_lt}
 use Rattle.sfs_base.proofs.BasicOptions.{none_some, some_same}
-use Rattle.sfs_image.specs.Part.{Part, inode_in, is_file_part, file_byte, shown_bytes, tabulate}
+use Rattle.sfs_image.specs.Part.{Part, inode_in, is_file_part, file_byte, tabulate}
 use Rattle.sfs_image.specs.Seen.{SeenInodes, FILE_BLOCKS}
 use Rattle.sfs_image.specs.Settled.{SlotFault, layout_of, parts_of, super_fault_of, journal_fault_of}
 use Rattle.sfs_image.proofs.Basics.{length-tabulate}
 use Rattle.sfs_image.proofs.RuleFacts.{sizes_say}
-use Rattle.sfs_tree.specs.Tree.{TreeState, Node, bytes_of}
-use Rattle.image_tree.specs.Image.{image_inodes, breaks_bytes_of, ImageFault, first_of_faults, fault_of, making_at_mount, tree_of}
-use Rattle.image_tree.specs.ImageTree.{is_node, node_shown, nodes_where, image_tree}
+use Rattle.sfs_tree.specs.Tree.{Node}
+use Rattle.image_tree.specs.Image.{image_inodes, breaks_bytes_of, ImageFault, first_of_faults, fault_of, making_at_mount}
+use Rattle.image_tree.specs.ImageTree.{is_node, node_shown, image_tree}
 use Rattle.image_tree.specs.Rules.{TreeFault, tree_fault, breaks_rule}
 use Rattle.image_tree.proofs.Faults.{no_break}
 use Rattle.image_tree.proofs.Images.{get_node, no_node_outside}

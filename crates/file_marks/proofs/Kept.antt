@@ -5,34 +5,31 @@ use Rattle.std.specs.FinMap.{get}
 use Rattle.std.specs.Option.{option_map_or}
 use Rattle.std.proofs.lemmas.Bool.{cases_Bool, cases_lt}
 use Rattle.std.proofs.lemmas.Bool.Decides.{nat_tests}
-use Rattle.std.proofs.lemmas.List.{append_assoc}
 use Rattle.sfs_base.specs.declared.numbers.Kind.{Kind}
 use Rattle.sfs_base.specs.declared.numbers.Stamp.{Stamp}
 use Rattle.sfs_base.proofs.BasicNumbers.{same_number, zero_plus}
 use Rattle.sfs_base.proofs.BasicOptions.{none_not_some}
-use Rattle.sfs_base.proofs.BasicTruth.{not_both, false_not_true, true_not_false}
+use Rattle.sfs_base.proofs.BasicTruth.{not_both, false_not_true}
 use Rattle.mem_files.specs.File.{File, mark_of, is_touched}
 use Rattle.sfs_tree.specs.declared.history.Entry.{Entry}
-use Rattle.sfs_tree.specs.Changes.{FileChange, edits_by, edits_of, bytes_at}
+use Rattle.sfs_tree.specs.Changes.{edits_by, edits_of, bytes_at}
 use Rattle.sfs_tree.specs.Effect.{Effect, Stays, Adds, Removes, Moves, Edits, Edit, edited}
-use Rattle.sfs_tree.specs.Fits.{Fits, FitsEdits, FitsMakes}
-use Rattle.sfs_tree.specs.History.{tree_after, tree_after_entry, IsLegalFrom, IsLegal}
+use Rattle.sfs_tree.specs.Fits.{Fits}
+use Rattle.sfs_tree.specs.History.{tree_after, tree_after_entry, IsLegal}
 use Rattle.sfs_tree.specs.Laws.{IsSoundTree}
 use Rattle.sfs_tree.specs.Parts.{bytes_after}
-use Rattle.sfs_tree.specs.Tree.{TreeState, Node, bytes_of}
-use Rattle.sfs_tree.specs.Verdict.{verdict}
+use Rattle.sfs_tree.specs.Tree.{TreeState, Node}
 use Rattle.fsync_file.specs.Touched.{is_marked_from}
 use Rattle.flush_core.specs.Rules.{IsOneOf}
 use Rattle.flush_core.proofs.Along.{tree_at, core_at, effect_at, makes_at, fits_at, next_at}
 use Rattle.flush_core.proofs.Basics.{in_left, in_either}
 use Rattle.flush_core.proofs.Nodes.{node_stays}
-use Rattle.cut_trees.specs.Next.{IsMountedHistory}
 use Rattle.commit_turns.proofs.LongerEdits.{edits_joined, legal_rest, bytes_longer}
 use Rattle.file_marks.specs.FileAt.{IsFileAt, IsMarkedEdit}
 use Rattle.file_marks.specs.Laws.{IsUnmarked, verdict_behind, FilesBegin, NewFilesBegin, LongerHistoriesKeepFiles, EditsKeepFiles, OthersKeepFiles}
 use Rattle.file_marks.specs.Touched.{touched_by, IsTouchedBetween}
 use Rattle.file_marks.proofs.Blocks.{longer}
-use Rattle.file_marks.proofs.Edits.{edit_is, edit_in, edit_at, edits_from, bytes_in_tree, next_bytes}
+use Rattle.file_marks.proofs.Edits.{edit_in, edit_at, edits_from, bytes_in_tree, next_bytes}
 
 -- no block of a file without marks is marked
 unmarked : (file : File) → IsUnmarked file → (from block : ℕ) → is_marked_from from file block ≡ true → ⊥
@@ -121,8 +118,9 @@ module _ (first : TreeState) (history : List Entry) (is : IsSoundTree first) (le
     file_stays = record {
       bytes = sym (next_bytes first history is legal node k ∙ ap (bytes_after (effect_at first history k) node) (sym at.bytes) ∙ bytes_stay (effect_at first history k) refl);
       marks = λ from block. (
-          (λ marked. longer first history is legal node from block k ((at.marks from block).0 marked)),
-          (λ touched. (at.marks from block).1 (touched_earlier from block touched (λ same. other touched.change.edit (happens from block touched same)))));
+        (λ marked. longer first history is legal node from block k ((at.marks from block).0 marked)),
+        (λ touched. (at.marks from block).1 (touched_earlier from block touched (λ same. other touched.change.edit (happens from block touched same)))),
+      );
     }
 
   module _ (edit : Edit) (stamp : Stamp) (after : File) (does : effect_at first history k ≡ Edits node edit) (stamped : stamp.0 ≡ k) (marked : IsMarkedEdit edit stamp file after) where
@@ -166,11 +164,13 @@ module _ (first : TreeState) (history : List Entry) (is : IsSoundTree first) (le
 
     marks_edited : (from block : ℕ) (b : Bool) → is_touched (touched_by edit (length file.bytes)) block ≡ b → (is_marked_from from after block ≡ true) ↔ IsTouchedBetween first history node from (suc k) block
     marks_edited from block true touches = (
-        (λ test. touched_now from block touches (sym (test_is from block true touches) ∙ test)),
-        (λ t. test_is from block true touches ∙ (let since = t.since in let below = t.below in grind (arith, nat_tests))))
+      (λ test. touched_now from block touches (sym (test_is from block true touches) ∙ test)),
+      (λ t. test_is from block true touches ∙ (let since = t.since in let below = t.below in grind (arith, nat_tests))),
+    )
     marks_edited from block false none = (
-        (λ test. longer first history is legal node from block k ((at.marks from block).0 (sym (test_is from block false none) ∙ test))),
-        (λ t. test_is from block false none ∙ (at.marks from block).1 (touched_earlier from block t (λ same. not_both (same_edit from block t same) none))))
+      (λ test. longer first history is legal node from block k ((at.marks from block).0 (sym (test_is from block false none) ∙ test))),
+      (λ t. test_is from block false none ∙ (at.marks from block).1 (touched_earlier from block t (λ same. not_both (same_edit from block t same) none))),
+    )
 
     pub file_edited : IsFileAt first history node (suc k) after
     file_edited = record {
@@ -202,9 +202,9 @@ module _ (first : TreeState) (history : List Entry) (is : IsSoundTree first) (le
     fresh : get (tree_at first history k).nodes node ≡ None
     fresh =
         let there : Fits (tree_at first history k) (core_at first history k) (Adds directory name node) (makes_at first history k) =
-            subst (λ o. Fits (tree_at first history k) (core_at first history k) o (makes_at first history k)) adds (fits_at first history 0 k is legal) in
+        subst (λ o. Fits (tree_at first history k) (core_at first history k) o (makes_at first history k)) adds (fits_at first history 0 k is legal) in
         let fits : Fits (tree_at first history k) (core_at first history k) (Adds directory name node) (Some kind) =
-            subst (λ m. Fits (tree_at first history k) (core_at first history k) (Adds directory name node) m) makes there in
+        subst (λ m. Fits (tree_at first history k) (core_at first history k) (Adds directory name node) m) makes there in
         fits.fresh
 
     never_touched : (from block : ℕ) → IsTouchedBetween first history node from k block → ⊥
@@ -215,9 +215,9 @@ module _ (first : TreeState) (history : List Entry) (is : IsSoundTree first) (le
 
     made_file : (file : File) → file.bytes ≡ [] → IsUnmarked file → IsFileAt first history node (suc k) file
     made_file file empty none = file_stays first history is legal node k file (record {
-        bytes = empty ∙ sym (bytes_in_tree first history is legal node k ∙ ap (λ (o : Option Node). option_map_or (λ (n : Node). n.bytes) o []) fresh);
-        marks = λ from block. ((λ marked. absurd (unmarked file none from block marked)), (λ touched. absurd (never_touched from block touched)));
-      }) (λ edit does. differ edit (sym adds ∙ does))
+      bytes = empty ∙ sym (bytes_in_tree first history is legal node k ∙ ap (λ (o : Option Node). option_map_or (λ (n : Node). n.bytes) o []) fresh);
+      marks = λ from block. ((λ marked. absurd (unmarked file none from block marked)), (λ touched. absurd (never_touched from block touched)));
+    }) (λ edit does. differ edit (sym adds ∙ does))
       where
         differ : (edit : Edit) → Adds directory name node ≡ Edits node edit → ⊥
         differ edit q = cc

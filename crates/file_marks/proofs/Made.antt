@@ -1,35 +1,24 @@
 -- The change of a file by its marks leads from its bytes at one stamp to those at a later one.
-use Rattle.std.proofs.Common.{◌≡◌, ℕ, ◌+◌, ◌*◌, ◌<◌, ◌≤◌, Bool, true, false, cond, List, length, map, filter, get_or, Option, Some, None, is_some, inl, inr, refl, sym, ap, subst, ◌∙◌, arith, Contains}
-use Rattle.std.specs.Prelude.{nat_le, slice_index_or}
+use Rattle.std.proofs.Common.{◌≡◌, ℕ, ◌+◌, ◌<◌, true, false, List, length, filter, get_or, Option, None, is_some, inl, inr, sym, ap, subst, ◌∙◌, arith, Contains}
+use Rattle.std.specs.Prelude.{nat_le}
 use Rattle.std.specs.List.{range_with_len}
 use Rattle.std.specs.Option.{option_map_or}
-use Rattle.std.proofs.lemmas.Bool.{cases_Bool, cases_lt}
+use Rattle.std.proofs.lemmas.Bool.{cases_lt}
 use Rattle.std.proofs.lemmas.List.{get_or-map, length-map, get_or_past}
 use Rattle.std.proofs.lemmas.List.FromFn.{get_or-range_with_len, length-range_with_len}
 use Rattle.std.proofs.lemmas.List.Kept.{AllPairs-filter}
-use Rattle.sfs_base.specs.declared.numbers.NodeId.{NodeId}
 use Rattle.sfs_base.specs.declared.numbers.Stamp.{Stamp}
 use Rattle.sfs_base.proofs.BasicTruth.{not_both, true_not_false}
-use Rattle.mem_files.specs.File.{File, mark_of, room}
-use Rattle.sfs_image.specs.Seen.{FILE_BLOCKS}
-use Rattle.sfs_tree.specs.declared.history.Entry.{Entry}
-use Rattle.sfs_tree.specs.Changes.{bytes_at}
-use Rattle.sfs_tree.specs.Tree.{TreeState}
-use Rattle.image_tree.specs.Stands.{BLOCK_BYTES}
+use Rattle.mem_files.specs.File.{File, room}
 use Rattle.disk_change.specs.Lists.{AscendBy, item_with}
 use Rattle.disk_change.specs.Pages.{page_block}
-use Rattle.disk_change.specs.declared.files.FileChange.{FileChange}
 use Rattle.disk_change.specs.declared.pages.Page.{Page}
 use Rattle.commit_laws.specs.Rewritten.{bytes_in_block}
 use Rattle.commit_laws.proofs.KnownDirectories.{own_item}
 use Rattle.commit_laws.proofs.OwnInodes.{mapped_is_in}
 use Rattle.commit_laws.proofs.SeatsOfPlan.{in_mapped, in_kept}
-use Rattle.fsync_file.specs.Touched.{page_of, is_marked_from, pages_from, IsFileChange}
-use Rattle.cut_trees.specs.Next.{IsMountedHistory}
-use Rattle.file_marks.specs.Changed.{HasShortFiles, ChangesFile}
-use Rattle.file_marks.specs.FileAt.{IsFileAt}
+use Rattle.fsync_file.specs.Touched.{page_of, is_marked_from, pages_from}
 use Rattle.file_marks.specs.Laws.{MarksMakeFiles}
-use Rattle.file_marks.specs.Touched.{IsTouchedBetween}
 use Rattle.file_marks.proofs.Blocks.{untouched_stays, end_is_touched}
 use Rattle.file_marks.proofs.Short.{files_stay_short}
 
@@ -53,7 +42,7 @@ module _ (from : ℕ) (file : File) where
 
   pages_ascend : AscendBy page_block (pages_from from file)
   pages_ascend i j d lt within =
-      let long = length-map (page_of file.bytes) blocks in
+      let long = length-map blocks (page_of file.bytes) in
       let first = get_or-map (page_of file.bytes) blocks i 0 d (omega (arith, lt, within, long)) in
       let later = get_or-map (page_of file.bytes) blocks j 0 d (omega (arith, within, long)) in
       let below = AllPairs-filter (λ (a b : ℕ). a < b) (is_marked_from from file) (range_with_len 0 (room file)) (blocks_ascend (room file)) i j 0 lt (omega (arith, within, long)) in

@@ -1,5 +1,5 @@
 -- When a file in memory is that of a history, and what an edit makes of it.
-use Rattle.std.specs.Prelude.{◌≡◌, ◌↔◌, ℕ, true, List, length, Option, Some, if◌then◌else◌}
+use Rattle.std.specs.Prelude.{◌≡◌, ◌↔◌, ℕ, true, List, length, Some, if◌then◌else◌}
 use Rattle.sfs_base.specs.declared.numbers.Stamp.{Stamp}
 use Rattle.mem_files.specs.File.{File, mark_of, is_touched}
 use Rattle.sfs_tree.specs.declared.history.Entry.{Entry}

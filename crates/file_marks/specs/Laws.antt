@@ -6,7 +6,7 @@ use Rattle.mem_files.specs.File.{File, mark_of}
 use Rattle.sfs_image.specs.Seen.{FILE_BLOCKS}
 use Rattle.sfs_tree.specs.declared.history.Entry.{Entry}
 use Rattle.sfs_tree.specs.Changes.{bytes_at}
-use Rattle.sfs_tree.specs.Effect.{Effect, Adds, Edits, Edit}
+use Rattle.sfs_tree.specs.Effect.{Adds, Edits, Edit}
 use Rattle.sfs_tree.specs.History.{tree_after}
 use Rattle.sfs_tree.specs.Tree.{TreeState, bytes_of}
 use Rattle.sfs_tree.specs.Verdict.{Verdict, verdict}
