@@ -47,7 +47,8 @@ FilesBegin = (first : TreeState) (node : ℕ) (file : File) → file.bytes ≡ b
 
 -- A file without bytes and marks is that of a node that an entry makes, at the stamp behind it.
 abbrev pub NewFilesBegin : Type 0
-NewFilesBegin = (first : TreeState) (history : List Entry) (entry : Entry) (rest : List Entry) (directory : ℕ) (name : List ℕ) (node : ℕ) (kind : Kind) (file : File)
+NewFilesBegin = (first : TreeState) (history : List Entry) (entry : Entry) (rest : List Entry) (directory : ℕ) (name : List ℕ) (node : ℕ) (kind : Kind)
+    (file : File)
     → IsMountedHistory first (history ++ entry ∷ rest) → (verdict_behind first history entry).effect ≡ Adds directory name node
     → (verdict_behind first history entry).makes ≡ Some kind → file.bytes ≡ [] → IsUnmarked file
     → IsFileAt first (history ++ entry ∷ rest) node (suc (length history)) file

@@ -1,35 +1,32 @@
 -- A map of free space is right once a commit is durable and its grant has ended.
-use Rattle.std.proofs.Common.{◌≡◌, ◌≢◌, ℕ, zero, suc, ◌+◌, ◌<◌, ◌≤◌, Bool, true, false, cond, not, ◌||◌, List, [], ◌∷◌, ◌++◌, length, map, filter_map, Option, Some, None, option_map, inl, inr, refl, sym, ap, subst, ◌∙◌, take, sum_by, arith, nat_eq, Contains}
+use Rattle.std.proofs.Common.{◌≡◌, ◌≢◌, ℕ, ◌<◌, Bool, true, false, cond, not, List, map, Option, Some, None, inl, inr, refl, sym, ap, subst, ◌∙◌, take, sum_by, Contains}
 use Rattle.std.specs.Prelude.{◌⊎◌, slice_get}
 use Rattle.std.proofs.lemmas.Option.{slice_get_within}
 use Rattle.std.proofs.lemmas.Bool.{cases_Bool}
 use Rattle.std.proofs.lemmas.List.Elements.{Contains-append_left, Contains-get_or}
 use Rattle.sfs_base.specs.Listed.{is_listed}
-use Rattle.sfs_base.proofs.BasicOptions.{none_some, some_not_none, some_same}
+use Rattle.sfs_base.proofs.BasicOptions.{none_some, some_same}
 use Rattle.sfs_base.proofs.BasicTruth.{true_not_false, not_true}
 use Rattle.sfs_image.specs.Part.{Part}
-use Rattle.sfs_image.specs.Seen.{SeenInodes, PLACES, FILE_BLOCKS}
+use Rattle.sfs_image.specs.Seen.{SeenInodes, PLACES}
 use Rattle.sfs_image.specs.Super.{Layout, data_start}
 use Rattle.sfs_tree.specs.declared.history.Entry.{Entry}
 use Rattle.sfs_tree.specs.Tree.{TreeState}
 use Rattle.fmt_journal.specs.declared.tx.Tx.{Tx}
 use Rattle.image_tree.specs.Image.{inodes_shown}
-use Rattle.image_tree.specs.Numbers.{grant_for}
 use Rattle.image_tree.specs.Renamed.{Numbering}
 use Rattle.image_tree.proofs.Numbers.{granted}
 use Rattle.block_map.specs.Kept.{pointer_kept}
 use Rattle.block_map.specs.Remap.{gives_up, fresh_for, pointer_remapped}
-use Rattle.block_map.specs.RemapLaws.{IsHeld}
 use Rattle.block_map.proofs.Left.{remapped_pointers_stand}
 use Rattle.space_map.specs.Space.{Space, GrantedNumbers}
-use Rattle.disk_change.specs.AllBuilt.{numbers_with, built_by, nodes_with_grant, entry_after, after_commit}
+use Rattle.disk_change.specs.AllBuilt.{numbers_with, built_by, nodes_with_grant, entry_after}
 use Rattle.disk_change.specs.Built.{Built, rewrite_in}
 use Rattle.disk_change.specs.Directory.{is_among}
-use Rattle.disk_change.specs.GivenUp.{IsLeftByGone, IsLeftBySeat, entry_number}
+use Rattle.disk_change.specs.GivenUp.{IsLeftByGone, entry_number}
 use Rattle.disk_change.specs.Nodes.{entry_node, enter_node}
 use Rattle.disk_change.specs.Planned.{Planned, leaves, staying, seated_old, seated_entering, blocks_taken}
 use Rattle.disk_change.specs.Seated.{Seated, begun_old, begun_entering}
-use Rattle.disk_change.specs.declared.enter.Enter.{Enter}
 use Rattle.disk_change.specs.declared.old.OldEntry.{OldEntry}
 use Rattle.commit_laws.specs.CommitOfPlan.{CommitPlan, change_planned, numbers_planned, IsCommitPlan}
 use Rattle.commit_laws.specs.NumbersGiven.{node_leaves}
@@ -40,7 +37,7 @@ use Rattle.commit_laws.proofs.CommitMade.{some_there}
 use Rattle.commit_laws.proofs.CommitOfPlan.{begun_pointers, no_pointers}
 use Rattle.commit_laws.proofs.NumbersGiven.{kept_in}
 use Rattle.commit_laws.proofs.OwnInodes.{mapped_is_in, ascending_is_in}
-use Rattle.commit_laws.proofs.PlanShown.{IsBuiltNode, node_built, plans_keep_shown}
+use Rattle.commit_laws.proofs.PlanShown.{IsBuiltNode, node_built}
 use Rattle.commit_laws.proofs.Ranked.{nodes_are_built_by_rank}
 use Rattle.commit_laws.proofs.SeatsOfPlan.{there_is_in, in_is_there, in_mapped, in_kept, in_is_among, among_is_in, ascending_once, after_had, after_none, seat_comes}
 use Rattle.flush_core.specs.Closure.{Flush}
@@ -49,9 +46,9 @@ use Rattle.flush_commits.specs.Laws.{AreEntriesAfter}
 use Rattle.flush_commits.specs.Planned.{IsPlannedFsync}
 use Rattle.flush_commits.specs.Ready.{KeepsEntries}
 use Rattle.flush_commits.proofs.Clean.{over_parts}
-use Rattle.flush_commits.proofs.Later.{built_is_kept, kept_number, entries_after}
+use Rattle.flush_commits.proofs.Later.{built_is_kept, entries_after}
 use Rattle.space_laws.specs.Laws.{CommitsKeepMaps}
-use Rattle.space_laws.specs.Map.{IsMapOf, WasUsed}
+use Rattle.space_laws.specs.Map.{WasUsed}
 use Rattle.space_laws.proofs.Ended.{HoldsLater, ends_right}
 use Rattle.space_laws.proofs.Holders.{pointer_in, after_place, place_stays, fresh_is_granted, same_number, stands_apart}
 use Rattle.space_laws.proofs.Used.{block_is_used, grant_at}
@@ -161,8 +158,9 @@ module _ (first : TreeState) (history : List Entry) (flushes : List Flush) (cut 
   block_kept_of : (block : ℕ) → IsLeftByGone later block → Contains grant.blocks block ⊎ (held block × (Contains freed block → ⊥))
   block_kept_of block holder = elim ((those.each holder.entry).0 holder.one) [
     | inr (there, aside) ↦ inr (
-        record { entry = holder.entry; one = there; held = holder.held },
-        aside_not_freed holder.entry holder.held.place block there aside holder.held.within holder.held.some holder.held.stands)
+      record { entry = holder.entry; one = there; held = holder.held },
+      aside_not_freed holder.entry holder.held.place block there aside holder.held.within holder.held.some holder.held.stands,
+    )
     | inl made_of ↦
         let one = mapped_is_in entry_after (nodes_with_grant change grant) holder.entry (ascending_is_in entry_node (map entry_after (nodes_with_grant change grant)) holder.entry made_of) in
         by_node one.0 (node_built num nodes old_tree new_tree image plan grant over.full one.0 one.1) (ap (λ (e : OldEntry). pointer_in e holder.held.place) one.2 ∙ holder.held.stands)
@@ -171,17 +169,18 @@ module _ (first : TreeState) (history : List Entry) (flushes : List Flush) (cut 
       by_node : (one : Built) → IsBuiltNode num nodes old_tree new_tree image plan grant over.full one → pointer_kept one.meta one.tables holder.held.place ≡ block → Contains grant.blocks block ⊎ (held block × (Contains freed block → ⊥))
       by_node one node stands = elim (after_place (rewrite_in node.seat) (fresh_for (rewrite_in node.seat) (fresh_cut change.seats grant.blocks node.m node.seat)) holder.held.place block holder.held.some
           (sym (built_pointer one node.m node.seat holder.held.place node.is holder.held.within) ∙ stands)) [
-        | inl fresh ↦ inl (fresh_is_granted (rewrite_in node.seat) (blocks_taken node.seat) (sum_by blocks_taken (take node.m change.seats)) grant.blocks holder.held.place block holder.held.some fresh)
-        | inr (stood, keeps) ↦
-            let from = comes_from node.seat (there_is_in change.seats node.m node.seat node.at) block holder.held.place holder.held.some stood in
-            inr (
-              record {
-                entry = from.entry;
-                one = (planned_entry from.entry (staying_entry from.entry from.stays).0).0;
-                held = record { some = holder.held.some; place = holder.held.place; within = holder.held.within; stands = from.stands };
-              },
-              stays_not_freed node.seat holder.held.place block from holder.held.within holder.held.some keeps)
-      ]
+            | inl fresh ↦ inl (fresh_is_granted (rewrite_in node.seat) (blocks_taken node.seat) (sum_by blocks_taken (take node.m change.seats)) grant.blocks holder.held.place block holder.held.some fresh)
+            | inr (stood, keeps) ↦
+                let from = comes_from node.seat (there_is_in change.seats node.m node.seat node.at) block holder.held.place holder.held.some stood in
+                inr (
+                  record {
+                    entry = from.entry;
+                    one = (planned_entry from.entry (staying_entry from.entry from.stays).0).0;
+                    held = record { some = holder.held.some; place = holder.held.place; within = holder.held.within; stands = from.stands };
+                  },
+                  stays_not_freed node.seat holder.held.place block from holder.held.within holder.held.some keeps,
+                )
+          ]
 
   -- what was held and is not freed is held later
   block_still : (block : ℕ) → held block → (Contains freed block → ⊥) → IsLeftByGone later block

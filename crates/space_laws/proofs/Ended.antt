@@ -1,6 +1,5 @@
 -- A row of numbers in which a grant has ended.
-use Rattle.std.proofs.Common.{◌≡◌, ℕ, ◌<◌, ◌≤◌, Bool, true, false, cond, List, Option, Some, None, option_map, inl, inr, refl, sym, ap, ◌∙◌}
-use Rattle.std.proofs.lemmas.Bool.{cases_Bool}
+use Rattle.std.proofs.Common.{◌≡◌, ℕ, Bool, true, false, cond, List, Option, Some, None, option_map, refl, sym, ap, ◌∙◌}
 use Rattle.sfs_base.proofs.BasicOptions.{none_some, some_same}
 use Rattle.sfs_base.specs.Listed.{is_listed}
 use Rattle.space_map.specs.Pool.{Pool, status_of, released, Ends}

@@ -1,12 +1,11 @@
 -- What the plan of an fsync builds of directories can stand in slots.
-use Rattle.std.proofs.Common.{◌≡◌, ℕ, zero, suc, ◌+◌, ◌-◌, ◌*◌, ◌<◌, Bool, true, false, cond, not, List, [], ◌∷◌, length, map, drop, fold, Option, Some, None, is_none, inl, inr, refl, sym, ap, subst, ◌∙◌, arith, nat_eq, Contains}
-use Rattle.std.specs.Prelude.{◌⊎◌, ◌^◌, slice_get, slice_index}
+use Rattle.std.proofs.Common.{◌≡◌, ℕ, zero, suc, ◌+◌, ◌-◌, ◌*◌, ◌<◌, Bool, true, false, cond, not, List, [], ◌∷◌, length, map, drop, Option, Some, None, is_none, inl, inr, refl, sym, ap, subst, ◌∙◌, arith, nat_eq, Contains}
+use Rattle.std.specs.Prelude.{◌⊎◌, ◌^◌, slice_index}
 use Rattle.std.specs.List.{position, range_with_len, AllByRecursion}
 use Rattle.std.specs.Option.{option_map_or, unwrap_or}
-use Rattle.std.specs.Ordering.{nat_cmp, is_eq}
 use Rattle.std.proofs.lemmas.Bool.{cond-true, cond-false, cases_Bool, eq-eqb, eqb-true}
 use Rattle.std.proofs.lemmas.List.{get_or-take, get_or-drop}
-use Rattle.std.proofs.lemmas.List.Elements.{All-contains, Contains-append_cases}
+use Rattle.std.proofs.lemmas.List.Elements.{All-contains, Contains-append_left, Contains-append_right, Contains-append_cases}
 use Rattle.std.proofs.lemmas.List.FromFn.{get_or-range_with_len, length-range_with_len}
 use Rattle.std.proofs.lemmas.Option.{slice_get_within, get_or_from_slice_get}
 use Rattle.sfs_base.specs.Name.{name_fault}
@@ -15,6 +14,7 @@ use Rattle.sfs_base.specs.declared.name.NameFault.TheVariants.{Empty, TooLong, B
 use Rattle.sfs_base.specs.declared.numbers.Kind.{Kind}
 use Rattle.sfs_base.specs.declared.numbers.Kind.TheVariants.{File, Directory}
 use Rattle.sfs_base.proofs.BasicOptions.{none_some, some_same}
+use Rattle.sfs_base.proofs.BasicTruth.{true_not_false}
 use Rattle.sfs_image.specs.Bytes.{part, nonzero_in, is_nonzero, fault_at}
 use Rattle.sfs_image.specs.Part.{Part, inode_in, is_directory_part, directory_blocks, seen_of}
 use Rattle.sfs_image.specs.Seen.{SeenInodes}
@@ -35,38 +35,35 @@ use Rattle.block_map.specs.Kept.{Kept, kept_of, kept_slots}
 use Rattle.space_map.specs.Space.{GrantedNumbers}
 use Rattle.disk_change.specs.AllBuilt.{numbers_with, built_by, nodes_with_grant}
 use Rattle.disk_change.specs.Built.{Built}
-use Rattle.disk_change.specs.Directory.{slot_blocks_after}
+use Rattle.disk_change.specs.Directory.{is_among, slot_blocks_after}
 use Rattle.disk_change.specs.Lists.{item_with}
-use Rattle.disk_change.specs.Nodes.{net_node}
-use Rattle.disk_change.specs.Numbered.{number_given, grant_left, numbers_given, block_numbered}
+use Rattle.disk_change.specs.Nodes.{entry_node, enter_node, net_node}
+use Rattle.disk_change.specs.Numbered.{block_numbered}
 use Rattle.disk_change.specs.Planned.{Planned, staying, leaves, seated_old, seated_entering}
 use Rattle.disk_change.specs.Seat.{blocks_to_last_row}
 use Rattle.disk_change.specs.Seated.{CommitChanges, Begun, Seated, seated_as, begun_old, begun_entering, net_of_node}
 use Rattle.disk_change.specs.declared.directory_net.DirectoryNet.{DirectoryNet}
-use Rattle.disk_change.specs.declared.enter.Enter.{Enter}
-use Rattle.disk_change.specs.declared.numbers.NodeNumber.{NodeNumber}
 use Rattle.disk_change.specs.declared.old.OldEntry.{OldEntry}
-use Rattle.disk_change.proofs.NumbersGiven.{first_in, further_in, planned_node}
+use Rattle.disk_change.proofs.NumbersGiven.{IsOwnOrGranted, planned_node, number_known, unnumbered}
 use Rattle.commit_laws.specs.CommitOfPlan.{CommitPlan, change_planned, ServesPlan}
 use Rattle.commit_laws.specs.KeptShown.{KeepsSeen}
 use Rattle.commit_laws.specs.Ranked.{fresh_cut}
 use Rattle.commit_laws.proofs.CommitMade.{some_there, length_built}
-use Rattle.commit_laws.proofs.Granted.{in_dropped}
 use Rattle.commit_laws.proofs.GoodParts.{good_part}
 use Rattle.commit_laws.proofs.KeptShown.{kept_parts_show}
 use Rattle.commit_laws.proofs.NumbersGiven.{kept_in}
 use Rattle.commit_laws.proofs.OwnInodes.{mapped_is_in}
 use Rattle.commit_laws.proofs.PartsMade.{in_flat}
 use Rattle.commit_laws.proofs.Ranked.{nodes_are_built_by_rank}
-use Rattle.commit_laws.proofs.SeatsOfPlan.{in_is_there, there_is_in}
+use Rattle.commit_laws.proofs.SeatsOfPlan.{in_is_there, there_is_in, in_mapped, in_is_among, among_is_in}
 use Rattle.commit_laws.proofs.Shown.{found_is_in}
 use Rattle.flush_core.specs.Closure.{Flush}
 use Rattle.flush_core.specs.Cut.{Cut, tree_at_cut}
 use Rattle.cut_trees.specs.Next.{IsStorableAtCut}
 use Rattle.cut_trees.proofs.Next.{cut_trees_are_storable}
-use Rattle.flush_commits.specs.Planned.{IsPlanAt}
 use Rattle.flush_commits.specs.Ready.{IsBetweenCommits, KeepsEntries}
 use Rattle.space_laws.specs.Laws.{BringsNames, PlansFillSlots, GrantsServePlans}
+use Rattle.space_laws.proofs.Asked.{enters_counted}
 use Rattle.space_laws.proofs.Holders.{in_front}
 use Rattle.space_laws.proofs.Served.{grants_serve}
 use Rattle.space_laws.proofs.Slots.{SlotFits, BlockFits, slots_fit, after_fits, block_stands}
@@ -127,31 +124,9 @@ each_of image [] all slot (k, within, is) = absurd (omega arith)
 each_of image (first ∷ slots) all slot (zero, within, is) = subst (MayStand image) is all.0
 each_of image (first ∷ slots) all slot (suc k, within, is) = each_of image slots all.1 slot (k, omega arith, is)
 
--- the numbers that a commit gives are as low as those that its nodes have and those of its grant
+-- a number that may be there has 32 bits
 abbrev Low : Option ℕ → Type 0
 Low o = unwrap_or o 0 < 2 ^ 32
-
-numbers_low : (node : ℕ) (seats : List Seated) (grant : List ℕ) (found : Option ℕ) → ((seat : Seated) → Contains seats seat → Low seat.number) → ((i : ℕ) → Contains grant i → i < 2 ^ 32) → Low found
-    → Low (fold (λ found (one : NodeNumber). cond (is_eq (nat_cmp one.node node)) one.number found) found (numbers_given seats grant))
-numbers_low node [] grant found own granted low = low
-numbers_low node (seat ∷ seats) grant found own granted low =
-    numbers_low node seats (grant_left seat.number grant) _ (λ other there. own other (further_in seat other seats there)) (left seat.number) (by (is_eq (nat_cmp seat.node node)))
-  where
-    left : (o : Option ℕ) → (i : ℕ) → Contains (grant_left o grant) i → i < 2 ^ 32
-    left (Some n) i there = granted i there
-    left None i there = granted i (in_dropped 1 grant i there)
-
-    first_low : (those : List ℕ) → ((i : ℕ) → Contains those i → i < 2 ^ 32) → Low (slice_get those 0)
-    first_low [] all = omega arith
-    first_low (i ∷ those) all = all i (first_in i those)
-
-    given : (o : Option ℕ) → Low o → Low (number_given o grant)
-    given (Some n) low_n = low_n
-    given None low_n = first_low grant granted
-
-    by : (b : Bool) → Low (cond b (number_given seat.number grant) found)
-    by true = given seat.number (own seat (first_in seat seats))
-    by false = low
 
 -- an old number is the node's own, and one that enters has none
 number_of_old : (changes : CommitChanges) (begun : Begun) (kind : Kind) → (seated_as kind changes begun).number ≡ begun.number
@@ -204,7 +179,7 @@ module _ (first : TreeState) (history : List Entry) (flushes : List Flush) (cut 
           each None in_block = tt
           each (Some row) in_block =
               let in_seen : Contains (seen_of (parts entry.old.number)).slots (Some row) =
-                  subst (λ those. Contains those (Some row)) shows.slots (in_flat (λ (b : List (Option Row)). b) (kept_slots (parts entry.old.number)) block (Some row) has_kept in_block) in
+              subst (λ those. Contains those (Some row)) shows.slots (in_flat (λ (b : List (Option Row)). b) (kept_slots (parts entry.old.number)) block (Some row) has_kept in_block) in
               let may = each_of image (image.seen entry.old.number).slots (rules.children entry.old.number (number_low entry there, eqb-true (inode_in (parts entry.old.number)).kind (kind_byte Directory) e)) (Some row) in_seen in
               record {
                 name = rows_named raw.0 row sound (subst (λ those. Contains those (Some row)) (sym raw.2) in_block);
@@ -251,20 +226,44 @@ module _ (first : TreeState) (history : List Entry) (flushes : List Flush) (cut 
         record { begun = begun_entering one.0; same = one.2; slots = λ block has. absurd (let within = has.1 in omega arith); low = omega arith }
   ]
 
-  numbers_are_low : (node : ℕ) → Low (numbers_with change grant.inodes node)
-  numbers_are_low node = numbers_low node change.seats grant.inodes None (λ seat there. own seat (seat_begun seat there)) granted (omega arith)
+  -- each number that the commit gives has 32 bits: it is an old one, or one of the grant
+  known_low : (n : ℕ) → IsOwnOrGranted change.seats grant.inodes n → n < 2 ^ 32
+  known_low n (inl (seat, there, own)) = subst Low own (number_is seat (seat_begun seat there))
     where
-      own : (seat : Seated) → IsBegun seat → Low seat.number
-      own seat is = subst (λ o. Low o) (sym (number_of_old change.changes is.begun is.begun.kind) ∙ ap (λ (s : Seated). s.number) is.same) is.low
+      number_is : (seat : Seated) → IsBegun seat → Low seat.number
+      number_is seat is = subst Low (sym (number_of_old change.changes is.begun is.begun.kind) ∙ ap (λ (s : Seated). s.number) is.same) is.low
+  known_low n (inr there) =
+      let at = in_is_there grant.inodes n there in
+      let within = slice_get_within grant.inodes at.0 n at.1 in
+      let low = serves.inodes.within at.0 within in
+      let is : slice_index grant.inodes at.0 ≡ n = get_or_from_slice_get grant.inodes at.0 n 0 at.1 in
+      let few = ready.sound.ranges.inodes_high in
+      omega (arith, low, is, few)
 
-      granted : (i : ℕ) → Contains grant.inodes i → i < 2 ^ 32
-      granted i there =
-          let at = in_is_there grant.inodes i there in
-          let within = slice_get_within grant.inodes at.0 i at.1 in
-          let low = serves.inodes.within at.0 within in
-          let is : slice_index grant.inodes at.0 ≡ i = get_or_from_slice_get grant.inodes at.0 i 0 at.1 in
-          let few = ready.sound.ranges.inodes_high in
-          omega (arith, low, is, few)
+  seated_low : (node : ℕ) (seat : Seated) → Contains change.seats seat → seat.node ≡ node → Low (numbers_with change grant.inodes node)
+  seated_low node seat there same =
+      let enough = enters_counted plan ∙ sym serves.inodes.enough in
+      let number = number_known (λ n. n < 2 ^ 32) node change.seats grant.inodes (omega (arith, enough)) known_low None (inr (seat, there, same)) in
+      subst Low (sym number.1) number.2
+
+  numbers_are_low : (node : ℕ) → Low (numbers_with change grant.inodes node)
+  numbers_are_low node = elim (cases_Bool (is_among (map entry_node (staying plan.old plan.leave)) node)) [
+    | inl old_one ↦
+        let entry = mapped_is_in entry_node (staying plan.old plan.leave) node (among_is_in (map entry_node (staying plan.old plan.leave)) node old_one) in
+        seated_low node (seated_old change.changes entry.0)
+        (Contains-append_left (map (seated_old change.changes) (staying plan.old plan.leave)) (map (seated_entering change.changes) plan.enter) _ (in_mapped (seated_old change.changes) (staying plan.old plan.leave) entry.0 entry.1))
+        (planned_node change.changes (begun_old entry.0) (begun_old entry.0).kind ∙ entry.2)
+    | inr no_old ↦ elim (cases_Bool (is_among (map enter_node plan.enter) node)) [
+      | inl new_one ↦
+          let one = mapped_is_in enter_node plan.enter node (among_is_in (map enter_node plan.enter) node new_one) in
+          seated_low node (seated_entering change.changes one.0)
+          (Contains-append_right (map (seated_old change.changes) (staying plan.old plan.leave)) (map (seated_entering change.changes) plan.enter) _ (in_mapped (seated_entering change.changes) plan.enter one.0 one.1))
+          (planned_node change.changes (begun_entering one.0) (begun_entering one.0).kind ∙ one.2)
+      | inr no_new ↦ subst Low (sym (unnumbered change.changes (staying plan.old plan.leave) plan.enter grant.inodes node
+          (λ entry there same. true_not_false (sym (in_is_among (map entry_node (staying plan.old plan.leave)) node (subst (λ n. Contains (map entry_node (staying plan.old plan.leave)) n) same (in_mapped entry_node (staying plan.old plan.leave) entry there))) ∙ no_old))
+          (λ one there same. true_not_false (sym (in_is_among (map enter_node plan.enter) node (subst (λ n. Contains (map enter_node plan.enter) n) same (in_mapped enter_node plan.enter one there))) ∙ no_new)))) (omega arith)
+    ]
+  ]
 
   -- so each block of what is built can stand in slots
   pub filled : (one : Built) → Contains (nodes_with_grant change grant) one → (block : List (Option Row)) → Contains one.slots block → AreSlots block

@@ -1,32 +1,26 @@
 -- What the places of a commit's nodes have of blocks, before and after it.
-use Rattle.std.proofs.Common.{◌≡◌, ◌≢◌, ℕ, ◌+◌, ◌-◌, ◌<◌, ◌≤◌, Bool, true, false, cond, not, ◌&&◌, List, length, take, drop, map, filter, get_or, Option, Some, None, inl, inr, refl, sym, ap, subst, ◌∙◌, arith, nat_eq, nat_lt, length-take, Contains}
+use Rattle.std.proofs.Common.{◌≡◌, ◌≢◌, ℕ, ◌-◌, ◌<◌, Bool, true, false, cond, not, ◌&&◌, List, take, drop, Some, inl, inr, refl, sym, ap, subst, ◌∙◌, arith, nat_eq, nat_lt, length-take, Contains}
 use Rattle.std.specs.Prelude.{◌⊎◌}
-use Rattle.std.proofs.lemmas.Bool.{cases_Bool}
 use Rattle.std.proofs.lemmas.Bool.Decides.{nat_tests}
 use Rattle.std.proofs.lemmas.List.{get_or-take}
 use Rattle.sfs_base.proofs.BasicOptions.{some_same}
 use Rattle.sfs_image.specs.Part.{Part, seen_of}
-use Rattle.sfs_image.specs.Seen.{Seen, SeenInodes, PLACES, FILE_BLOCKS}
+use Rattle.sfs_image.specs.Seen.{PLACES, FILE_BLOCKS}
 use Rattle.sfs_image.specs.Super.{Layout}
 use Rattle.sfs_tree.specs.declared.history.Entry.{Entry}
 use Rattle.sfs_tree.specs.Tree.{TreeState}
-use Rattle.image_tree.specs.Image.{inodes_shown}
 use Rattle.image_tree.specs.Need.{Rewrite, pointer_after, rewrites_table, table_has_pointer}
 use Rattle.image_tree.specs.Renamed.{Numbering}
-use Rattle.block_map.specs.Kept.{Kept, kept_of, pointer_kept}
+use Rattle.block_map.specs.Kept.{Kept, pointer_kept}
 use Rattle.block_map.specs.Remap.{gives_up, fresh_for}
-use Rattle.block_map.specs.declared.changed.ChangedBlock.{ChangedBlock}
-use Rattle.block_map.proofs.Left.{remapped_pointers_stand}
-use Rattle.disk_change.specs.Built.{Built, rewrite_in}
-use Rattle.disk_change.specs.Lists.{AscendBy, item_with}
+use Rattle.disk_change.specs.Lists.{item_with}
 use Rattle.disk_change.specs.Nodes.{entry_node}
-use Rattle.disk_change.specs.Seated.{Seated}
 use Rattle.disk_change.specs.declared.old.OldEntry.{OldEntry}
 use Rattle.commit_laws.proofs.Granted.{is_in, in_dropped}
 use Rattle.commit_laws.proofs.KeptShown.{kept_parts_show}
 use Rattle.commit_laws.proofs.KnownDirectories.{own_item}
 use Rattle.flush_core.specs.Closure.{Flush}
-use Rattle.flush_core.specs.Cut.{Cut, tree_at_cut}
+use Rattle.flush_core.specs.Cut.{Cut}
 use Rattle.flush_commits.specs.Ready.{IsBetweenCommits, KeepsEntries}
 
 -- the block that an entry has at a place

@@ -1,7 +1,7 @@
 -- What stands in the slots of a directory after a net can stand in slots.
-use Rattle.std.proofs.Common.{◌≡◌, ℕ, zero, suc, ◌*◌, ◌<◌, Bool, true, false, cond, List, [], ◌∷◌, ◌++◌, length, map, drop, replicate, filter_map, Option, Some, None, option_map, is_some, is_none, inl, inr, refl, sym, ap, subst, ◌∙◌, arith, count_by, Contains}
-use Rattle.std.specs.Prelude.{◌^◌, All, bytes_eq, cons_option}
-use Rattle.std.specs.List.{find, range_with_len}
+use Rattle.std.proofs.Common.{◌≡◌, ℕ, zero, suc, ◌*◌, ◌<◌, Bool, true, false, cond, List, [], ◌∷◌, length, map, drop, replicate, Option, Some, None, option_map, is_some, is_none, inl, inr, refl, sym, ap, subst, ◌∙◌, arith, count_by, Contains}
+use Rattle.std.specs.Prelude.{◌^◌, All, bytes_eq}
+use Rattle.std.specs.List.{cons_option, find, range_with_len}
 use Rattle.std.specs.Option.{option_map_or, unwrap_or}
 use Rattle.std.proofs.lemmas.List.{length-map, length-replicate}
 use Rattle.std.proofs.lemmas.List.Elements.{All-cons, All-nil, Contains-append_cases}

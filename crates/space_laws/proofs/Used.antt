@@ -1,17 +1,15 @@
 -- Each number of a grant is used by its commit.
-use Rattle.std.proofs.Common.{◌≡◌, ◌≢◌, ℕ, zero, suc, ◌+◌, ◌<◌, ◌≤◌, true, false, cond, ◌||◌, List, [], ◌∷◌, ◌++◌, length, map, filter_map, Option, Some, None, inl, inr, refl, sym, ap, subst, ◌∙◌, arith, nat_eq, Contains}
-use Rattle.std.specs.Prelude.{◌⊎◌, nat_le, slice_get, slice_index, slice_index_or}
+use Rattle.std.proofs.Common.{◌≡◌, ℕ, zero, suc, ◌+◌, ◌<◌, ◌||◌, List, [], ◌∷◌, filter_map, Some, None, inl, inr, sym, ap, subst, ◌∙◌, arith, nat_eq, Contains}
+use Rattle.std.specs.Prelude.{nat_le, slice_get, slice_index, slice_index_or}
 use Rattle.std.specs.List.{flat_map, find, range_with_len}
-use Rattle.std.specs.Option.{option_map_or}
 use Rattle.std.proofs.lemmas.Bool.{cond-true, cond-false, cases_Bool, eqb-false, leb-false}
 use Rattle.std.proofs.lemmas.List.Elements.{Contains-append_cases}
 use Rattle.std.proofs.lemmas.List.FromFn.{get_or-range_with_len, length-range_with_len}
 use Rattle.sfs_base.proofs.BasicNumbers.{same_number, not_same}
 use Rattle.sfs_base.proofs.BasicOptions.{none_some, some_same}
 use Rattle.sfs_base.proofs.BasicTruth.{or_first, or_second}
-use Rattle.sfs_image.specs.Inode.{Table}
 use Rattle.sfs_image.specs.Part.{Part}
-use Rattle.sfs_image.specs.Seen.{SeenInodes, PLACES, FILE_BLOCKS}
+use Rattle.sfs_image.specs.Seen.{SeenInodes, FILE_BLOCKS}
 use Rattle.sfs_tree.specs.Tree.{TreeState}
 use Rattle.fmt_journal.specs.declared.tx.TxBlock.{TxBlock}
 use Rattle.image_tree.specs.Numbers.{grant_for}

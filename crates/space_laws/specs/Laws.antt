@@ -59,9 +59,12 @@ ReturnsKeepMaps = (layout : Layout) (entries : List OldEntry) (old new : Space) 
 
 -- And one that ends with its commit leaves the map right beside what memory then keeps.
 abbrev pub CommitsKeepMaps : Type 0
-CommitsKeepMaps = (first : TreeState) (history : List Entry) (flushes : List Flush) (cut : Cut) (inodes : ℕ → Bool) (flush : Flush) (raised : Cut) (after : ℕ → Bool) (num : Numbering) (layout : Layout)
-    (store : ℕ → List ℕ) (parts : ℕ → Part) (nodes : List ℕ) (entries : List OldEntry) (plan : CommitPlan) (grant : GrantedNumbers) (later : List OldEntry) (tx : Tx) (old new : Space)
-    → IsPlannedFsync first history flushes cut inodes flush raised after num layout store parts nodes entries plan grant → AreEntriesAfter nodes entries plan grant later
+CommitsKeepMaps = (first : TreeState) (history : List Entry) (flushes : List Flush) (cut : Cut) (inodes : ℕ → Bool) (flush : Flush) (raised : Cut)
+    (after : ℕ → Bool) (num : Numbering) (layout : Layout)
+    (store : ℕ → List ℕ) (parts : ℕ → Part) (nodes : List ℕ) (entries : List OldEntry) (plan : CommitPlan) (grant : GrantedNumbers) (later : List OldEntry)
+    (tx : Tx) (old new : Space)
+    → IsPlannedFsync first history flushes cut inodes flush raised after num layout store parts nodes entries plan grant
+    → AreEntriesAfter nodes entries plan grant later
     → IsMapOf layout entries old → WasUsed plan tx old grant new → IsMapOf layout later new
 
 -- the rows of nets have names
@@ -70,11 +73,13 @@ BringsNames nets = (one : DirectoryNet) → Contains nets one → (row : NetRow)
 
 -- what a plan builds of directories with a grant can stand in slots
 abbrev pub FillsSlots : CommitPlan → GrantedNumbers → Type 0
-FillsSlots plan grant = (one : Built) → Contains (nodes_with_grant (change_planned plan) grant) one → (block : List (Option Row)) → Contains one.slots block → AreSlots block
+FillsSlots plan grant = (one : Built) → Contains (nodes_with_grant (change_planned plan) grant) one → (block : List (Option Row))
+    → Contains one.slots block → AreSlots block
 
 -- So it is of each plan whose nets have names, with a grant that serves it.
 abbrev pub PlansFillSlots : Type 0
-PlansFillSlots = (first : TreeState) (history : List Entry) (flushes : List Flush) (cut : Cut) (inodes : ℕ → Bool) (flush : Flush) (raised : Cut) (after : ℕ → Bool) (num : Numbering) (layout : Layout)
+PlansFillSlots = (first : TreeState) (history : List Entry) (flushes : List Flush) (cut : Cut) (inodes : ℕ → Bool) (flush : Flush) (raised : Cut)
+    (after : ℕ → Bool) (num : Numbering) (layout : Layout)
     (store : ℕ → List ℕ) (parts : ℕ → Part) (nodes : List ℕ) (entries : List OldEntry) (plan : CommitPlan) (grant : GrantedNumbers)
     → IsBetweenCommits first history flushes cut inodes num layout store parts → KeepsEntries num parts entries
     → IsPlanAt first history cut inodes flush raised after nodes entries plan → BringsNames plan.nets → ServesPlan (inodes_shown layout parts) plan grant
@@ -82,7 +87,8 @@ PlansFillSlots = (first : TreeState) (history : List Entry) (flushes : List Flus
 
 -- And so a grant from a right map is one for the plan that it was taken for.
 abbrev pub GrantsServePlans : Type 0
-GrantsServePlans = (first : TreeState) (history : List Entry) (flushes : List Flush) (cut : Cut) (inodes : ℕ → Bool) (flush : Flush) (raised : Cut) (after : ℕ → Bool) (num : Numbering) (layout : Layout)
+GrantsServePlans = (first : TreeState) (history : List Entry) (flushes : List Flush) (cut : Cut) (inodes : ℕ → Bool) (flush : Flush) (raised : Cut)
+    (after : ℕ → Bool) (num : Numbering) (layout : Layout)
     (store : ℕ → List ℕ) (parts : ℕ → Part) (nodes : List ℕ) (entries : List OldEntry) (plan : CommitPlan) (old new : Space) (grant : GrantedNumbers)
     → IsBetweenCommits first history flushes cut inodes num layout store parts → KeepsEntries num parts entries
     → IsPlanAt first history cut inodes flush raised after nodes entries plan → BringsNames plan.nets

@@ -40,7 +40,5 @@ pub record WasReturned (old : Space) (grant : GrantedNumbers) (new : Space) : Ty
 -- A grant has ended with the commit of a plan: its numbers are taken, and those are free that the plan's transaction gives up.
 pub record WasUsed (plan : CommitPlan) (tx : Tx) (old : Space) (grant : GrantedNumbers) (new : Space) : Type 0 where
   pub gives_up : IsTransactionOf (change_planned plan) grant tx
-  pub granted_inodes : AllGranted old.inodes grant.inodes
-  pub granted_blocks : AllGranted old.blocks grant.blocks
   pub inodes : Ends grant.inodes tx.freed_inodes.items old.inodes new.inodes
   pub blocks : Ends grant.blocks tx.freed_blocks.items old.blocks new.blocks
