@@ -82,11 +82,11 @@ fresh_is_granted rewrite n m grant place block some is =
 
 module _ (first : TreeState) (history : List Entry) (flushes : List Flush) (cut : Cut) (inodes : ℕ → Bool) (num : Numbering) (layout : Layout) (store : ℕ → List ℕ) (parts : ℕ → Part) (entries : List OldEntry)
     (ready : IsBetweenCommits first history flushes cut inodes num layout store parts) (keeps : KeepsEntries num parts entries) where
-  low_number : (entry : OldEntry) → Contains entries entry → entry.old.number < layout.inodes
+  pub low_number : (entry : OldEntry) → Contains entries entry → entry.old.number < layout.inodes
   low_number entry there = ready.stands.within entry.node.0 entry.old.number (keeps.each entry there).0
 
   -- what an entry has at a place is what its part points to there
-  shown_at : (entry : OldEntry) → Contains entries entry → (place : ℕ) → place < PLACES → pointer_in entry place ≡ (seen_of (parts entry.old.number)).blocks place
+  pub shown_at : (entry : OldEntry) → Contains entries entry → (place : ℕ) → place < PLACES → pointer_in entry place ≡ (seen_of (parts entry.old.number)).blocks place
   shown_at entry there place low =
       ap (λ (k : Kept). pointer_kept k.inode k.tables place) (keeps.each entry there).1
       ∙ (kept_parts_show store (parts entry.old.number) (ready.sound.gathered entry.old.number (low_number entry there))).pointers place low

@@ -7,3 +7,4 @@ pub mod Used
 pub mod Committed
 pub mod Slots
 pub mod Filled
+pub mod Counted

@@ -46,7 +46,7 @@ stands_once numbers rise j k jn kn same = elim (cases_lt j k) [
 ]
 
 -- the data area does not begin with block 0
-data_behind_super : (layout : Layout) → 0 < data_start layout
+pub data_behind_super : (layout : Layout) → 0 < data_start layout
 data_behind_super layout = above (layout.cores * layout.slots * slot_blocks layout.inodes) (record_blocks layout.inodes)
   where
     above : (a b : ℕ) → 0 < 1 + a + b
@@ -63,7 +63,7 @@ module _ (first : TreeState) (history : List Entry) (flushes : List Flush) (cut 
     pub number : entry.old.number ≡ i
     pub kept : entry.old.kept ≡ kept_of (parts i)
 
-  entry_of : (node i : ℕ) → num node ≡ Some i → HasEntry i
+  pub entry_of : (node i : ℕ) → num node ≡ Some i → HasEntry i
   entry_of node i has =
       let one = keeps.all node i has in
       let each = keeps.each one.0 one.1 in

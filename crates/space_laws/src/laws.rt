@@ -1,6 +1,6 @@
 // What is proved of the definitions: each function's contract is a law.
 ghost use Rattle.space_laws.specs.Laws.{FirstMapsAreRight, GrantsServe, GrantsKeepMaps, ReturnsKeepMaps, CommitsKeepMaps};
-ghost use Rattle.space_laws.specs.Laws.{PlansFillSlots, GrantsServePlans};
+ghost use Rattle.space_laws.specs.Laws.{PlansFillSlots, GrantsServePlans, MapsCountFree};
 
 /// A map that begins with what nodes have as taken is right.
 pub fn first_maps_are_right()
@@ -35,4 +35,9 @@ pub fn plans_fill_slots()
 /// And so a grant from a right map serves the whole plan that it was taken for.
 pub fn grants_serve_plans()
     ensures { GrantsServePlans }
+{}
+
+/// With no grant out a right map counts as free what the image has free.
+pub fn maps_count_free()
+    ensures { MapsCountFree }
 {}
