@@ -26,12 +26,12 @@ use Rattle.flush_core.proofs.CutNodes.{cuts_keep_kinds}
 use Rattle.commit_turns.specs.LawsNeed.{NodesAreCounted, AreOnce, ListsNodes, BlocksAreListed, InodesAreListed, IsHeldBy, HeldAreFound}
 use Rattle.commit_turns.specs.Need.{ImageState, is_unused, holds_in_row, is_held_in, Made, rewrite_needed, node_bound, enters_by_made, needs_in_row, need_of}
 
-none_counted : (test : ℕ → Bool) → rank test 0 ≡ 0
+pub none_counted : (test : ℕ → Bool) → rank test 0 ≡ 0
 unfolding rank
 none_counted test = refl
 
 -- tests that agree below a number count the same
-rank_agrees : (test other : ℕ → Bool) (n : ℕ) → ((k : ℕ) → k < n → test k ≡ other k) → rank test n ≡ rank other n
+pub rank_agrees : (test other : ℕ → Bool) (n : ℕ) → ((k : ℕ) → k < n → test k ≡ other k) → rank test n ≡ rank other n
 rank_agrees test other zero same = none_counted test ∙ sym (none_counted other)
 rank_agrees test other (suc n) same =
     rank_more test n ∙ (λ i. rank_agrees test other n (λ k lt. same k (omega arith)) i + cond (same n (omega arith) i) 1 0) ∙ sym (rank_more other n)

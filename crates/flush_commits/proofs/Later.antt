@@ -106,7 +106,7 @@ module _ (first : TreeState) (history : List Entry) (flushes : List Flush) (cut 
   }
 
   -- a node that is not concerned has the number that it had
-  kept_number : (node : ℕ) → is_among nodes node ≡ false → next_num node ≡ num node
+  pub kept_number : (node : ℕ) → is_among nodes node ≡ false → next_num node ≡ num node
   kept_number node aside = ((made num nodes old new image plan grant over.full).is.others node aside).0
 
   -- and its part is as it was
@@ -155,7 +155,7 @@ module _ (first : TreeState) (history : List Entry) (flushes : List Flush) (cut 
       ∙ sym other_built.is
 
   -- what is built of a node is what the disk then has of it
-  built_is_kept : (one : Built) → Contains (nodes_with_grant change grant) one → Contains (after_commit change grant) (entry_after one)
+  pub built_is_kept : (one : Built) → Contains (nodes_with_grant change grant) one → Contains (after_commit change grant) (entry_after one)
   built_is_kept one there =
       in_ascending_list entry_node (map entry_after (nodes_with_grant change grant)) (entry_after one)
       (λ entry has same.

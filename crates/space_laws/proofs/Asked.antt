@@ -1,5 +1,5 @@
 -- A grant has as many numbers as were asked for.
-use Rattle.std.proofs.Common.{◌≡◌, ℕ, zero, suc, ◌+◌, ◌-◌, ◌<◌, ◌≤◌, Bool, true, false, cond, List, [], ◌∷◌, ◌++◌, length, map, get_or, Some, None, count_by, sum_by, inl, inr, refl, sym, ap, ◌∙◌, arith, leb}
+use Rattle.std.proofs.Common.{◌≡◌, ℕ, zero, suc, ◌+◌, ◌-◌, ◌<◌, ◌≤◌, true, cond, List, [], ◌∷◌, length, map, get_or, Some, None, count_by, inl, inr, refl, sym, ap, ◌∙◌, arith, leb}
 use Rattle.std.specs.Prelude.{◌^◌, slice_get, is_none}
 use Rattle.std.proofs.lemmas.Bool.{cases_lt}
 use Rattle.std.proofs.lemmas.Bool.Decides.{nat_tests}
@@ -9,7 +9,7 @@ use Rattle.std.proofs.lemmas.Option.{slice_get-get_or}
 use Rattle.sfs_base.proofs.BasicNumbers.{zero_plus}
 use Rattle.sfs_base.specs.declared.numbers.Kind.{Kind}
 use Rattle.sfs_base.specs.declared.numbers.Kind.TheVariants.{File, Directory}
-use Rattle.space_map.specs.Pool.{Pool, status_of, is_free, free_count, Grants}
+use Rattle.space_map.specs.Pool.{Pool, status_of, is_free, Grants}
 use Rattle.space_map.specs.declared.status.Status.TheVariants.{Taken}
 use Rattle.disk_change.specs.Nodes.{enter_node}
 use Rattle.disk_change.specs.Planned.{as_u32, enters, staying, seated_old, seated_entering}

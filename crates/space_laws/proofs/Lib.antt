@@ -1,3 +1,10 @@
 pub mod Asked
 pub mod Mapped
 pub mod Served
+pub mod Ended
+pub mod Holders
+pub mod Used
+pub mod Committed
+pub mod Slots
+pub mod Filled
+pub mod Counted

@@ -1,8 +1,7 @@
 -- Maps of free space stay right.
-use Rattle.std.proofs.Common.{◌≡◌, ℕ, ◌<◌, ◌≤◌, Bool, true, false, cond, List, map, Option, Some, None, option_map, inl, inr, refl, sym, ap, ◌∙◌, leb, ltb, ◌&&◌, Contains, arith}
+use Rattle.std.proofs.Common.{◌≡◌, ℕ, ◌<◌, ◌≤◌, Bool, true, false, cond, List, map, Option, Some, None, option_map, refl, sym, ap, ◌∙◌, leb, ltb, ◌&&◌, Contains, arith}
 use Rattle.std.specs.Prelude.{◌↔◌, ◌≢◌}
 use Rattle.std.proofs.lemmas.List.Elements.{All-contains}
-use Rattle.std.proofs.lemmas.Bool.{cases_Bool}
 use Rattle.std.proofs.lemmas.Bool.Decides.{nat_tests}
 use Rattle.sfs_base.proofs.BasicOptions.{none_some, some_same}
 use Rattle.sfs_base.specs.Listed.{is_listed}
@@ -15,7 +14,7 @@ use Rattle.commit_laws.proofs.SeatsOfPlan.{in_is_among, among_is_in}
 use Rattle.space_map.proofs.Others.{free_now}
 use Rattle.space_map.specs.Space.{AllGranted}
 use Rattle.space_laws.specs.Laws.{FirstMapsAreRight, GrantsKeepMaps, ReturnsKeepMaps}
-use Rattle.space_laws.specs.Map.{IsRowOf, IsMapOf}
+use Rattle.space_laws.specs.Map.{IsRowOf}
 
 -- a row that begins with some numbers taken
 begins_right : (first end : ℕ) (taken : List ℕ) (held : ℕ → Type 0) (pool : Pool) → ((number : ℕ) → status_of pool number ≡ first_status first end taken number)

@@ -1,6 +1,6 @@
 -- A grant from a right map serves the plan that it was taken for.
-use Rattle.std.proofs.Common.{◌≡◌, ℕ, ◌+◌, ◌*◌, ◌-◌, ◌<◌, ◌≤◌, Bool, List, length, map, slice_index_or, Some, inl, inr, refl, sym, ap, subst, ◌∙◌, arith, Contains}
-use Rattle.std.specs.Prelude.{◌≢◌, ◌^◌, slice_index}
+use Rattle.std.proofs.Common.{◌≡◌, ℕ, ◌+◌, ◌*◌, ◌<◌, ◌≤◌, Bool, List, length, map, Some, inl, inr, sym, ap, subst, ◌∙◌, arith, Contains}
+use Rattle.std.specs.Prelude.{◌≢◌, slice_index}
 use Rattle.std.specs.List.Sorted.{IsStrictlyIncreasing}
 use Rattle.std.proofs.lemmas.Bool.{cases_lt}
 use Rattle.std.proofs.lemmas.List.Elements.{All-contains}
@@ -22,7 +22,6 @@ use Rattle.space_map.specs.Space.{Space, GrantedNumbers}
 use Rattle.space_map.specs.declared.status.Status.TheVariants.{Free, Taken}
 use Rattle.disk_change.specs.GivenUp.{IsLeftByGone, entry_number}
 use Rattle.disk_change.specs.Nodes.{enter_node}
-use Rattle.disk_change.specs.Planned.{blocks_taken, enters}
 use Rattle.disk_change.specs.declared.old.OldEntry.{OldEntry}
 use Rattle.commit_laws.specs.CommitMade.{rewrites_seated}
 use Rattle.commit_laws.specs.CommitOfPlan.{CommitPlan, change_planned}
@@ -47,7 +46,7 @@ stands_once numbers rise j k jn kn same = elim (cases_lt j k) [
 ]
 
 -- the data area does not begin with block 0
-data_behind_super : (layout : Layout) → 0 < data_start layout
+pub data_behind_super : (layout : Layout) → 0 < data_start layout
 data_behind_super layout = above (layout.cores * layout.slots * slot_blocks layout.inodes) (record_blocks layout.inodes)
   where
     above : (a b : ℕ) → 0 < 1 + a + b
@@ -64,7 +63,7 @@ module _ (first : TreeState) (history : List Entry) (flushes : List Flush) (cut 
     pub number : entry.old.number ≡ i
     pub kept : entry.old.kept ≡ kept_of (parts i)
 
-  entry_of : (node i : ℕ) → num node ≡ Some i → HasEntry i
+  pub entry_of : (node i : ℕ) → num node ≡ Some i → HasEntry i
   entry_of node i has =
       let one = keeps.all node i has in
       let each = keeps.each one.0 one.1 in

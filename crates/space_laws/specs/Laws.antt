@@ -1,20 +1,32 @@
 -- The laws of free space, each of which a function of the module laws proves.
-use Rattle.std.specs.Prelude.{◌≡◌, ◌↔◌, ℕ, ◌<◌, ◌≤◌, Bool, List, map, Contains}
+use Rattle.std.specs.Prelude.{◌≡◌, ◌≢◌, ◌↔◌, ℕ, ◌<◌, ◌≤◌, Bool, List, map, Option, None, Some, Contains}
+use Rattle.sfs_base.specs.Name.{name_fault}
 use Rattle.sfs_image.specs.Part.{Part}
+use Rattle.sfs_image.specs.Slot.{Row}
+use Rattle.sfs_image.specs.SlotBlock.{AreSlots}
 use Rattle.sfs_image.specs.Super.{Layout, data_start}
 use Rattle.sfs_tree.specs.declared.history.Entry.{Entry}
 use Rattle.sfs_tree.specs.Tree.{TreeState}
+use Rattle.fmt_journal.specs.declared.tx.Tx.{Tx}
+use Rattle.absorb.specs.declared.nets.NetRow.{NetRow}
 use Rattle.image_tree.specs.Image.{inodes_shown}
 use Rattle.image_tree.specs.Renamed.{Numbering}
-use Rattle.space_map.specs.Pool.{status_of, first_status}
+use Rattle.space_map.specs.Pool.{status_of, first_status, free_count}
 use Rattle.space_map.specs.Space.{Space, GrantedNumbers}
+use Rattle.space_map.specs.declared.status.Status.TheVariants.{Granted}
+use Rattle.disk_change.specs.AllBuilt.{nodes_with_grant}
+use Rattle.disk_change.specs.Built.{Built}
 use Rattle.disk_change.specs.GivenUp.{IsLeftByGone, entry_number}
+use Rattle.disk_change.specs.declared.directory_net.DirectoryNet.{DirectoryNet}
 use Rattle.disk_change.specs.declared.old.OldEntry.{OldEntry}
-use Rattle.commit_laws.specs.CommitOfPlan.{CommitPlan, ServesPlan}
+use Rattle.commit_laws.specs.CommitOfPlan.{CommitPlan, change_planned, ServesPlan}
 use Rattle.flush_core.specs.Closure.{Flush}
 use Rattle.flush_core.specs.Cut.{Cut}
+use Rattle.flush_commits.specs.Laws.{AreEntriesAfter}
+use Rattle.flush_commits.specs.Planned.{IsPlanAt, GrantsPlan, IsPlannedFsync}
 use Rattle.flush_commits.specs.Ready.{IsBetweenCommits, KeepsEntries}
-use Rattle.space_laws.specs.Map.{IsMapOf, WasGranted, WasReturned}
+use Rattle.commit_turns.specs.Need.{ImageState, free_inodes, free_blocks}
+use Rattle.space_laws.specs.Map.{IsMapOf, WasGranted, WasReturned, WasUsed}
 
 -- A map is right that begins with what nodes have as taken, and with all else free.
 abbrev pub FirstMapsAreRight : Type 0
@@ -46,3 +58,66 @@ GrantsKeepMaps = (layout : Layout) (entries : List OldEntry) (plan : CommitPlan)
 abbrev pub ReturnsKeepMaps : Type 0
 ReturnsKeepMaps = (layout : Layout) (entries : List OldEntry) (old new : Space) (grant : GrantedNumbers)
     → IsMapOf layout entries old → WasReturned old grant new → IsMapOf layout entries new
+
+-- And one that ends with its commit leaves the map right beside what memory then keeps.
+abbrev pub CommitsKeepMaps : Type 0
+CommitsKeepMaps = (first : TreeState) (history : List Entry) (flushes : List Flush) (cut : Cut) (inodes : ℕ → Bool) (flush : Flush) (raised : Cut)
+    (after : ℕ → Bool) (num : Numbering) (layout : Layout)
+    (store : ℕ → List ℕ) (parts : ℕ → Part) (nodes : List ℕ) (entries : List OldEntry) (plan : CommitPlan) (grant : GrantedNumbers) (later : List OldEntry)
+    (tx : Tx) (old new : Space)
+    → IsPlannedFsync first history flushes cut inodes flush raised after num layout store parts nodes entries plan grant
+    → AreEntriesAfter nodes entries plan grant later
+    → IsMapOf layout entries old → WasUsed plan tx old grant new → IsMapOf layout later new
+
+-- the rows of nets have names
+abbrev pub BringsNames : List DirectoryNet → Type 0
+BringsNames nets = (one : DirectoryNet) → Contains nets one → (row : NetRow) → Contains one.net.items row → name_fault row.name ≡ None
+
+-- what a plan builds of directories with a grant can stand in slots
+abbrev pub FillsSlots : CommitPlan → GrantedNumbers → Type 0
+FillsSlots plan grant = (one : Built) → Contains (nodes_with_grant (change_planned plan) grant) one → (block : List (Option Row))
+    → Contains one.slots block → AreSlots block
+
+-- So it is of each plan whose nets have names, with a grant that serves it.
+abbrev pub PlansFillSlots : Type 0
+PlansFillSlots = (first : TreeState) (history : List Entry) (flushes : List Flush) (cut : Cut) (inodes : ℕ → Bool) (flush : Flush) (raised : Cut)
+    (after : ℕ → Bool) (num : Numbering) (layout : Layout)
+    (store : ℕ → List ℕ) (parts : ℕ → Part) (nodes : List ℕ) (entries : List OldEntry) (plan : CommitPlan) (grant : GrantedNumbers)
+    → IsBetweenCommits first history flushes cut inodes num layout store parts → KeepsEntries num parts entries
+    → IsPlanAt first history cut inodes flush raised after nodes entries plan → BringsNames plan.nets → ServesPlan (inodes_shown layout parts) plan grant
+    → FillsSlots plan grant
+
+-- And so a grant from a right map is one for the plan that it was taken for.
+abbrev pub GrantsServePlans : Type 0
+GrantsServePlans = (first : TreeState) (history : List Entry) (flushes : List Flush) (cut : Cut) (inodes : ℕ → Bool) (flush : Flush) (raised : Cut)
+    (after : ℕ → Bool) (num : Numbering) (layout : Layout)
+    (store : ℕ → List ℕ) (parts : ℕ → Part) (nodes : List ℕ) (entries : List OldEntry) (plan : CommitPlan) (old new : Space) (grant : GrantedNumbers)
+    → IsBetweenCommits first history flushes cut inodes num layout store parts → KeepsEntries num parts entries
+    → IsPlanAt first history cut inodes flush raised after nodes entries plan → BringsNames plan.nets
+    → IsMapOf layout entries old → WasGranted plan old grant new → GrantsPlan layout parts plan grant
+
+-- no number of a map is granted
+pub record HasNoneGranted (space : Space) : Type 0 where
+  pub inodes : (number : ℕ) → status_of space.inodes number ≢ Some Granted
+  pub blocks : (number : ℕ) → status_of space.blocks number ≢ Some Granted
+
+-- what an image has to tell of its parts, for whoever counts what is free in it
+abbrev pub state_of_parts : Numbering → Layout → (ℕ → Part) → ImageState
+state_of_parts num layout parts = record {
+  num = num;
+  image = inodes_shown layout parts;
+  first_block = data_start layout;
+  end_block = layout.blocks;
+}
+
+-- A map counts as free what an image has free.
+pub record CountsFree (space : Space) (state : ImageState) : Type 0 where
+  pub inodes : free_count space.inodes ≡ free_inodes state
+  pub blocks : free_count space.blocks ≡ free_blocks state
+
+-- So a right map does between two commits, where no grant is out.
+abbrev pub MapsCountFree : Type 0
+MapsCountFree = (first : TreeState) (history : List Entry) (flushes : List Flush) (cut : Cut) (inodes : ℕ → Bool) (num : Numbering) (layout : Layout)
+    (store : ℕ → List ℕ) (parts : ℕ → Part) (entries : List OldEntry) (space : Space)
+    → IsBetweenCommits first history flushes cut inodes num layout store parts → KeepsEntries num parts entries
+    → IsMapOf layout entries space → HasNoneGranted space → CountsFree space (state_of_parts num layout parts)

@@ -1,12 +1,14 @@
 -- When a map of free space tells what a disk has free, and when a grant was taken from it for a plan.
 use Rattle.std.specs.Prelude.{◌≡◌, ℕ, ◌<◌, ◌≤◌, List, map, Some, Contains, sum_by, count_by}
 use Rattle.sfs_image.specs.Super.{Layout, data_start}
-use Rattle.space_map.specs.Pool.{Pool, status_of, BecomeAll, Grants}
+use Rattle.fmt_journal.specs.declared.tx.Tx.{Tx}
+use Rattle.space_map.specs.Pool.{Pool, status_of, BecomeAll, Grants, Ends}
 use Rattle.space_map.specs.Space.{Space, GrantedNumbers, AllGranted}
 use Rattle.space_map.specs.declared.status.Status.{Status}
 use Rattle.space_map.specs.declared.status.Status.TheVariants.{Free, Taken}
 use Rattle.disk_change.specs.GivenUp.{IsLeftByGone, entry_number}
 use Rattle.disk_change.specs.Planned.{as_u32, blocks_taken, enters}
+use Rattle.disk_change.specs.Written.{IsTransactionOf}
 use Rattle.disk_change.specs.declared.old.OldEntry.{OldEntry}
 use Rattle.commit_laws.specs.CommitOfPlan.{CommitPlan, change_planned}
 
@@ -34,3 +36,9 @@ pub record WasReturned (old : Space) (grant : GrantedNumbers) (new : Space) : Ty
   pub granted_blocks : AllGranted old.blocks grant.blocks
   pub inodes : BecomeAll Free grant.inodes old.inodes new.inodes
   pub blocks : BecomeAll Free grant.blocks old.blocks new.blocks
+
+-- A grant has ended with the commit of a plan: its numbers are taken, and those are free that the plan's transaction gives up.
+pub record WasUsed (plan : CommitPlan) (tx : Tx) (old : Space) (grant : GrantedNumbers) (new : Space) : Type 0 where
+  pub gives_up : IsTransactionOf (change_planned plan) grant tx
+  pub inodes : Ends grant.inodes tx.freed_inodes.items old.inodes new.inodes
+  pub blocks : Ends grant.blocks tx.freed_blocks.items old.blocks new.blocks
