@@ -19,14 +19,14 @@ use Rattle.cut_trees.specs.Spans.{is_edit_between}
 use Rattle.commit_turns.specs.Touched.{is_touched_by, is_touched_between}
 
 -- the changes of a history and of what follows
-edits_joined : (first : TreeState) (history rest : List Entry) → edits_of first (history ++ rest) ≡ edits_of first history ++ edits_of (tree_after first history) rest
+pub edits_joined : (first : TreeState) (history rest : List Entry) → edits_of first (history ++ rest) ≡ edits_of first history ++ edits_of (tree_after first history) rest
 edits_joined first [] rest = refl
 edits_joined first (e ∷ history) rest =
     ap (λ l. edits_by e.stamp.0 (verdict first e.core.0 e.call).effect ++ l) (edits_joined (tree_after_entry first e) history rest)
     ∙ sym (append_assoc (edits_by e.stamp.0 (verdict first e.core.0 e.call).effect) (edits_of (tree_after_entry first e) history) _)
 
 -- what follows is legal behind it
-legal_rest : (first : TreeState) (stamp : ℕ) (history rest : List Entry) → IsLegalFrom first stamp (history ++ rest) → IsLegalFrom (tree_after first history) (stamp + length history) rest
+pub legal_rest : (first : TreeState) (stamp : ℕ) (history rest : List Entry) → IsLegalFrom first stamp (history ++ rest) → IsLegalFrom (tree_after first history) (stamp + length history) rest
 legal_rest first stamp [] rest legal = let e : stamp ≡ stamp + 0 = omega arith in subst (λ (k : ℕ). IsLegalFrom first k rest) e legal
 legal_rest first stamp (entry ∷ history) rest legal =
     let e : suc stamp + length history ≡ stamp + suc (length history) = omega arith in
@@ -59,7 +59,7 @@ module _ (first : TreeState) (history rest : List Entry) (is : IsSoundTree first
   before : take (length history) (history ++ rest) ≡ history
   before = take-append_seam history rest
 
-  bytes_longer : bytes_at first (history ++ rest) file from ≡ bytes_at first history file from
+  pub bytes_longer : bytes_at first (history ++ rest) file from ≡ bytes_at first history file from
   bytes_longer =
       bytes_at-tree_after first (history ++ rest) file from is legal
       ∙ ap (λ h. bytes_of (tree_after first h) file) (sym (take_take (history ++ rest) from (length history) low) ∙ ap (take from) before)

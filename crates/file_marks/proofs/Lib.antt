@@ -1,0 +1,6 @@
+pub mod Edits
+pub mod Blocks
+pub mod Made
+pub mod Short
+pub mod Kept
+pub mod Images

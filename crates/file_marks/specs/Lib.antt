@@ -1,0 +1,4 @@
+pub mod Changed
+pub mod FileAt
+pub mod Laws
+pub mod Touched
