@@ -49,7 +49,7 @@ abbrev pub logged_at : TreeState → List Entry → ℕ → ℕ → List Change
 logged_at first history stamp t = logged_by (tree_at first history t) (core_at first history t) stamp (effect_at first history t) (makes_at first history t)
 
 -- what an entry logs has its stamp
-logged_stamp : (tree : TreeState) (core stamp : ℕ) (effect : Effect) (makes : Option Kind) (change : Change) → IsOneOf (logged_by tree core stamp effect makes) change → change.stamp.0 ≡ stamp
+pub logged_stamp : (tree : TreeState) (core stamp : ℕ) (effect : Effect) (makes : Option Kind) (change : Change) → IsOneOf (logged_by tree core stamp effect makes) change → change.stamp.0 ≡ stamp
 logged_stamp tree core stamp Stays makes change one = absurd one
 logged_stamp tree core stamp (Adds directory name child) makes change one = elim one [ inl same ↦ ap (λ (c : Change). c.stamp.0) (sym same) | inr none ↦ absurd none ]
 logged_stamp tree core stamp (Removes directory name child) makes change one = elim one [ inl same ↦ ap (λ (c : Change). c.stamp.0) (sym same) | inr none ↦ absurd none ]
@@ -67,7 +67,7 @@ logged_stamp tree core stamp (Moves p n q m x) makes change one = elim (in_eithe
 logged_stamp tree core stamp (Edits file edit) makes change one = absurd one
 
 -- later entries log at later stamps
-logged_later : (first : TreeState) (history : List Entry) (stamp : ℕ) → IsLegalFrom first stamp history → (change : Change) → IsOneOf (logged_of first history) change → stamp ≤ change.stamp.0
+pub logged_later : (first : TreeState) (history : List Entry) (stamp : ℕ) → IsLegalFrom first stamp history → (change : Change) → IsOneOf (logged_of first history) change → stamp ≤ change.stamp.0
 logged_later first [] stamp legal change one = absurd one
 logged_later first (entry ∷ history) stamp legal change one = elim (in_either _ (logged_of (tree_after_entry first entry) history) change one) [
   | inl here ↦ let same = logged_stamp first entry.core.0 entry.stamp.0 _ _ change here in let at = legal.0.stamped in omega arith
@@ -94,11 +94,11 @@ logged_there first (entry ∷ history) stamp (suc t) legal =
     ∙ subst (λ n. filter (is_of_stamp n) rest ≡ logged_at (tree_after_entry first entry) history n t) (suc_plus stamp t) (logged_there (tree_after_entry first entry) history (suc stamp) t legal.1)
 
 -- what a whole history logs at a stamp
-logged_stamped : (first : TreeState) (history : List Entry) (stamp : ℕ) → IsLegal first history → filter (is_of_stamp stamp) (logged_of first history) ≡ logged_at first history stamp stamp
+pub logged_stamped : (first : TreeState) (history : List Entry) (stamp : ℕ) → IsLegal first history → filter (is_of_stamp stamp) (logged_of first history) ≡ logged_at first history stamp stamp
 logged_stamped first history stamp legal = subst (λ n. filter (is_of_stamp n) (logged_of first history) ≡ logged_at first history n stamp) (zero_plus stamp) (logged_there first history 0 stamp legal)
 
 -- a change of a history is logged by the entry of its stamp
-logged_once : (first : TreeState) (history : List Entry) (change : Change) → IsLegal first history → IsOneOf (logged_of first history) change → IsOneOf (logged_at first history change.stamp.0 change.stamp.0) change
+pub logged_once : (first : TreeState) (history : List Entry) (change : Change) → IsLegal first history → IsOneOf (logged_of first history) change → IsOneOf (logged_at first history change.stamp.0 change.stamp.0) change
 logged_once first history change legal one =
     subst (λ l. IsOneOf l change) (logged_stamped first history change.stamp.0 legal) (to_filter (is_of_stamp change.stamp.0) (logged_of first history) change one (same_number change.stamp.0))
 
@@ -198,7 +198,7 @@ module _ (first : TreeState) (history : List Entry) (counts : Counts) (sound : I
   due : change.above ≡ above_due tree change
   due = same_of_maps (λ (c : Change). c.above) (above_due tree) entry change (logs_tell_ways tree (core_at first history change.stamp.0) change.stamp.0 (effect_at first history change.stamp.0) (makes_at first history change.stamp.0)) one
 
-  row : IsChange first history (erased entry change)
+  pub row : IsChange first history (erased entry change)
   row = change_in first history change.stamp.0 (erased entry change) legal (subst (λ l. IsOneOf l (erased entry change)) (erased_at first history change.stamp.0 sound legal) (to_map (erased entry) entry change one))
 
   same_kind : ComesHere tree change → is_directory tree change.child.0 ≡ is_directory_kind change.kind
