@@ -74,7 +74,8 @@ kind_of_directory tree node directory = by (kind_of tree node) (sym (directory_b
     by Directory e = refl
     by File e = absurd (false_not_true e)
 
-module _ (first : TreeState) (history : List Entry) (cut : Cut) (inodes : ℕ → Bool) (gathered : Gathered) (start : NodeId) (below : Stamp) (members : List NodeId) (is_file : Bool)
+module _ (first : TreeState) (history : List Entry) (cut : Cut) (inodes : ℕ → Bool) (gathered : Gathered) (start : NodeId) (below : Stamp)
+    (members : List NodeId) (is_file : Bool)
     (sound : IsSoundTree first) (legal : IsLegal first history) (orderly : IsOrderly gathered)
     (spans : (node : ℕ) → Gathers (look_of start below gathered) node → span_in gathered below node ≡ logged_span first history cut below node)
     (are : (node : ℕ) → (is_listed (map node_number members) node ≡ true) ↔ Gathers (look_of start below gathered) node)
@@ -99,13 +100,15 @@ module _ (first : TreeState) (history : List Entry) (cut : Cut) (inodes : ℕ �
       kinds_logged first 0 history sound legal change (in_filter (is_logged_in member.0.0) (logged_of first history) change own.0).0
 
   -- a touched node that no such change names is a member, and so a directory or the fsync's own
-  untold : (node : ℕ) → nat_eq node start.0 ≡ false → Touches (look_of start below gathered) node → find (λ (change : Change). nat_eq change.child.0 node) (reverse changes) ≡ None → kind_of last node ≡ Directory
+  untold : (node : ℕ) → nat_eq node start.0 ≡ false → Touches (look_of start below gathered) node
+      → find (λ (change : Change). nat_eq change.child.0 node) (reverse changes) ≡ None → kind_of last node ≡ Directory
   untold node other touches none = by (touches_back gathered orderly start below members are node touches)
     where
       by : (member : NodeId) × IsOneOf members member × ((member.0 ≡ node) ⊎ ((change : Change) × IsOneOf (span_in gathered below member.0) change × (change.child.0 ≡ node))) → kind_of last node ≡ Directory
       by (member, one, inr (change, among, child)) =
           let passes : nat_eq change.child.0 node ≡ true = subst (λ n. nat_eq change.child.0 n ≡ true) child (same_number change.child.0) in
-          let found = ap (find (λ (change : Change). nat_eq change.child.0 node)) (sym (reverse-reverse changes)) ∙ none_reversed (λ (change : Change). nat_eq change.child.0 node) (reverse changes) none in
+          let found = ap (find (λ (change : Change). nat_eq change.child.0 node)) (sym (reverse-reverse changes))
+          ∙ none_reversed (λ (change : Change). nat_eq change.child.0 node) (reverse changes) none in
           absurd (none_passes (λ (change : Change). nat_eq change.child.0 node) changes found change (to_flat (λ (node : NodeId). span_in gathered below node.0) members member change one among) passes)
       by (member, one, inl same) =
           elim (members_are_directories first history every_entry cut inodes (record { node = start.0; stamp = below.0 }) node sound legal (closed node (subst (Gathers (look_of start below gathered)) same (gathers member one)))) [
@@ -124,7 +127,8 @@ module _ (first : TreeState) (history : List Entry) (cut : Cut) (inodes : ℕ �
           of true e = sym (kind_of_file last start.0 e)
           of false e = sym (kind_of_directory last start.0 e)
 
-      others : nat_eq node start.0 ≡ false → (o : Option Change) → find (λ (change : Change). nat_eq change.child.0 node) (reverse changes) ≡ o → unwrap_or (option_map (λ (change : Change). change.kind) o) Directory ≡ kind_of last node
+      others : nat_eq node start.0 ≡ false → (o : Option Change) → find (λ (change : Change). nat_eq change.child.0 node) (reverse changes) ≡ o
+          → unwrap_or (option_map (λ (change : Change). change.kind) o) Directory ≡ kind_of last node
       others other None none = sym (untold node other touches none)
       others other (Some change) found =
           let there = found_in (λ (change : Change). nat_eq change.child.0 node) (reverse changes) change found in

@@ -48,17 +48,22 @@ abbrev FitsAll : Act → FinMap key_cmp ℕ → Key → ℕ → Type 0
 FitsAll Add rows key child = get rows key ≡ None
 FitsAll Remove rows key child = get rows key ≡ Some child
 
-own_made : (act : Act) (d e : ℕ) (name : List ℕ) (child : ℕ) (rows : FinMap key_cmp ℕ) → names_of d (act_made act rows (e, name) child) ≡ cond (nat_eq e d) (with_act act (names_of d rows) name child) (names_of d rows)
+own_made : (act : Act) (d e : ℕ) (name : List ℕ) (child : ℕ) (rows : FinMap key_cmp ℕ)
+    → names_of d (act_made act rows (e, name) child) ≡ cond (nat_eq e d) (with_act act (names_of d rows) name child) (names_of d rows)
 own_made Add d e name child rows = names_of-insert d e name child rows
 own_made Remove d e name child rows = names_of-remove d e name rows
 
-own_fits : (act : Act) (d e : ℕ) (name : List ℕ) (child : ℕ) (rows : FinMap key_cmp ℕ) → nat_eq e d ≡ true → FitsAll act rows (e, name) child → FitsRows act (names_of d rows) name child
+own_fits : (act : Act) (d e : ℕ) (name : List ℕ) (child : ℕ) (rows : FinMap key_cmp ℕ) → nat_eq e d ≡ true → FitsAll act rows (e, name) child
+    → FitsRows act (names_of d rows) name child
 own_fits Add d e name child rows same free = get-names_where d (λ _. true) rows name ∙ subst (λ n. get rows (n, name) ≡ None) (eqb-true e d same) free
-own_fits Remove d e name child rows same there = get-names_where d (λ _. true) rows name ∙ subst (λ n. get rows (n, name) ≡ Some child) (eqb-true e d same) there
+own_fits Remove d e name child rows same there = get-names_where d (λ _. true) rows name
+    ∙ subst (λ n. get rows (n, name) ≡ Some child) (eqb-true e d same) there
 
 -- one change more in front, which a directory's log has where it is its own
-lead_first : (d : ℕ) (change : Change) (rest : List Change) (rows : FinMap key_cmp ℕ) (later : FinMap name_cmp ℕ) → FitsAll change.act rows (change.dir.0, change.name) change.child.0
-    → LeadRows (names_of d (act_made change.act rows (change.dir.0, change.name) change.child.0)) (filter (is_logged_in d) rest) later → LeadRows (names_of d rows) (filter (is_logged_in d) (change ∷ rest)) later
+lead_first : (d : ℕ) (change : Change) (rest : List Change) (rows : FinMap key_cmp ℕ) (later : FinMap name_cmp ℕ)
+    → FitsAll change.act rows (change.dir.0, change.name) change.child.0
+    → LeadRows (names_of d (act_made change.act rows (change.dir.0, change.name) change.child.0)) (filter (is_logged_in d) rest) later
+    → LeadRows (names_of d rows) (filter (is_logged_in d) (change ∷ rest)) later
 lead_first d change rest rows later fits lead =
     elim (nat_eq change.dir.0 d) as (λ b. nat_eq change.dir.0 d ≡ b → LeadRows (cond b (with_act change.act (names_of d rows) change.name change.child.0) (names_of d rows)) (filter (is_logged_in d) rest) later
     → LeadRows (names_of d rows) (cond b (change ∷ filter (is_logged_in d) rest) (filter (is_logged_in d) rest)) later) [
@@ -102,7 +107,8 @@ module _ (tree : TreeState) (core stamp d : ℕ) where
     comes = log_entry stamp q m x (kind_of tree x) Add (other_side q p) (recorded_above tree (Moves p n q m x) q)
 
     -- its two changes, in rows that have it and where its new place is free
-    both : (rows : FinMap key_cmp ℕ) → get rows (p, n) ≡ Some x → get rows (q, m) ≡ None → LeadRows (names_of d rows) (filter (is_logged_in d) (goes ∷ comes ∷ [])) (names_of d (insert (remove rows (p, n)) (q, m) x))
+    both : (rows : FinMap key_cmp ℕ) → get rows (p, n) ≡ Some x → get rows (q, m) ≡ None
+        → LeadRows (names_of d rows) (filter (is_logged_in d) (goes ∷ comes ∷ [])) (names_of d (insert (remove rows (p, n)) (q, m) x))
     both rows there free =
         lead_first d goes (comes ∷ []) rows _ there
         (lead_first d comes [] (remove rows (p, n)) _ (still_none rows (q, m) (p, n) free) (no_changes (names_of d (insert (remove rows (p, n)) (q, m) x))))

@@ -31,13 +31,15 @@ none_no_bytes : (tree : TreeState) (node : ℕ) → get tree.nodes node ≡ None
 none_no_bytes tree node none = ap (λ (o : Option Node). option_map_or (λ n. n.bytes) o []) none
 
 -- In the tree at a cut each number has its bytes at its own stamp, also one that is no node's.
-pub bytes_are_cut : (first : TreeState) (history : List Entry) (cut : Cut) (node : ℕ) → IsSoundTree first → IsLegal first history → bytes_of (tree_at_cut first history cut) node ≡ bytes_at first history node (cut_of cut node)
+pub bytes_are_cut : (first : TreeState) (history : List Entry) (cut : Cut) (node : ℕ) → IsSoundTree first → IsLegal first history
+    → bytes_of (tree_at_cut first history cut) node ≡ bytes_at first history node (cut_of cut node)
 bytes_are_cut first history cut node is legal = by (get (tree_after first history).nodes node) refl
   where
     stamp : ℕ
     stamp = cut_of cut node
 
-    by : (o : Option Node) → get (tree_after first history).nodes node ≡ o → bytes_of (tree_at_cut first history cut) node ≡ bytes_at first history node (cut_of cut node)
+    by : (o : Option Node) → get (tree_after first history).nodes node ≡ o
+        → bytes_of (tree_at_cut first history cut) node ≡ bytes_at first history node (cut_of cut node)
     by (Some n) e = files_are_cut first history cut node (subst IsSome (sym e) refl)
     by None e =
         none_no_bytes (tree_at_cut first history cut) node (none_there _ (λ some. lacks (((cuts_keep_kinds first history cut).nodes node).0 some)))
@@ -67,7 +69,8 @@ module _ (old new : TreeState) (nodes : List ℕ) (plan : CommitPlan) (short : H
           by (k, within, is) = omega arith
 
   -- a plan with the change of one file, where all other bytes stay
-  module _ (start : ℕ) (one : FileChange) (is : plan.files ≡ one ∷ []) (own : one.node.0 ≡ start) (changes : ChangesFile (bytes_of old start) (bytes_of new start) one)
+  module _ (start : ℕ) (one : FileChange) (is : plan.files ≡ one ∷ []) (own : one.node.0 ≡ start)
+      (changes : ChangesFile (bytes_of old start) (bytes_of new start) one)
       (same : (node : ℕ) → node ≢ start → bytes_of new node ≡ bytes_of old node) where
     only : (x : FileChange) → Contains plan.files x → one ≡ x
     only x there = by (subst (λ l. Contains l x) is there)

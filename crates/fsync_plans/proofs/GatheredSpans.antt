@@ -45,7 +45,8 @@ filter_kept p q xs all = pass_both q p (λ x. q x && p x) (λ x. refl) xs ∙ fi
     by false true also = refl
     by false false also = refl
 
-module _ (first : TreeState) (history : List Entry) (counts : Counts) (cut : Cut) (inodes : ℕ → Bool) (gathered : Gathered) (start : NodeId) (below : Stamp) (sound : IsSoundTree first) (legal : IsLegal first history) (orderly : IsOrderly gathered)
+module _ (first : TreeState) (history : List Entry) (counts : Counts) (cut : Cut) (inodes : ℕ → Bool) (gathered : Gathered) (start : NodeId) (below : Stamp)
+    (sound : IsSoundTree first) (legal : IsLegal first history) (orderly : IsOrderly gathered)
     (logs : (log : DirectoryChanges) → IsOneOf gathered.logs.items log → IsLogOf first history counts log) (knows : KnowsEnough first history counts cut inodes (look_of start below gathered)) (counted : (stamp : ℕ) → stamp < below.0 → counts stamp ≡ true)
     (d : ℕ) (own_member : Gathers (look_of start below gathered) d) where
   abbrev own : List Change
@@ -62,7 +63,8 @@ module _ (first : TreeState) (history : List Entry) (counts : Counts) (cut : Cut
   HasChange change log = (find (λ (log : DirectoryChanges). nat_eq (log_directory log) d) gathered.logs.items ≡ Some log) × IsOneOf log.changes.items change
 
   -- the log of a change that was gathered at the stamp of a logged one has the logged one too
-  by_noted : (change : Change) → IsOneOf own change → (noted : Noted) → IsOneOf (look_of start below gathered).noted noted → noted.change.stamp ≡ change.stamp.0 → noted.change.directory ≡ d → (log : DirectoryChanges) × HasChange change log
+  by_noted : (change : Change) → IsOneOf own change → (noted : Noted) → IsOneOf (look_of start below gathered).noted noted
+      → noted.change.stamp ≡ change.stamp.0 → noted.change.directory ≡ d → (log : DirectoryChanges) × HasChange change log
   by_noted change one noted is_noted same_stamp same_directory =
       let in_log = from_flat noted_in gathered.logs.items noted is_noted in
       let log = in_log.0 in
@@ -106,7 +108,8 @@ module _ (first : TreeState) (history : List Entry) (counts : Counts) (cut : Cut
   of_log (Some log) found =
       let among = found_in (λ (log : DirectoryChanges). nat_eq (log_directory log) d) gathered.logs.items log found in
       let is : IsLogOf first history counts log = logs log among.0 in
-      let changes : log.changes.items ≡ filter (λ (c : Change). is.keeps c.stamp.0) own = is.changes ∙ ap (λ n. filter (λ (c : Change). is.keeps c.stamp.0) (filter (is_logged_in n) (logged_of first history))) (eqb-true log.dir.0 d among.1) in
+      let changes : log.changes.items ≡ filter (λ (c : Change). is.keeps c.stamp.0) own = is.changes
+      ∙ ap (λ n. filter (λ (c : Change). is.keeps c.stamp.0) (filter (is_logged_in n) (logged_of first history))) (eqb-true log.dir.0 d among.1) in
       ap (filter (is_in_span from below.0)) changes
       ∙ filter_kept (is_in_span from below.0) (λ (c : Change). is.keeps c.stamp.0) own (λ change one inside.
       let its = in_log change one inside in
@@ -114,4 +117,5 @@ module _ (first : TreeState) (history : List Entry) (counts : Counts) (cut : Cut
       (in_filter (λ (c : Change). is.keeps c.stamp.0) own change (subst (λ l. IsOneOf l change) changes (subst (λ (l : DirectoryChanges). IsOneOf l.changes.items change) same its.1.1))).1)
 
   pub spans_are_logged : span_in gathered below d ≡ logged_span first history cut below d
-  spans_are_logged = of_log (find (λ (log : DirectoryChanges). nat_eq (log_directory log) d) gathered.logs.items) refl ∙ ap (λ n. filter (is_in_span n below.0) own) same_cut
+  spans_are_logged = of_log (find (λ (log : DirectoryChanges). nat_eq (log_directory log) d) gathered.logs.items) refl
+      ∙ ap (λ n. filter (is_in_span n below.0) own) same_cut

@@ -77,11 +77,13 @@ use Rattle.fsync_plans.proofs.Raised.{raised_cut, is_raised}
 use Rattle.fsync_plans.proofs.Sees.{SeesCommit, sees_enough}
 
 -- whether an fsync's own node is a directory is known by its file
-own_kind : (first : TreeState) (history : List Entry) (start : NodeId) (below : Stamp) (file : Option File) → HasFileOf first history start below file → is_directory (tree_after first history) start.0 ≡ is_none file
+own_kind : (first : TreeState) (history : List Entry) (start : NodeId) (below : Stamp) (file : Option File) → HasFileOf first history start below file
+    → is_directory (tree_after first history) start.0 ≡ is_none file
 own_kind first history start below None directory = directory
 own_kind first history start below (Some file) is = is.0
 
-module _ (first : TreeState) (history : List Entry) (flushes : List Flush) (cut : Cut) (inodes : ℕ → Bool) (num : Numbering) (layout : Layout) (store : ℕ → List ℕ) (parts : ℕ → Part) (entries : List OldEntry)
+module _ (first : TreeState) (history : List Entry) (flushes : List Flush) (cut : Cut) (inodes : ℕ → Bool) (num : Numbering) (layout : Layout)
+    (store : ℕ → List ℕ) (parts : ℕ → Part) (entries : List OldEntry)
     (start : NodeId) (below : Stamp) (gathered : Gathered) (concern : Concern) (old : List OldEntry) (file : Option File) (plan : FsyncPlan)
     (is : PlansFsync first history flushes cut inodes num layout store parts entries start below gathered concern old file plan) where
   abbrev flush : Flush
@@ -142,10 +144,12 @@ module _ (first : TreeState) (history : List Entry) (flushes : List Flush) (cut 
   same_kinds node = (cuts_keep_kinds first history raised).kinds node ∙ sym ((cuts_keep_kinds first history cut).kinds node)
 
   directory_later : (node : ℕ) → is_directory later node ≡ is_directory last node
-  directory_later node = directory_by_kind later node ∙ ap is_directory_kind ((cuts_keep_kinds first history raised).kinds node) ∙ sym (directory_by_kind last node)
+  directory_later node = directory_by_kind later node ∙ ap is_directory_kind ((cuts_keep_kinds first history raised).kinds node)
+      ∙ sym (directory_by_kind last node)
 
   directory_before : (node : ℕ) → is_directory before node ≡ is_directory last node
-  directory_before node = directory_by_kind before node ∙ ap is_directory_kind ((cuts_keep_kinds first history cut).kinds node) ∙ sym (directory_by_kind last node)
+  directory_before node = directory_by_kind before node ∙ ap is_directory_kind ((cuts_keep_kinds first history cut).kinds node)
+      ∙ sym (directory_by_kind last node)
 
   -- no row at the raised cut names the root
   root_unnamed : IsNamedIn (rows_at_cut first history raised) 0 → ⊥
@@ -153,7 +157,8 @@ module _ (first : TreeState) (history : List Entry) (flushes : List Flush) (cut 
       let stamp = cut_of raised there.directory in
       let same : names_of there.directory later.rows ≡ names_of there.directory (tree_after first (take stamp history)).rows = directories_are_cut first history raised there.directory ∙ rows_at-tree_after first history there.directory stamp legal in
       let row : row_of (tree_after first (take stamp history)) there.directory there.name ≡ Some 0 =
-      sym (get-names_where there.directory (λ _. true) (tree_after first (take stamp history)).rows there.name) ∙ ap (λ (m : FinMap name_cmp ℕ). get m there.name) (sym same)
+      sym (get-names_where there.directory (λ _. true) (tree_after first (take stamp history)).rows there.name)
+      ∙ ap (λ (m : FinMap name_cmp ℕ). get m there.name) (sym same)
       ∙ get-names_where there.directory (λ _. true) later.rows there.name ∙ there.row in
       (histories_keep_sound first history stamp sound legal).sound.unnamed there.directory there.name row
 
@@ -161,7 +166,8 @@ module _ (first : TreeState) (history : List Entry) (flushes : List Flush) (cut 
   member_spans node listed = sees.spans node ((is.concern_is.members.each node).0 listed)
 
   -- another concerned node than the root is named there exactly where more names come than go
-  named_there : (node : ℕ) → node ≢ 0 → Touches look node → (is_named_after old concern.nets.items node ≡ true) ↔ IsNamedIn (rows_at_cut first history raised) node
+  named_there : (node : ℕ) → node ≢ 0 → Touches look node
+      → (is_named_after old concern.nets.items node ≡ true) ↔ IsNamedIn (rows_at_cut first history raised) node
   named_there node apart touches =
       named_by_nets first history flushes cut inodes num layout store parts entries is.ready is.keeps nodes old is.old_is later concern.nets.items same_kinds is.nets_ascend
       (each_net first history cut gathered below concern.members.items concern.nets.items sound legal member_spans is.concern_is.nets) node apart ((is.concern_is.nodes.each node).1 touches)
@@ -243,7 +249,8 @@ module _ (first : TreeState) (history : List Entry) (flushes : List Flush) (cut 
 
   -- a node whose stamp moves is the fsync's own or a directory, and a directory has no bytes
   directory_bytes : (node : ℕ) → is_directory last node ≡ true → bytes_of later node ≡ bytes_of before node
-  directory_bytes node directory = stored_later.storable.limits.plain node (directory_later node ∙ directory) ∙ sym (stored_before.storable.limits.plain node (directory_before node ∙ directory))
+  directory_bytes node directory = stored_later.storable.limits.plain node (directory_later node ∙ directory)
+      ∙ sym (stored_before.storable.limits.plain node (directory_before node ∙ directory))
 
   other_bytes : (node : ℕ) → node ≢ start.0 → bytes_of later node ≡ bytes_of before node
   other_bytes node apart = elim (raises.other node) [
@@ -263,7 +270,9 @@ module _ (first : TreeState) (history : List Entry) (flushes : List Flush) (cut 
       own_stamp : cut_of cut start.0 ≤ below.0 → cut_of raised start.0 ≡ below.0
       own_stamp low = raises.member start.0 Closure.itself ∙ max-eq_right {n = cut_of cut start.0} {m = below.0} low
 
-      by : (o : Option File) → file ≡ o → HasFileOf first history start below o → AreFileChanges start (cut_in gathered.cuts.items start.0) o (is_held gathered is.plans.enter start.0) is.plans.files → HasFiles nodes before later commit
+      by : (o : Option File) → file ≡ o → HasFileOf first history start below o
+          → AreFileChanges start (cut_in gathered.cuts.items start.0) o (is_held gathered is.plans.enter start.0) is.plans.files
+          → HasFiles nodes before later commit
       by None e directory none = no_file_leads before later nodes commit short none (λ node. elim (which node) [ inl same ↦ directory_bytes node (ap (is_directory last) same ∙ directory) | inr apart ↦ other_bytes node apart ])
         where
           which : (node : ℕ) → (node ≡ start.0) ⊎ (node ≢ start.0)
@@ -272,7 +281,8 @@ module _ (first : TreeState) (history : List Entry) (flushes : List Flush) (cut 
           let timely = in_time (ap is_some e) in
           held timely.not_later (is_held gathered is.plans.enter start.0) timely.holds made
         where
-          held : cut_of cut start.0 ≤ below.0 → (b : Bool) → b ≡ true → AreFileChanges start (cut_in gathered.cuts.items start.0) (Some f) b is.plans.files → HasFiles nodes before later commit
+          held : cut_of cut start.0 ≤ below.0 → (b : Bool) → b ≡ true → AreFileChanges start (cut_in gathered.cuts.items start.0) (Some f) b is.plans.files
+              → HasFiles nodes before later commit
           held low false not made = absurd (true_not_false (sym not))
           held low true _ (one, files_are, changed) =
               own_file_leads before later nodes commit short start.0 one files_are (ap (λ (n : NodeId). n.0) changed.own)
@@ -282,7 +292,8 @@ module _ (first : TreeState) (history : List Entry) (flushes : List Flush) (cut 
               other_bytes
 
   -- all of it
-  leads : (is_some file ≡ true → IsInTime cut start below (is_held gathered is.plans.enter start.0)) → IsPlanAt first history cut inodes flush raised after nodes entries commit
+  leads : (is_some file ≡ true → IsInTime cut start below (is_held gathered is.plans.enter start.0))
+      → IsPlanAt first history cut inodes flush raised after nodes entries commit
   leads in_time = record {
     concerns = λ node. (λ among. (sees.fits.concerned node).0 ((is.concern_is.nodes.each node).0 among), λ concerned. (is.concern_is.nodes.each node).1 ((sees.fits.concerned node).1 concerned));
     old = is.old_is;
@@ -291,7 +302,8 @@ module _ (first : TreeState) (history : List Entry) (flushes : List Flush) (cut 
     files = files in_time;
   }
 
-  pub plan_leads : (is_some file ≡ true → IsInTime cut start below (is_held gathered is.plans.enter start.0)) → LeadsToCut first history cut inodes flush entries plan
+  pub plan_leads : (is_some file ≡ true → IsInTime cut start below (is_held gathered is.plans.enter start.0))
+      → LeadsToCut first history cut inodes flush entries plan
   plan_leads in_time = record {
     raised = raised;
     after = after;

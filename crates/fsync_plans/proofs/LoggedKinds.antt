@@ -38,14 +38,16 @@ record TellsKind (tree : TreeState) (change : Change) : Type 0 where
 
 module _ (tree : TreeState) (core stamp : ℕ) (is : IsSound tree) where
   -- of a child that was there before the entry
-  still_told : (effect : Effect) (makes : Option Kind) → Fits tree core effect makes → (change : Change) → TellsKind tree change → TellsKind (tree_with tree core effect makes) change
+  still_told : (effect : Effect) (makes : Option Kind) → Fits tree core effect makes → (change : Change) → TellsKind tree change
+      → TellsKind (tree_with tree core effect makes) change
   still_told effect makes fits change told = record {
     child = node_stays tree core effect makes change.child.0 fits told.child;
     kind = told.kind ∙ sym (same_kinds (tree_with tree core effect makes) tree change.child.0 (directory_stays tree core effect makes change.child.0 fits told.child));
   }
 
   -- what an entry logs tells kinds of the next tree
-  logged_tell : (effect : Effect) (makes : Option Kind) → Fits tree core effect makes → (change : Change) → IsOneOf (logged_by tree core stamp effect makes) change → TellsKind (tree_with tree core effect makes) change
+  logged_tell : (effect : Effect) (makes : Option Kind) → Fits tree core effect makes → (change : Change)
+      → IsOneOf (logged_by tree core stamp effect makes) change → TellsKind (tree_with tree core effect makes) change
   logged_tell Stays makes fits change one = absurd one
   logged_tell (Edits file edit) makes fits change one = absurd one
   logged_tell (Adds directory name child) None fits change one = elim one [
@@ -84,7 +86,8 @@ module _ (tree : TreeState) (core stamp : ℕ) (is : IsSound tree) where
       ]
 
 -- what a history logs tells the kinds of the tree after it
-pub kinds_logged : (first : TreeState) (k : ℕ) (history : List Entry) → IsSoundTree first → IsLegalFrom first k history → (change : Change) → IsOneOf (logged_of first history) change → change.kind ≡ kind_of (tree_after first history) change.child.0
+pub kinds_logged : (first : TreeState) (k : ℕ) (history : List Entry) → IsSoundTree first → IsLegalFrom first k history → (change : Change)
+    → IsOneOf (logged_of first history) change → change.kind ≡ kind_of (tree_after first history) change.child.0
 kinds_logged first k [] is legal change one = absurd one
 kinds_logged first k (entry ∷ history) is legal change one =
     let next = tree_after_entry first entry in

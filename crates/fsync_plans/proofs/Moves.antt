@@ -35,7 +35,8 @@ named_but_root found node = (
 )
 
 -- Where the root is seen with an inode, the same nodes move, since the root neither enters nor leaves.
-module _ (look : Look) (lifted : ℕ → ℕ) (found : Found) (gets loses : ℕ → Bool) (root : Touches look 0 → look.inodes 0 ≡ true) (moved : AreMoved look lifted found gets loses) where
+module _ (look : Look) (lifted : ℕ → ℕ) (found : Found) (gets loses : ℕ → Bool) (root : Touches look 0 → look.inodes 0 ≡ true)
+    (moved : AreMoved look lifted found gets loses) where
   not_root : (node : ℕ) → Touches look node → look.inodes node ≡ false → nat_eq node 0 ≡ false
   not_root node touches none = not_same node 0 (λ same. not_both (ap look.inodes same ∙ root (subst (Touches look) same touches)) none)
 
@@ -79,7 +80,8 @@ not_when : (b : Bool) → (not b ≡ false) ↔ (b ≡ true)
 not_when true = (λ _. refl, λ _. refl)
 not_when false = (λ e. absurd (true_not_false e), λ e. absurd (false_not_true e))
 
-module _ (first : TreeState) (history : List Entry) (cut raised : Cut) (inodes : ℕ → Bool) (look : Look) (lifted : ℕ → ℕ) (found : Found) (gets loses : ℕ → Bool)
+module _ (first : TreeState) (history : List Entry) (cut raised : Cut) (inodes : ℕ → Bool) (look : Look) (lifted : ℕ → ℕ) (found : Found)
+    (gets loses : ℕ → Bool)
     (alike_inodes : (node : ℕ) → Touches look node → look.inodes node ≡ inodes node) (fits : FitsHistory first history every_entry cut inodes look) (moved : AreMoved look lifted found gets loses)
     (makes : MakesCommit first history every_entry inodes look raised lifted gets loses) where
   abbrev after : ℕ → Bool
@@ -91,7 +93,8 @@ module _ (first : TreeState) (history : List Entry) (cut raised : Cut) (inodes :
 
   pub lost_then : (node : ℕ) → (loses node ≡ true) ↔ ((inodes node ≡ true) × (after node ≡ false))
   lost_then node = (
-    λ one. let is = (moved.leaves node).0 one in let some = sym (alike_inodes node is.1) ∙ is.0 in (some, then_some inodes gets loses node some (no_gain node some) ∙ (not_when (loses node)).1 one),
+    λ one. let is = (moved.leaves node).0 one in let some = sym (alike_inodes node is.1)
+        ∙ is.0 in (some, then_some inodes gets loses node some (no_gain node some) ∙ (not_when (loses node)).1 one),
     λ (some, gone). (not_when (loses node)).0 (sym (then_some inodes gets loses node some (no_gain node some)) ∙ gone),
   )
 

@@ -70,7 +70,8 @@ module _ (node : ℕ) where
     abbrev picked : List NetRow → List ℕ
     picked rows = filter_map (λ row. number_of (pick row)) rows
 
-    one_row : (d : ℕ) (name : List ℕ) (o : Option ℕ) (numbers : List ℕ) → counted_row (names_it node) (d, name) o + times_in numbers node ≡ times_in (cons_option o numbers) node
+    one_row : (d : ℕ) (name : List ℕ) (o : Option ℕ) (numbers : List ℕ)
+        → counted_row (names_it node) (d, name) o + times_in numbers node ≡ times_in (cons_option o numbers) node
     one_row d name None numbers = sym (from_zero_plus _)
     one_row d name (Some x) numbers = sym (count-cons (λ other. nat_eq other node) x numbers)
 
@@ -101,7 +102,8 @@ named_count tree node = (forth, λ there. count_some (names_it node) tree.rows (
       | inr none ↦ absurd (omega arith)
     ]
 
-module _ (first : TreeState) (history : List Entry) (flushes : List Flush) (cut : Cut) (inodes : ℕ → Bool) (num : Numbering) (layout : Layout) (store : ℕ → List ℕ) (parts : ℕ → Part) (entries : List OldEntry)
+module _ (first : TreeState) (history : List Entry) (flushes : List Flush) (cut : Cut) (inodes : ℕ → Bool) (num : Numbering) (layout : Layout)
+    (store : ℕ → List ℕ) (parts : ℕ → Part) (entries : List OldEntry)
     (ready : IsBetweenCommits first history flushes cut inodes num layout store parts) (keeps : KeepsEntries num parts entries) (nodes : List ℕ) (old : List OldEntry) (has : HasOldEntries nodes entries old) where
   abbrev tree : TreeState
   tree = tree_at_cut first history cut
@@ -113,7 +115,8 @@ module _ (first : TreeState) (history : List Entry) (flushes : List Flush) (cut 
   stored = cut_trees_are_storable first history flushes cut inodes num ready.history_is ready.flushed ready.numbers
 
   -- what is kept of an entry's node is what the tree at the cut has of it
-  entry_shows : (entry : OldEntry) → Contains entries entry → (entry.old.kept.inode.kind ≡ kind_byte (kind_of tree entry.node.0)) × (entry.old.kept.inode.links ≡ links_of tree entry.node.0)
+  entry_shows : (entry : OldEntry) → Contains entries entry
+      → (entry.old.kept.inode.kind ≡ kind_byte (kind_of tree entry.node.0)) × (entry.old.kept.inode.links ≡ links_of tree entry.node.0)
   entry_shows entry there =
       let own = keeps.each entry there in
       let low = ready.stands.within entry.node.0 entry.old.number own.0 in
@@ -158,9 +161,11 @@ module _ (first : TreeState) (history : List Entry) (flushes : List Flush) (cut 
       ap (λ (o : Option OldEntry). option_map_or names_by_record o 0) found
       ∙ by (kind_of tree node) refl (shows.0 ∙ ap (λ n. kind_byte (kind_of tree n)) entry.2) (shows.1 ∙ ap (links_of tree) entry.2) number.0 number.1
     where
-      by : {kind links : ℕ} (k : Kind) → kind_of tree node ≡ k → kind ≡ kind_byte (kind_of tree node) → links ≡ links_of tree node → (i : ℕ) → num node ≡ Some i → cond (nat_eq kind 2) 1 links ≡ count_of tree.rows node
+      by : {kind links : ℕ} (k : Kind) → kind_of tree node ≡ k → kind ≡ kind_byte (kind_of tree node) → links ≡ links_of tree node → (i : ℕ)
+          → num node ≡ Some i → cond (nat_eq kind 2) 1 links ≡ count_of tree.rows node
       by {kind} {links} Directory e is_kind is_links i number =
-          ap (λ n. cond (nat_eq n 2) 1 links) (is_kind ∙ ap kind_byte e) ∙ sym (named_once node i number other (directory_by_kind tree node ∙ ap is_directory_kind e))
+          ap (λ n. cond (nat_eq n 2) 1 links) (is_kind ∙ ap kind_byte e)
+          ∙ sym (named_once node i number other (directory_by_kind tree node ∙ ap is_directory_kind e))
       by {kind} {links} File e is_kind is_links i number =
           ap (λ n. cond (nat_eq n 2) 1 links) (is_kind ∙ ap kind_byte e) ∙ is_links
           ∙ ap (λ b. cond b (2 + count_by (holds_directory tree node) (listed_rows tree.rows)) (count_of tree.rows node)) (directory_by_kind tree node ∙ ap is_directory_kind e)

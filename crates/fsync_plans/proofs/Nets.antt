@@ -79,7 +79,8 @@ module _ (first : TreeState) (history : List Entry) (cut : Cut) (gathered : Gath
   own_net : (d : ℕ) → is_listed (map node_number members) d ≡ true → IsNet (names_of d old.rows) (names_of d new.rows) (net_of_node nets d)
   own_net d listed =
       let logged = filter (is_logged_in d) (logged_of first history) in
-      let stamp : cut_of raised d ≡ max (cut_of cut d) below.0 = stamp_raised cut (map node_number members) below.0 d ∙ ap (λ b. cond b (max (cut_of cut d) below.0) (cut_of cut d)) listed in
+      let stamp : cut_of raised d ≡ max (cut_of cut d) below.0 = stamp_raised cut (map node_number members) below.0 d
+      ∙ ap (λ b. cond b (max (cut_of cut d) below.0) (cut_of cut d)) listed in
       let span : span_in gathered below d ≡ filter (is_in_span (cut_of cut d) (cut_of raised d)) logged =
       spans d listed
       ∙ filter_same (is_in_span (cut_of cut d) below.0) (is_in_span (cut_of cut d) (cut_of raised d)) logged (λ change one. span_raised (cut_of cut d) below.0 change ∙ ap (λ n. is_in_span (cut_of cut d) n change) (sym stamp)) in
@@ -90,7 +91,8 @@ module _ (first : TreeState) (history : List Entry) (cut : Cut) (gathered : Gath
   -- and of a node that is none
   other_net : (d : ℕ) → is_listed (map node_number members) d ≡ false → IsNet (names_of d old.rows) (names_of d new.rows) (net_of_node nets d)
   other_net d unlisted =
-      let stamp : cut_of raised d ≡ cut_of cut d = stamp_raised cut (map node_number members) below.0 d ∙ ap (λ b. cond b (max (cut_of cut d) below.0) (cut_of cut d)) unlisted in
+      let stamp : cut_of raised d ≡ cut_of cut d = stamp_raised cut (map node_number members) below.0 d
+      ∙ ap (λ b. cond b (max (cut_of cut d) below.0) (cut_of cut d)) unlisted in
       let same = (same_stamps_keep first history cut raised d stamp).rows in
       let none : net_of_node nets d ≡ [] = ap (λ (o : Option DirectoryNet). option_map_or (λ one. one.net.items) o []) (are.others d unlisted) in
       subst (IsNet (names_of d old.rows) (names_of d new.rows)) (sym none) (subst (λ rows. IsNet (names_of d old.rows) rows []) (sym same) (no_net (names_of d old.rows)))
@@ -107,13 +109,16 @@ module _ (first : TreeState) (history : List Entry) (cut : Cut) (gathered : Gath
     holder : (one : DirectoryNet) → Contains nets one → is_directory new one.node.0 ≡ true
     holder one there = by one.net.items refl (net_there (each_net one.node.0))
       where
-        net_there : IsNet (names_of one.node.0 old.rows) (names_of one.node.0 new.rows) (net_of_node nets one.node.0) → IsNet (names_of one.node.0 old.rows) (names_of one.node.0 new.rows) one.net.items
+        net_there : IsNet (names_of one.node.0 old.rows) (names_of one.node.0 new.rows) (net_of_node nets one.node.0)
+            → IsNet (names_of one.node.0 old.rows) (names_of one.node.0 new.rows) one.net.items
         net_there = subst (IsNet (names_of one.node.0 old.rows) (names_of one.node.0 new.rows)) (ap (λ (o : Option DirectoryNet). option_map_or (λ one. one.net.items) o []) (item_found net_node nets up one there))
 
-        row_there : (tree : TreeState) (name : List ℕ) (child : ℕ) → get (names_of one.node.0 tree.rows) name ≡ Some child → row_of tree one.node.0 name ≡ Some child
+        row_there : (tree : TreeState) (name : List ℕ) (child : ℕ) → get (names_of one.node.0 tree.rows) name ≡ Some child
+            → row_of tree one.node.0 name ≡ Some child
         row_there tree name child row = sym (get-names_where one.node.0 (λ _. true) tree.rows name) ∙ row
 
-        by : (rows : List NetRow) → one.net.items ≡ rows → IsNet (names_of one.node.0 old.rows) (names_of one.node.0 new.rows) one.net.items → is_directory new one.node.0 ≡ true
+        by : (rows : List NetRow) → one.net.items ≡ rows → IsNet (names_of one.node.0 old.rows) (names_of one.node.0 new.rows) one.net.items
+            → is_directory new one.node.0 ≡ true
         by [] e net = absurd (are.some_row there.0 one there.1 (ap (λ (it : DirectoryNet). it.net.items) there.2 ∙ e))
         by (row ∷ rows) e net =
             let is : IsNetRow (names_of one.node.0 old.rows) (names_of one.node.0 new.rows) row =

@@ -36,11 +36,13 @@ pub record SeesCommit (first : TreeState) (history : List Entry) (cut : Cut) (in
   pub same_inodes : (node : ℕ) → Touches (look_of start below gathered) node → is_listed (map node_number gathered.inodes.items) node ≡ inodes node
   pub fits : FitsHistory first history every_entry cut inodes (look_of start below gathered)
   pub spans : (node : ℕ) → Gathers (look_of start below gathered) node → span_in gathered below node ≡ logged_span first history cut below node
-  pub makes : (raised : Cut) (lifted : ℕ → ℕ) (found : Found) (gets loses : ℕ → Bool) → IsRaised first history every_entry cut inodes (planned_flush start below) raised → Lifts (look_of start below gathered) lifted
+  pub makes : (raised : Cut) (lifted : ℕ → ℕ) (found : Found) (gets loses : ℕ → Bool)
+      → IsRaised first history every_entry cut inodes (planned_flush start below) raised → Lifts (look_of start below gathered) lifted
       → FindsRight first history every_entry raised (look_of start below gathered) found → AreMoved (look_of start below gathered) lifted found gets loses
       → MakesCommit first history every_entry inodes (look_of start below gathered) raised lifted gets loses
 
-module _ (first : TreeState) (history : List Entry) (cut : Cut) (inodes : ℕ → Bool) (start : NodeId) (below : Stamp) (gathered : Gathered) (sound : IsSoundTree first) (legal : IsLegal first history) (orderly : IsOrderly gathered) where
+module _ (first : TreeState) (history : List Entry) (cut : Cut) (inodes : ℕ → Bool) (start : NodeId) (below : Stamp) (gathered : Gathered)
+    (sound : IsSoundTree first) (legal : IsLegal first history) (orderly : IsOrderly gathered) where
   abbrev look : Look
   look = look_of start below gathered
 
@@ -61,8 +63,10 @@ module _ (first : TreeState) (history : List Entry) (cut : Cut) (inodes : ℕ �
     alike : AreAlike first look.flush (view_by history has.counts cut inodes) (view_by history every_entry cut inodes)
     alike = recounts first history has.late has.counts every_entry look.flush cut inodes sound legal has.counted (λ t low. refl) has.cuts has.stamp has.live (record { kept = kept.kept; named = kept.named })
 
-    made : (raised : Cut) (lifted : ℕ → ℕ) (found : Found) (gets loses : ℕ → Bool) → IsRaised first history every_entry cut inodes look.flush raised → Lifts look lifted
-        → FindsRight first history every_entry raised look found → AreMoved look lifted found gets loses → MakesCommit first history every_entry inodes look raised lifted gets loses
+    made : (raised : Cut) (lifted : ℕ → ℕ) (found : Found) (gets loses : ℕ → Bool) → IsRaised first history every_entry cut inodes look.flush raised
+        → Lifts look lifted
+        → FindsRight first history every_entry raised look found → AreMoved look lifted found gets loses
+        → MakesCommit first history every_entry inodes look raised lifted gets loses
     made raised lifted found gets loses raise lifts right moved =
         let own_raise = (alike.raises raised).1 raise in
         let rows = counted_rows-low first history has.late has.counts raised has.counted (raised_low first history every_entry cut inodes look.flush raised has.late raise has.cuts has.stamp) in
@@ -89,7 +93,8 @@ module _ (first : TreeState) (history : List Entry) (cut : Cut) (inodes : ℕ �
       makes = made;
     }
 
-pub sees_enough : (first : TreeState) (history : List Entry) (cut : Cut) (inodes : ℕ → Bool) (start : NodeId) (below : Stamp) (gathered : Gathered) → IsSoundTree first → IsLegal first history → IsOrderly gathered
+pub sees_enough : (first : TreeState) (history : List Entry) (cut : Cut) (inodes : ℕ → Bool) (start : NodeId) (below : Stamp) (gathered : Gathered)
+    → IsSoundTree first → IsLegal first history → IsOrderly gathered
     → KeepsAll first history cut inodes → GathersEnough first history cut inodes start below gathered → SeesCommit first history cut inodes start below gathered
 sees_enough first history cut inodes start below gathered sound legal orderly kept (whole has) = sees_whole first history cut inodes start below gathered sound legal orderly has
 sees_enough first history cut inodes start below gathered sound legal orderly kept (early has) = sees_early first history cut inodes start below gathered sound legal orderly kept has

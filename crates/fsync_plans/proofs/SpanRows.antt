@@ -52,10 +52,12 @@ module _ (d from to : ℕ) where
   spanned changes = filter (is_in_span from to) (filter (is_logged_in d) changes)
 
   spanned_append : (xs ys : List Change) → spanned (xs ++ ys) ≡ spanned xs ++ spanned ys
-  spanned_append xs ys = ap (filter (is_in_span from to)) (filter-append (is_logged_in d) xs ys) ∙ filter-append (is_in_span from to) (filter (is_logged_in d) xs) (filter (is_logged_in d) ys)
+  spanned_append xs ys = ap (filter (is_in_span from to)) (filter-append (is_logged_in d) xs ys)
+      ∙ filter-append (is_in_span from to) (filter (is_logged_in d) xs) (filter (is_logged_in d) ys)
 
   -- where all stamps are in the span, or none is
-  all_spanned : (changes : List Change) → ((change : Change) → IsOneOf changes change → is_in_span from to change ≡ true) → spanned changes ≡ filter (is_logged_in d) changes
+  all_spanned : (changes : List Change) → ((change : Change) → IsOneOf changes change → is_in_span from to change ≡ true)
+      → spanned changes ≡ filter (is_logged_in d) changes
   all_spanned changes all = filter_all (is_in_span from to) (filter (is_logged_in d) changes) (λ change one. all change (in_filter (is_logged_in d) changes change one).0)
 
   none_spanned : (changes : List Change) → ((change : Change) → IsOneOf changes change → is_in_span from to change ≡ false) → spanned changes ≡ []
@@ -96,7 +98,8 @@ module _ (d from to : ℕ) where
       (from_before (suc k) n m next history (omega arith) (omega arith) (omega arith) (calls_keep_sound first entry.core.0 entry.call is legal.0.core) legal.1)
 
 -- So it does in the trees at two cuts, of which the later has a later stamp of the directory.
-pub lead_cuts : (first : TreeState) (history : List Entry) (cut raised : Cut) (d : ℕ) → IsSoundTree first → IsLegal first history → cut_of cut d ≤ cut_of raised d
+pub lead_cuts : (first : TreeState) (history : List Entry) (cut raised : Cut) (d : ℕ) → IsSoundTree first → IsLegal first history
+    → cut_of cut d ≤ cut_of raised d
     → LeadRows (names_of d (tree_at_cut first history cut).rows) (filter (is_in_span (cut_of cut d) (cut_of raised d)) (filter (is_logged_in d) (logged_of first history))) (names_of d (tree_at_cut first history raised).rows)
 lead_cuts first history cut raised d is legal le =
     let from = cut_of cut d in
