@@ -98,7 +98,7 @@ pub logged_stamped : (first : TreeState) (history : List Entry) (stamp : ℕ) �
 logged_stamped first history stamp legal = subst (λ n. filter (is_of_stamp n) (logged_of first history) ≡ logged_at first history n stamp) (zero_plus stamp) (logged_there first history 0 stamp legal)
 
 -- a change of a history is logged by the entry of its stamp
-logged_once : (first : TreeState) (history : List Entry) (change : Change) → IsLegal first history → IsOneOf (logged_of first history) change → IsOneOf (logged_at first history change.stamp.0 change.stamp.0) change
+pub logged_once : (first : TreeState) (history : List Entry) (change : Change) → IsLegal first history → IsOneOf (logged_of first history) change → IsOneOf (logged_at first history change.stamp.0 change.stamp.0) change
 logged_once first history change legal one =
     subst (λ l. IsOneOf l change) (logged_stamped first history change.stamp.0 legal) (to_filter (is_of_stamp change.stamp.0) (logged_of first history) change one (same_number change.stamp.0))
 
@@ -198,7 +198,7 @@ module _ (first : TreeState) (history : List Entry) (counts : Counts) (sound : I
   due : change.above ≡ above_due tree change
   due = same_of_maps (λ (c : Change). c.above) (above_due tree) entry change (logs_tell_ways tree (core_at first history change.stamp.0) change.stamp.0 (effect_at first history change.stamp.0) (makes_at first history change.stamp.0)) one
 
-  row : IsChange first history (erased entry change)
+  pub row : IsChange first history (erased entry change)
   row = change_in first history change.stamp.0 (erased entry change) legal (subst (λ l. IsOneOf l (erased entry change)) (erased_at first history change.stamp.0 sound legal) (to_map (erased entry) entry change one))
 
   same_kind : ComesHere tree change → is_directory tree change.child.0 ≡ is_directory_kind change.kind

@@ -60,7 +60,7 @@ use Rattle.flush_commits.proofs.FileBlocks.{file_has_blocks}
 use Rattle.flush_commits.proofs.Numbers.{none_for, numbers_then}
 
 -- a directory that is among no nets has none
-no_net : (nets : List DirectoryNet) (directory : ℕ) → list_any (λ member. nat_eq member directory) (map net_node nets) ≡ false → net_of_node nets directory ≡ []
+pub no_net : (nets : List DirectoryNet) (directory : ℕ) → list_any (λ member. nat_eq member directory) (map net_node nets) ≡ false → net_of_node nets directory ≡ []
 no_net nets directory none = ap (λ (o : Option DirectoryNet). option_map_or (λ one. one.net.items) o []) (not_found nets none)
   where
     not_found : (nets : List DirectoryNet) → list_any (λ member. nat_eq member directory) (map net_node nets) ≡ false → item_with net_node directory nets ≡ None

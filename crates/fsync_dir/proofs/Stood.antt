@@ -36,7 +36,7 @@ module _ {X : Type 0} (test : X → Bool) where
   none_joined xs ys front back = find-append test xs ys ∙ ap (λ o. option_or o (find test ys)) front ∙ back
 
   -- what is not found is not found from the end either
-  none_reversed : (xs : List X) → find test xs ≡ None → find test (reverse xs) ≡ None
+  pub none_reversed : (xs : List X) → find test xs ≡ None → find test (reverse xs) ≡ None
   none_reversed [] none = refl
   none_reversed (x ∷ xs) none =
       ap (find test) (reverse-append (x ∷ []) xs)

@@ -1,0 +1,12 @@
+pub mod EnteringKinds
+pub mod EntryRows
+pub mod Files
+pub mod GatheredSpans
+pub mod Leads
+pub mod LoggedKinds
+pub mod Moves
+pub mod Names
+pub mod Nets
+pub mod Raised
+pub mod Sees
+pub mod SpanRows
