@@ -63,7 +63,7 @@ module _ (first : TreeState) (history : List Entry) (flushes : List Flush) (cut 
     pub number : entry.old.number ≡ i
     pub kept : entry.old.kept ≡ kept_of (parts i)
 
-  pub entry_of : (node i : ℕ) → num node ≡ Some i → HasEntry i
+  entry_of : (node i : ℕ) → num node ≡ Some i → HasEntry i
   entry_of node i has =
       let one = keeps.all node i has in
       let each = keeps.each one.0 one.1 in

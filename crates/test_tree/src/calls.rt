@@ -2,9 +2,10 @@
 ghost use Rattle.std.specs.Prelude.{◌<◌, ◌≤◌, IfOk};
 ghost use Rattle.sfs_tree.specs.Step.{IsReadable};
 
+use call_log::foresee;
 use script::{text, tree_text};
 use sfs_base::{Chunk, CoreId, Kind, Name, NodeId, Stamp};
-use sfs_tree::{Call, Entry, History, Reply, Tree};
+use sfs_tree::{Call, Changes, Entry, History, Reply, Tree};
 use std::alloc::Global;
 use std::marker::Model;
 use std::process::Abort;
@@ -142,6 +143,11 @@ pub(crate) fn call_of(alloc: Global, asked: &Asked) -> Result<Call, Fail>
 }
 
 impl Trial {
+    // What a call will log at a stamp.
+    pub(crate) fn foresee(&self, stamp: Stamp, call: &Call) -> Result<Changes, Fail> {
+        Ok(foresee(self.alloc, &self.tree, stamp, call)?)
+    }
+
     // What a call of a core is answered.
     pub(crate) fn step(&mut self, core: u8, call: &Call) -> Result<Reply, Fail>
         requires core { core < 2 }

@@ -6,6 +6,7 @@ ghost use Rattle.flush_core.specs.Machine.{MachineState, MayBeTold};
 
 use crate::calls::{Trial, root_alone};
 use crate::machine::{Run, begun_at};
+use call_log::settled;
 use dep_closure::{DirectoryChanges, Gathered, NodeBirth, NodeCut, closure};
 use flush_core::Event;
 use plans::OnDisk;
@@ -59,6 +60,32 @@ fn log_all(logged: &mut Vec<Change>, told: Vec<Change>) -> Result<(), Fail> {
         logged.push(change)?;
     }
     Ok(())
+}
+
+// Whether these changes, and no others, stand from a place on.
+fn is_last(changes: &[Change], from: usize, logged: &[Change]) -> bool {
+    if changes.len() != logged.len().saturating_sub(from) {
+        return false;
+    }
+    for (place, change) in changes.iter().enumerate() {
+        match logged.get(from.saturating_add(place)) {
+            Some(other) if is_same(change, other) => {}
+            _ => return false,
+        }
+    }
+    true
+}
+
+// Whether two changes are equal.
+fn is_same(change: &Change, other: &Change) -> bool {
+    change.stamp == other.stamp
+        && change.dir == other.dir
+        && change.name.bytes() == other.name.bytes()
+        && change.child == other.child
+        && change.kind == other.kind
+        && change.act == other.act
+        && change.other == other.other
+        && change.above.nodes() == other.above.nodes()
 }
 
 impl Watched {
@@ -178,9 +205,13 @@ impl Watched {
     fn make(&mut self, rt: &impl Abort, call: &Call) -> Result<(), Fail>
         requires { IsReadable call.now }
     {
+        let foreseen = self.trial.foresee(Stamp(self.stamp), call)?;
         let told = self.told(call)?;
         let reply = self.trial.step(0, call)?;
+        let before = self.logged.len();
         self.log(call, &reply, told)?;
+        let logged = settled(self.alloc, foreseen, &reply);
+        assert!(rt; is_last(logged.as_slice(), before, &self.logged));
         self.tell_call(rt, call, reply, None)
     }
 

@@ -3,9 +3,10 @@ ghost use Rattle.std.specs.Prelude.{◌≡◌, ◌<◌, ◌≤◌, nat_le, true,
 ghost use Rattle.mem_cells.specs.Log.{log_place};
 ghost use Rattle.mem_cells.specs.Part.{changes_kept};
 
+use core_logs::CoreLogs;
 use log_merge::merge;
 use mem_cells::LogPart;
-use sfs_base::{Kind, Name, NodeId, Stamp};
+use sfs_base::{CoreId, Kind, Name, NodeId, Stamp};
 use sfs_tree::{Act, Ancestors, Change, Changes};
 use std::alloc::Global;
 use std::process::Abort;
@@ -157,5 +158,33 @@ fn a_merge_has_the_changes_of_all_parts_by_their_stamps(rt: HostRuntime) -> Resu
     assert!(rt; has(&changes, 1, 3, Act::Add));
     assert_eq!(rt; merge(alloc, &parts, NodeId(2), Stamp(9))?.len(), 1);
     assert!(rt; merge(alloc, &parts, NodeId(7), Stamp(9))?.is_empty());
+    Ok(())
+}
+
+// The logs of two cores, of which the first has one change.
+fn logs_of_two(alloc: Global, one: Change) -> Result<CoreLogs, Fail> {
+    let mut logs = CoreLogs::new(alloc, 2)?;
+    let mut entry = Changes::new(alloc);
+    entry.reserve(1)?;
+    entry.push(one);
+    logs.reserve(CoreId(0), &entry)?;
+    logs.add(CoreId(0), entry);
+    Ok(logs)
+}
+
+#[test]
+fn logs_of_all_cores_are_gathered_until_they_are_trimmed(rt: HostRuntime) -> Result<(), Fail> {
+    let alloc = rt.alloc();
+    let mut logs = logs_of_two(alloc, change(alloc, 3, 1, Act::Add)?)?;
+    let gathered = logs.gather(alloc, Stamp(4))?;
+    assert_eq!(rt; gathered.len(), 1);
+    let Some(log) = gathered.get(0) else {
+        return Err(Fail::new("no log was gathered"));
+    };
+    assert_eq!(rt; log.dir.0, 1);
+    assert_eq!(rt; log.changes.len(), 1);
+    assert!(rt; has(&log.changes, 0, 3, Act::Add));
+    logs.trim(&[NodeId(1)], Stamp(4));
+    assert_eq!(rt; logs.gather(alloc, Stamp(4))?.len(), 0);
     Ok(())
 }
