@@ -16,7 +16,7 @@ use Rattle.sfs_tree.specs.Effect.{Effect, Stays, Adds, Removes, Moves, Edits, Pu
 use Rattle.sfs_tree.specs.Verdict.{Verdict, LARGEST_FILE, verdict, or_else, refused, directory_fault, file_fault, node_fault, make_fault, make_node, link_fault, unlink_row, rmdir_row, move_row, move_fault, names_child, done, answered, look_row, read_bytes, write_bytes, trunc_file}
 use Rattle.sfs_tree.specs.Logged.{log_entry, logged_by}
 use Rattle.sfs_tree.proofs.Fitting.{neither}
-use Rattle.call_log.specs.Foreseen.{IsForeseen, settled, with_child, removal_foreseen, move_foreseen}
+use Rattle.call_log.specs.Foreseen.{IsForeseen, logged_after, change_of_node, removal_foreseen, move_foreseen}
 use Rattle.call_log.specs.Laws.{ForeseenIsLogged}
 
 -- changing the next one of a list in its place
@@ -27,9 +27,9 @@ next_changed {X = X} f [] (suc i) d less = elim less [ ]
 next_changed f (x ∷ old) zero d less = refl
 next_changed f (x ∷ old) (suc i) d less = ap (λ l. f x ∷ l) (next_changed f old i d (omega (arith, less)))
 
--- whether what is logged of a verdict is what was settled of some changes
+-- whether what is logged of a verdict is what some changes are after its reply
 abbrev IsLogged : TreeState → ℕ → ℕ → List Change → Verdict → Type 0
-IsLogged tree core stamp changes v = settled v.reply changes ≡ logged_by tree core stamp v.effect v.makes
+IsLogged tree core stamp changes v = logged_after v.reply changes ≡ logged_by tree core stamp v.effect v.makes
 
 -- a refusal logs nothing
 pub refused_or : (tree : TreeState) (core stamp : ℕ) (changes : List Change) (fault : Option Code) (v : Verdict) → (fault ≡ None → IsLogged tree core stamp changes v) → IsLogged tree core stamp changes (or_else fault v)
@@ -44,7 +44,7 @@ module _ (tree : TreeState) (core stamp : ℕ) (changes : List Change) where
 
   looked_up : (row : Option ℕ) → changes ≡ [] → IsLogged tree core stamp changes (look_row tree row)
   looked_up None none = refl
-  looked_up (Some child) none = ap (map (with_child (record { 0 = child }))) none
+  looked_up (Some child) none = ap (map (change_of_node (record { 0 = child }))) none
 
   unlinked : (directory : ℕ) (name : List ℕ) (row : Option ℕ) → changes ≡ removal_foreseen tree stamp directory name row → IsLogged tree core stamp changes (unlink_row tree directory name row)
   unlinked directory name None is = refl
@@ -76,7 +76,7 @@ no_fault false directory none = absurd cc
 made_kind : (tree : TreeState) (core stamp directory : ℕ) (name : List ℕ) (kind : Kind) (changes : List Change) → changes ≡ log_entry stamp directory name 0 kind Add None [] ∷ []
     → IsLogged tree core stamp changes (make_node tree core directory name kind)
 made_kind tree core stamp directory name kind changes is =
-    ap (map (with_child (record { 0 = next_number tree core }))) is
+    ap (map (change_of_node (record { 0 = next_number tree core }))) is
     ∙ ap (λ k. log_entry stamp directory name (next_number tree core) k Add None [] ∷ []) (ap (λ b. if b then kind else kind_of tree (next_number tree core)) (sym (eq-eqb (next_number tree core) (next_number tree core) refl)))
 
 pub foreseen_is_logged : ForeseenIsLogged

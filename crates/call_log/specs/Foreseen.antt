@@ -37,11 +37,11 @@ IsForeseen tree stamp (call.Rename directory name to_directory to_name) changes 
 IsForeseen tree stamp _ changes = changes ≡ []
 
 -- a change of the node that a reply tells
-abbrev pub with_child : NodeId → Change → Change
-with_child node change = record change { child = node }
+abbrev pub change_of_node : NodeId → Change → Change
+change_of_node node change = record change { child = node }
 
 -- what is logged once the reply is known: nothing of a call that was refused, and of one that makes a node, that node
-abbrev pub settled : Reply → List Change → List Change
-settled (reply.Error code) changes = []
-settled (reply.Node node kind) changes = map (with_child node) changes
-settled _ changes = changes
+abbrev pub logged_after : Reply → List Change → List Change
+logged_after (reply.Error code) changes = []
+logged_after (reply.Node node kind) changes = map (change_of_node node) changes
+logged_after _ changes = changes

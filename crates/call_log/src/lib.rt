@@ -4,7 +4,7 @@
 mod ahead;
 pub mod laws;
 mod moved;
-mod settle;
+mod reply;
 
 pub use ahead::foresee;
-pub use settle::settled;
+pub use reply::logged_after;

@@ -7,6 +7,7 @@ use Rattle.std.proofs.lemmas.Bool.{cases_lt}
 use Rattle.std.proofs.lemmas.List.{get_or-map, length-map, get_or_past}
 use Rattle.std.proofs.lemmas.List.FromFn.{get_or-range_with_len, length-range_with_len}
 use Rattle.std.proofs.lemmas.List.Kept.{AllPairs-filter}
+use Rattle.sfs_base.proofs.BasicNumbers.{zero_plus}
 use Rattle.sfs_base.specs.declared.numbers.Stamp.{Stamp}
 use Rattle.sfs_base.proofs.BasicTruth.{not_both, true_not_false}
 use Rattle.mem_files.specs.File.{File, room}
@@ -31,10 +32,7 @@ blocks_ascend count i j d lt within =
     omega (arith, first, later, lt)
 
 in_range : (count n : ℕ) → n < count → Contains (range_with_len 0 count) n
-in_range count n low = (n, (omega (arith, low, length-range_with_len 0 count)), get_or-range_with_len 0 count n n low ∙ alone n)
-  where
-    alone : (m : ℕ) → 0 + m ≡ m
-    alone m = omega arith
+in_range count n low = (n, (omega (arith, low, length-range_with_len 0 count)), get_or-range_with_len 0 count n n low ∙ zero_plus n)
 
 module _ (from : ℕ) (file : File) where
   abbrev blocks : List ℕ

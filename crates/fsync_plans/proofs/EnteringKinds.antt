@@ -21,6 +21,7 @@ use Rattle.sfs_tree.specs.Logged.{is_logged_in}
 use Rattle.sfs_tree.specs.NameRow.{node_number}
 use Rattle.sfs_tree.specs.Tree.{TreeState, kind_of, is_directory, is_directory_kind}
 use Rattle.sfs_tree.proofs.Readings.{directory_by_kind}
+use Rattle.image_tree.proofs.Standing.{directory_kind}
 use Rattle.flush_core.specs.Closure.{every_entry, Closure}
 use Rattle.flush_core.specs.Cut.{Cut, cut_of}
 use Rattle.flush_core.specs.Rules.{IsOneOf}
@@ -67,13 +68,6 @@ kind_of_file tree node file = by (kind_of tree node) (sym (directory_by_kind tre
     by File e = refl
     by Directory e = absurd (true_not_false e)
 
-kind_of_directory : (tree : TreeState) (node : ℕ) → is_directory tree node ≡ true → kind_of tree node ≡ Directory
-kind_of_directory tree node directory = by (kind_of tree node) (sym (directory_by_kind tree node) ∙ directory)
-  where
-    by : (k : Kind) → is_directory_kind k ≡ true → k ≡ Directory
-    by Directory e = refl
-    by File e = absurd (false_not_true e)
-
 module _ (first : TreeState) (history : List Entry) (cut : Cut) (inodes : ℕ → Bool) (gathered : Gathered) (start : NodeId) (below : Stamp)
     (members : List NodeId) (is_file : Bool)
     (sound : IsSoundTree first) (legal : IsLegal first history) (orderly : IsOrderly gathered)
@@ -113,7 +107,7 @@ module _ (first : TreeState) (history : List Entry) (cut : Cut) (inodes : ℕ �
       by (member, one, inl same) =
           elim (members_are_directories first history every_entry cut inodes (record { node = start.0; stamp = below.0 }) node sound legal (closed node (subst (Gathers (look_of start below gathered)) same (gathers member one)))) [
             | inl own ↦ absurd (not_both (subst (λ n. nat_eq n start.0 ≡ true) (sym own) (same_number start.0)) other)
-            | inr directory ↦ kind_of_directory last node directory
+            | inr directory ↦ directory_kind last node directory
           ]
 
   -- the kind of each that gets an inode
@@ -125,7 +119,7 @@ module _ (first : TreeState) (history : List Entry) (cut : Cut) (inodes : ℕ �
         where
           of : (b : Bool) → is_directory last start.0 ≡ cond b false true → cond b File Directory ≡ kind_of last start.0
           of true e = sym (kind_of_file last start.0 e)
-          of false e = sym (kind_of_directory last start.0 e)
+          of false e = sym (directory_kind last start.0 e)
 
       others : nat_eq node start.0 ≡ false → (o : Option Change) → find (λ (change : Change). nat_eq change.child.0 node) (reverse changes) ≡ o
           → unwrap_or (option_map (λ (change : Change). change.kind) o) Directory ≡ kind_of last node

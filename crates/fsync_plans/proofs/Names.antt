@@ -33,6 +33,7 @@ use Rattle.image_tree.proofs.LinkChanges.{counted_by_nets}
 use Rattle.commit_laws.specs.KeptShown.{KeepsSeen}
 use Rattle.commit_laws.proofs.KeptShown.{kept_parts_show}
 use Rattle.commit_laws.proofs.Shown.{found_is_in}
+use Rattle.commit_laws.proofs.KnownDirectories.{own_item}
 use Rattle.flush_core.specs.Closure.{Flush, IsNamedIn}
 use Rattle.flush_core.specs.Cut.{Cut, tree_at_cut}
 use Rattle.flush_core.specs.Laws.{KeepsAll}
@@ -51,7 +52,7 @@ use Rattle.flush_commits.specs.Planned.{HasOldEntries}
 use Rattle.flush_commits.specs.Ready.{IsBetweenCommits, KeepsEntries}
 use Rattle.flush_commits.proofs.Clean.{no_net}
 use Rattle.fsync_dir.specs.Names.{names_by_record, names_on_disk, named_coming, named_going, is_named_after}
-use Rattle.fsync_plans.proofs.Nets.{ascend_sorted, item_found}
+use Rattle.fsync_plans.proofs.Nets.{ascend_sorted}
 
 module _ (node : ℕ) where
   times_append : (front numbers : List ℕ) → times_in (front ++ numbers) node ≡ times_in front node + times_in numbers node
@@ -156,7 +157,7 @@ module _ (first : TreeState) (history : List Entry) (flushes : List Flush) (cut 
       let number = (ready.numbers.each node).0 inode in
       let entry = keeps.all node number.0 number.1 in
       let there = has.all entry.0 entry.1 (subst (λ n. is_among nodes n ≡ true) (sym entry.2) among) in
-      let found : item_with entry_node node old ≡ Some entry.0 = subst (λ n. item_with entry_node n old ≡ Some entry.0) entry.2 (item_found entry_node old has.ascend entry.0 there) in
+      let found : item_with entry_node node old ≡ Some entry.0 = subst (λ n. item_with entry_node n old ≡ Some entry.0) entry.2 (own_item entry_node old has.ascend entry.0 there) in
       let shows = entry_shows entry.0 entry.1 in
       ap (λ (o : Option OldEntry). option_map_or names_by_record o 0) found
       ∙ by (kind_of tree node) refl (shows.0 ∙ ap (λ n. kind_byte (kind_of tree n)) entry.2) (shows.1 ∙ ap (links_of tree) entry.2) number.0 number.1
@@ -184,7 +185,7 @@ module _ (first : TreeState) (history : List Entry) (flushes : List Flush) (cut 
     all_nets = record { kinds = kinds; each = each; others = λ directory none. no_net nets directory none; ascending = ascend_sorted net_node nets up }
 
     own_items : (one : DirectoryNet) → Contains nets one → net_of_node nets one.node.0 ≡ one.net.items
-    own_items one there = ap (λ (o : Option DirectoryNet). option_map_or (λ item. item.net.items) o []) (item_found net_node nets up one there)
+    own_items one there = ap (λ (o : Option DirectoryNet). option_map_or (λ item. item.net.items) o []) (own_item net_node nets up one there)
 
     balance : (node : ℕ) → count_of new.rows node + times_in (named_going nets) node ≡ count_of tree.rows node + times_in (named_coming nets) node
     balance node =

@@ -24,6 +24,7 @@ use Rattle.sfs_tree.proofs.Readings.{directory_by_kind}
 use Rattle.absorb.specs.declared.nets.NetRow.{NetRow}
 use Rattle.absorb.specs.Net.{IsNetRow, IsNet}
 use Rattle.image_tree.proofs.Elsewhere.{no_net}
+use Rattle.commit_laws.proofs.KnownDirectories.{own_item}
 use Rattle.flush_core.specs.Cut.{Cut, cut_of, tree_at_cut}
 use Rattle.flush_core.proofs.Basics.{filter_same}
 use Rattle.cut_trees.proofs.Next.{same_stamps_keep}
@@ -53,10 +54,6 @@ ascend_sorted key (x ∷ xs) up = sorted_from_strictly_increasing (map key (x �
     let next = get_or-map key (x ∷ xs) (k + 1) x 0 inside in
     let less = up k (k + 1) x (omega arith) inside in
     omega (arith, less, here, next))
-
--- an item of a list that ascends is found by its number
-pub item_found : {X : Type 0} (key : X → ℕ) (items : List X) → AscendBy key items → (one : X) → Contains items one → item_with key (key one) items ≡ Some one
-item_found key items up one (k, within, is) = ap (λ it. item_with key (key it) items) (sym is) ∙ item_at key items up k one within ∙ ap Some is
 
 -- a row of a net whose children differ is a row before or after it
 some_row : (before after : Option NodeId) → before ≢ after → (node : ℕ) × ((number_of before ≡ Some node) ⊎ (number_of after ≡ Some node))
@@ -111,7 +108,7 @@ module _ (first : TreeState) (history : List Entry) (cut : Cut) (gathered : Gath
       where
         net_there : IsNet (names_of one.node.0 old.rows) (names_of one.node.0 new.rows) (net_of_node nets one.node.0)
             → IsNet (names_of one.node.0 old.rows) (names_of one.node.0 new.rows) one.net.items
-        net_there = subst (IsNet (names_of one.node.0 old.rows) (names_of one.node.0 new.rows)) (ap (λ (o : Option DirectoryNet). option_map_or (λ one. one.net.items) o []) (item_found net_node nets up one there))
+        net_there = subst (IsNet (names_of one.node.0 old.rows) (names_of one.node.0 new.rows)) (ap (λ (o : Option DirectoryNet). option_map_or (λ one. one.net.items) o []) (own_item net_node nets up one there))
 
         row_there : (tree : TreeState) (name : List ℕ) (child : ℕ) → get (names_of one.node.0 tree.rows) name ≡ Some child
             → row_of tree one.node.0 name ≡ Some child

@@ -6,6 +6,7 @@ use Rattle.std.proofs.lemmas.Bool.Decides.{nat_tests}
 use Rattle.std.proofs.lemmas.List.Elements.{filter-append}
 use Rattle.sfs_base.proofs.BasicLists.{take_none}
 use Rattle.sfs_base.proofs.BasicNumbers.{zero_plus}
+use Rattle.sfs_base.proofs.BasicTruth.{and_false}
 use Rattle.sfs_tree.specs.declared.changes.Change.{Change}
 use Rattle.sfs_tree.specs.declared.history.Entry.{Entry}
 use Rattle.sfs_tree.specs.History.{tree_after, tree_after_entry, IsLegalFrom, IsLegal}
@@ -34,17 +35,10 @@ inside : (from to : ℕ) (change : Change) → from ≤ change.stamp.0 → chang
 inside from to change low high = λ i. le-leb from change.stamp.0 low i && lt-ltb change.stamp.0 to high i
 
 before_it : (from to : ℕ) (change : Change) → change.stamp.0 < from → is_in_span from to change ≡ false
-before_it from to change early = ap (λ b. b && nat_lt change.stamp.0 to) (not_le from change.stamp.0 early)
-  where
-    not_le : (a b : ℕ) → b < a → nat_le a b ≡ false
-    not_le a b lt = grind (arith, nat_tests)
+before_it from to change early = ap (λ b. b && nat_lt change.stamp.0 to) (let not_from : nat_le from change.stamp.0 ≡ false = grind (arith, nat_tests, early) in not_from)
 
 behind_it : (from to : ℕ) (change : Change) → to ≤ change.stamp.0 → is_in_span from to change ≡ false
-behind_it from to change late = ap (λ b. nat_le from change.stamp.0 && b) (le-ltb change.stamp.0 to late) ∙ by (nat_le from change.stamp.0)
-  where
-    by : (b : Bool) → (b && false) ≡ false
-    by true = refl
-    by false = refl
+behind_it from to change late = ap (λ b. nat_le from change.stamp.0 && b) (le-ltb change.stamp.0 to late) ∙ and_false (nat_le from change.stamp.0)
 
 module _ (d from to : ℕ) where
   -- what is logged of the directory in the span

@@ -6,7 +6,7 @@ ghost use Rattle.flush_core.specs.Machine.{MachineState, MayBeTold};
 
 use crate::calls::{Trial, root_alone};
 use crate::machine::{Run, begun_at};
-use call_log::settled;
+use call_log::logged_after;
 use dep_closure::{DirectoryChanges, Gathered, NodeBirth, NodeCut, closure};
 use flush_core::Event;
 use plans::OnDisk;
@@ -210,7 +210,7 @@ impl Watched {
         let reply = self.trial.step(0, call)?;
         let before = self.logged.len();
         self.log(call, &reply, told)?;
-        let logged = settled(self.alloc, foreseen, &reply);
+        let logged = logged_after(self.alloc, foreseen, &reply);
         assert!(rt; is_last(logged.as_slice(), before, &self.logged));
         self.tell_call(rt, call, reply, None)
     }
