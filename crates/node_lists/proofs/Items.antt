@@ -36,13 +36,17 @@ module _ {X : Type 0} (key : X → ℕ) where
   item_with-put_in [] item n none = refl
   item_with-put_in (other ∷ others) item n none =
       let apart = first_is_other other others (key item) none in
-      let rest = item_with-put_in others item n (sym (cond-false (nat_eq (key other) (key item)) (Some other) (item_with key (key item) others) apart) ∙ none) in
-      elim (nat_lt (key item) (key other)) as (λ b. item_with key n (cond b (item ∷ other ∷ others) (other ∷ put_in key item others)) ≡ cond (nat_eq (key item) n) (Some item) (item_with key n (other ∷ others))) [
+      let none_behind = sym (cond-false (nat_eq (key other) (key item)) (Some other) (item_with key (key item) others) apart) ∙ none in
+      let rest = item_with-put_in others item n none_behind in
+      elim (nat_lt (key item) (key other)) as (λ b.
+      item_with key n (cond b (item ∷ other ∷ others) (other ∷ put_in key item others))
+      ≡ cond (nat_eq (key item) n) (Some item) (item_with key n (other ∷ others))) [
         | true ↦ refl
         | false ↦ behind apart rest (cases_Bool (nat_eq (key other) n))
       ]
     where
-      behind : nat_eq (key other) (key item) ≡ false → item_with key n (put_in key item others) ≡ cond (nat_eq (key item) n) (Some item) (item_with key n others)
+      behind : nat_eq (key other) (key item) ≡ false
+          → item_with key n (put_in key item others) ≡ cond (nat_eq (key item) n) (Some item) (item_with key n others)
           → (nat_eq (key other) n ≡ true) ⊎ (nat_eq (key other) n ≡ false)
           → item_with key n (other ∷ put_in key item others) ≡ cond (nat_eq (key item) n) (Some item) (item_with key n (other ∷ others))
       behind apart rest (inl same) =
@@ -54,7 +58,8 @@ module _ {X : Type 0} (key : X → ℕ) where
           ∙ ap (λ found. cond (nat_eq (key item) n) (Some item) found) (sym (cond-false (nat_eq (key other) n) (Some other) (item_with key n others) differ))
 
   -- the number of an item that is left out has none, and the others stay
-  pub item_with-without : (items : List X) → AscendBy key items → (m n : ℕ) → item_with key n (without key m items) ≡ cond (nat_eq m n) None (item_with key n items)
+  pub item_with-without : (items : List X) → AscendBy key items → (m n : ℕ)
+      → item_with key n (without key m items) ≡ cond (nat_eq m n) None (item_with key n items)
   item_with-without [] up m n = elim (nat_eq m n) as (λ b. ◌≡◌ {A = Option X} None (cond b None None)) [ true ↦ refl | false ↦ refl ]
   item_with-without (item ∷ items) up m n =
       by_cases (cases_Bool (nat_eq (key item) m)) (cases_Bool (nat_eq m n)) (item_with-without items (ascends_behind key item items up) m n)
@@ -85,10 +90,12 @@ module _ {X : Type 0} (key : X → ℕ) where
           ∙ sym (cond-false (nat_eq m n) None (item_with key n (item ∷ items)) differ)
 
   -- what holds of all items holds of those that are left
-  all_left : (P : X → Type 0) (items : List X) (m : ℕ) → ((k : ℕ) (d : X) → k < length items → P (get_or items k d)) → (k : ℕ) (d : X) → k < length (without key m items) → P (get_or (without key m items) k d)
+  all_left : (P : X → Type 0) (items : List X) (m : ℕ) → ((k : ℕ) (d : X) → k < length items → P (get_or items k d))
+      → (k : ℕ) (d : X) → k < length (without key m items) → P (get_or (without key m items) k d)
   all_left P [] m all = λ k d within. absurd (omega arith)
   all_left P (item ∷ items) m all =
-      elim (nat_eq (key item) m) as (λ b. (k : ℕ) (d : X) → k < length (cond b items (item ∷ without key m items)) → P (get_or (cond b items (item ∷ without key m items)) k d)) [
+      elim (nat_eq (key item) m) as (λ b. (k : ℕ) (d : X) → k < length (cond b items (item ∷ without key m items))
+      → P (get_or (cond b items (item ∷ without key m items)) k d)) [
         | true ↦ λ k d within. all (suc k) d (omega arith)
         | false ↦ λ k d within. first_or_later (all_left P items m (λ j e below. all (suc j) e (omega arith))) k d within
       ]
@@ -123,7 +130,8 @@ module _ {X : Type 0} (key : X → ℕ) where
       picked true = refl
       picked false = refl
 
-  pub is_listed-without : (items : List X) → AscendBy key items → (m n : ℕ) → is_listed (map key (without key m items)) n ≡ cond (nat_eq m n) false (is_listed (map key items) n)
+  pub is_listed-without : (items : List X) → AscendBy key items → (m n : ℕ)
+      → is_listed (map key (without key m items)) n ≡ cond (nat_eq m n) false (is_listed (map key items) n)
   is_listed-without items up m n =
       is_listed_found (without key m items) n ∙ ap is_some (item_with-without items up m n) ∙ picked (nat_eq m n)
       ∙ ap (λ has. cond (nat_eq m n) false has) (sym (is_listed_found items n))
@@ -133,22 +141,26 @@ module _ {X : Type 0} (key : X → ℕ) where
       picked false = refl
 
   -- a number that stands in a list is listed
-  pub is_listed_there : (items : List X) (place n : ℕ) → AscendBy key items → place < length items → ((d : X) → key (get_or items place d) ≡ n) → is_listed (map key items) n ≡ true
+  pub is_listed_there : (items : List X) (place n : ℕ) → AscendBy key items → place < length items
+      → ((d : X) → key (get_or items place d) ≡ n) → is_listed (map key items) n ≡ true
   is_listed_there [] place n up within own = absurd (omega arith)
   is_listed_there (item ∷ items) place n up within own =
-      is_listed_found (item ∷ items) n ∙ ap (λ m. is_some (item_with key m (item ∷ items))) (sym (own item)) ∙ ap is_some (item_at key (item ∷ items) up place item within)
+      is_listed_found (item ∷ items) n ∙ ap (λ m. is_some (item_with key m (item ∷ items))) (sym (own item))
+      ∙ ap is_some (item_at key (item ∷ items) up place item within)
 
   -- where a search has found nothing no item has the number, and otherwise one has it
   pub nowhere : (items : List X) (n : ℕ) (place : Option ℕ) → IsItemPlace key items n place → is_some place ≡ false → item_with key n items ≡ None
   nowhere items n None is none = is
   nowhere items n (Some place) is none = absurd (true_not_false none)
 
-  pub somewhere : (items : List X) (n : ℕ) (place : Option ℕ) → AscendBy key items → IsItemPlace key items n place → is_some place ≡ true → is_listed (map key items) n ≡ true
+  pub somewhere : (items : List X) (n : ℕ) (place : Option ℕ) → AscendBy key items → IsItemPlace key items n place → is_some place ≡ true
+      → is_listed (map key items) n ≡ true
   somewhere items n None up is some = absurd (true_not_false (sym some))
   somewhere items n (Some place) up is some = is_listed_there items place n up is.within is.own
 
 -- to list a listed number again changes nothing
-pub listed_already : (numbers : List ℕ) (n other : ℕ) → is_listed numbers n ≡ true → is_listed numbers other ≡ cond (nat_eq n other) true (is_listed numbers other)
+pub listed_already : (numbers : List ℕ) (n other : ℕ) → is_listed numbers n ≡ true
+    → is_listed numbers other ≡ cond (nat_eq n other) true (is_listed numbers other)
 listed_already numbers n other has = elim (cases_Bool (nat_eq n other)) [
   | inl same ↦
       let equal : n ≡ other = grind (arith, nat_tests) in

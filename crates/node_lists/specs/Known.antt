@@ -1,14 +1,16 @@
 -- What is known of nodes, in lists that ascend by node.
-use Rattle.std.specs.Prelude.{◌≡◌, ℕ, ◌<◌, ◌≤◌, List, length, map, Option, None, Some, slice_index_or, All}
+use Rattle.std.specs.Prelude.{◌≡◌, ◌↔◌, ◌⊎◌, ℕ, ◌<◌, ◌≤◌, List, length, map, Option, None, Some, slice_index_or, All}
 use Rattle.std.specs.List.Sorted.{IsStrictlyIncreasing}
 use Rattle.sfs_base.specs.declared.numbers.NodeId.{NodeId}
 use Rattle.sfs_tree.specs.NameRow.{node_number}
 use Rattle.disk_change.specs.Lists.{AscendBy, item_with}
+use Rattle.flush_core.specs.Rules.{IsOneOf}
+use Rattle.flush_ties.specs.Look.{Born}
 use Rattle.dep_closure.specs.declared.gathered.DirectoryChanges.{DirectoryChanges}
 use Rattle.dep_closure.specs.declared.gathered.Gathered.{Gathered}
 use Rattle.dep_closure.specs.declared.gathered.NodeCut.{NodeCut}
 use Rattle.dep_closure.specs.declared.gathered.NodeBirth.{NodeBirth}
-use Rattle.dep_closure.specs.Gathered.{log_directory, cut_node, birth_node, IsOwnLog}
+use Rattle.dep_closure.specs.Gathered.{log_directory, cut_node, birth_node, born_as, IsOwnLog}
 
 -- the cuts, births and inodes of nodes, and for how many more there is room
 pub record Known : Type 0 where
@@ -36,6 +38,11 @@ pub record KeepsRoom (known other : Known) : Type 0 where
   pub for_cuts : known.room_for_cuts ≤ other.room_for_cuts
   pub for_births : known.room_for_births ≤ other.room_for_births
   pub for_inodes : known.room_for_inodes ≤ other.room_for_inodes
+
+-- Births are those that there were and the birth of one node more.
+abbrev pub HasOneMoreBirth : ℕ → ℕ → List NodeBirth → List NodeBirth → Type 0
+HasOneMoreBirth node directory old new =
+    (born : Born) → IsOneOf (map born_as new) born ↔ ((record { node = node; directory = directory } ≡ born) ⊎ IsOneOf (map born_as old) born)
 
 -- What was gathered are these logs and what is known.
 pub record IsGatheredFrom (known : Known) (logs : List DirectoryChanges) (gathered : Gathered) : Type 0 where

@@ -4,7 +4,7 @@ ghost use Rattle.sfs_base.specs.Listed.{is_listed};
 ghost use Rattle.sfs_tree.specs.NameRow.{node_number};
 ghost use Rattle.disk_change.specs.Lists.{AscendBy, item_with, put_in};
 ghost use Rattle.dep_closure.specs.Gathered.{birth_node, cut_in, lifted_cut};
-ghost use Rattle.node_lists.specs.Known.{HasSameNodes, KeepsRoom};
+ghost use Rattle.node_lists.specs.Known.{HasOneMoreBirth, HasSameNodes, KeepsRoom};
 
 use crate::listed::{drop_item, found_at, put};
 use crate::raised::raise_all;
@@ -71,6 +71,7 @@ impl KnownNodes {
         requires first { item_with birth_node node.0 self.old.births ≡ None }
         requires room { 0 < self.old.room_for_births }
         ensures births { self.new.births ≡ put_in birth_node (record { node = node; dir = dir }) self.old.births }
+        ensures born { HasOneMoreBirth node.0 dir.0 self.old.births self.new.births }
         ensures cuts { self.new.cuts ≡ self.old.cuts }
         ensures inodes { self.new.inodes ≡ self.old.inodes }
         ensures room_for_cuts { self.new.room_for_cuts ≡ self.old.room_for_cuts }

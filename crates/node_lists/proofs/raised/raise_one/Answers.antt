@@ -10,8 +10,8 @@ returns-in-Some-clause-cuts c = λ other.
     let there = rw c.deref.ensures.value at c.in-Some.ensures in
     let was = c.index_mut.result.now in
     let own = ap cut_node c.index_mut.ensures.value ∙ there.own was in
-    rw (← own) (cut_in-set c.args.cuts.now.items c.requires.ascending c.in-Some.place c.args.to.0 other was c.lift.new.cut there.within c.index_mut.ensures.value
-    (ap cut_node c.lift.ensures) (ap (λ (one : NodeCut). one.cut.0) c.lift.ensures))
+    rw (← own) (cut_in-set c.args.cuts.now.items c.requires.ascending c.in-Some.place c.args.to.0 other was c.lift.new.cut there.within
+    c.index_mut.ensures.value (ap cut_node c.lift.ensures) (ap (λ (one : NodeCut). one.cut.0) c.lift.ensures))
 
 pub returns-in-None-clause-ascending : goal.returns-in-None-clause-ascending
 returns-in-None-clause-ascending c =

@@ -23,7 +23,8 @@ invariant_of-self-then-is_none c =
 
 pub returns-then-not-has-clause-inodes : goal.returns-then-not-has-clause-inodes
 returns-then-not-has-clause-inodes c = λ other.
-    rw (c.drop_item.ensures.items, ← c.self.view_is, c.if-not-has.true) (is_listed-without node_number c.self.inside.inodes.items c.self.invariant.inodes_ascend c.args.node.0 other)
+    rw (c.drop_item.ensures.items, ← c.self.view_is, c.if-not-has.true)
+    (is_listed-without node_number c.self.inside.inodes.items c.self.invariant.inodes_ascend c.args.node.0 other)
 
 pub returns-then-is_none-clause-inodes : goal.returns-then-is_none-clause-inodes
 returns-then-is_none-clause-inodes c = λ other.
@@ -34,5 +35,6 @@ returns-then-is_none-clause-inodes c = λ other.
 pub returns-else-is_none-clause-inodes : goal.returns-else-is_none-clause-inodes
 returns-else-is_none-clause-inodes c = λ other.
     let inodes = c.self.inside.inodes.items in
-    let has = somewhere node_number inodes c.args.node.0 c.found_at.result c.self.invariant.inodes_ascend (rw c.deref.ensures.value at c.found_at.ensures) c.if-is_none.ensures in
+    let place = rw c.deref.ensures.value at c.found_at.ensures in
+    let has = somewhere node_number inodes c.args.node.0 c.found_at.result c.self.invariant.inodes_ascend place c.if-is_none.ensures in
     rw (← c.self.view_is, c.if-not-has.false) (listed_already (map node_number inodes) c.args.node.0 other has)
