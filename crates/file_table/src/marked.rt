@@ -1,5 +1,5 @@
 // Edits of a file that mark the blocks that they touch.
-ghost use Rattle.std.specs.Prelude.{◌≡◌, ◌+◌, ◌<◌, ◌≤◌, length, OnOk, OnErr};
+ghost use Rattle.std.specs.Prelude.{◌≡◌, ◌+◌, ◌<◌, ◌≤◌, length, IsOk, OnOk, OnErr};
 ghost use Rattle.sfs_tree.specs.Effect.{Puts, Resizes};
 ghost use Rattle.file_marks.specs.FileAt.{IsMarkedEdit};
 
@@ -27,6 +27,7 @@ pub(crate) fn trunc_marked(file: &mut FileBytes, size: u64, stamp: Stamp) -> Res
     requires { size ≤ LONGEST_FILE }
     ensures ok { OnOk result (IsMarkedEdit (Resizes size) stamp file.old file.new) }
     ensures err { OnErr result (file.new ≡ file.old) }
+    ensures grows { length file.old.bytes ≤ size → IsOk result }
 {
     let touched = file.trunc(size)?;
     file.mark(touched, stamp);

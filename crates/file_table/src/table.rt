@@ -1,6 +1,7 @@
 // The files of a mount, by node.
-ghost use Rattle.std.specs.Prelude.{◌≡◌, ◌+◌, ◌<◌, ◌≤◌, ◌==◌, ℕ, [], None, Some, length, if◌then◌else◌, IsSome, OnOk, OnErr};
+ghost use Rattle.std.specs.Prelude.{◌≡◌, ◌+◌, ◌<◌, ◌≤◌, ◌==◌, ℕ, [], None, Some, length, if◌then◌else◌, IsOk, IsSome, OnOk, OnErr};
 ghost use Rattle.std.specs.Option.{option_copied};
+ghost use Rattle.mem_files.specs.File.{File};
 ghost use Rattle.sfs_tree.specs.Effect.{Puts, Resizes};
 ghost use Rattle.file_table.specs.Table.{file_at, HasSameFiles, SetsFile, EditsFile};
 
@@ -103,6 +104,7 @@ impl FileTable {
         requires within { size ≤ LONGEST_FILE }
         ensures ok { OnOk result (EditsFile node.0 (Resizes size) stamp self.old self.new) }
         ensures err { OnErr result (HasSameFiles self.old self.new) }
+        ensures grows { (file : File) → file_at self.old node.0 ≡ Some file → length file.bytes ≤ size → IsOk result }
     {
         match &mut self.files[node.0 as usize] {
             Some(file) => trunc_marked(file, size, stamp)?,
