@@ -1,5 +1,5 @@
 // The cuts, births and inodes of nodes.
-ghost use Rattle.std.specs.Prelude.{◌≡◌, ◌≤◌, ◌<◌, ◌+◌, ◌==◌, ℕ, Bool, [], ◌∷◌, None, length, map, if◌then◌else◌, IfOk, OnOk};
+ghost use Rattle.std.specs.Prelude.{◌≡◌, ◌≤◌, ◌<◌, ◌+◌, ◌==◌, ℕ, [], None, length, map, if◌then◌else◌, OnOk};
 ghost use Rattle.sfs_base.specs.Listed.{is_listed};
 ghost use Rattle.sfs_tree.specs.NameRow.{node_number};
 ghost use Rattle.disk_change.specs.Lists.{AscendBy, item_with, put_in};

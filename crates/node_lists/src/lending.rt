@@ -1,9 +1,6 @@
 // What is known is lent to an fsync, beside the logs that it has gathered.
-ghost use Rattle.std.specs.Prelude.{◌≡◌};
-ghost use Rattle.std.specs.List.{All};
-ghost use Rattle.std.specs.List.Sorted.{IsStrictlyIncreasing};
-ghost use Rattle.dep_closure.specs.Gathered.{log_directory, IsOrderly, IsOwnLog};
-ghost use Rattle.node_lists.specs.Known.{IsGatheredFrom, HasSameNodes, OrderlyLogs};
+ghost use Rattle.dep_closure.specs.Gathered.{IsOrderly};
+ghost use Rattle.node_lists.specs.Known.{IsGatheredFrom, OrderlyLogs};
 
 use crate::KnownNodes;
 use dep_closure::{Gathered, LogList};
