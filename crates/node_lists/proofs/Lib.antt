@@ -1,0 +1,4 @@
+pub mod Births
+pub mod Cuts
+pub mod Increasing
+pub mod Items
