@@ -18,6 +18,8 @@ mod logs;
 #[cfg(test)]
 mod machine;
 #[cfg(test)]
+mod mounted;
+#[cfg(test)]
 mod nets;
 #[cfg(test)]
 mod scripts;
