@@ -1,7 +1,25 @@
 // What is proved of the definitions: each function's contract is a law.
+ghost use Rattle.volume_laws.specs.Commits.{OkCommitsGoOn, EmptyCommitsWrite, BuiltJobsWritePlans};
 ghost use Rattle.volume_laws.specs.Laws.{LongerHistoriesStayBetween};
+
+use sfs_dev::Disk;
 
 /// A volume goes on standing once a call has come.
 pub fn longer_histories_stay_between()
     ensures { LongerHistoriesStayBetween }
+{}
+
+/// The transaction that was built of a planned fsync can be committed through the first slot.
+pub fn built_jobs_write_plans()
+    ensures { BuiltJobsWritePlans }
+{}
+
+/// After an Ok of its commit each image stands for the parts that the fsync leaves.
+pub fn ok_commits_go_on<D: Disk>(disk: &D, later: &D)
+    ensures { OkCommitsGoOn (D.view disk.now) (D.view later.now) }
+{}
+
+/// An fsync whose records the disk has already is durable at once.
+pub fn empty_commits_write<D: Disk>(disk: &D)
+    ensures { EmptyCommitsWrite (D.view disk.now) }
 {}
