@@ -1,2 +1,4 @@
 pub mod Commits
+pub mod FreshBlocks
 pub mod Longer
+pub mod Stores

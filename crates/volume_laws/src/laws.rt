@@ -1,6 +1,7 @@
 // What is proved of the definitions: each function's contract is a law.
 ghost use Rattle.volume_laws.specs.Commits.{OkCommitsGoOn, EmptyCommitsWrite, BuiltJobsWritePlans};
 ghost use Rattle.volume_laws.specs.Laws.{LongerHistoriesStayBetween};
+ghost use Rattle.volume_laws.specs.Stores.{StoresGoOn, CommitsStayStanding};
 
 use sfs_dev::Disk;
 
@@ -22,4 +23,14 @@ pub fn ok_commits_go_on<D: Disk>(disk: &D, later: &D)
 /// An fsync whose records the disk has already is durable at once.
 pub fn empty_commits_write<D: Disk>(disk: &D)
     ensures { EmptyCommitsWrite (D.view disk.now) }
+{}
+
+/// There are blocks in which what a planned fsync leaves stands.
+pub fn stores_go_on()
+    ensures { StoresGoOn }
+{}
+
+/// And a volume goes on standing over them.
+pub fn commits_stay_standing()
+    ensures { CommitsStayStanding }
 {}
