@@ -1,4 +1,10 @@
+pub mod Begun
+pub mod BegunEntries
 pub mod Commits
 pub mod FreshBlocks
+pub mod Linked
 pub mod Longer
+pub mod MoreNodes
+pub mod Mounts
 pub mod Stores
+pub mod Told

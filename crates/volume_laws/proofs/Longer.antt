@@ -1,15 +1,13 @@
 -- A volume over a longer history.
-use Rattle.std.proofs.Common.{◌≡◌, ℕ, ◌≤◌, List, [], ◌∷◌, ◌++◌, length, take, Option, Some, None, IsSome, option_map, refl, sym, ap, subst, ◌∙◌, arith}
+use Rattle.std.proofs.Common.{◌≡◌, ℕ, ◌≤◌, List, [], ◌∷◌, ◌++◌, length, take, Some, IsSome, sym, ap, subst, ◌∙◌, arith}
 use Rattle.std.specs.FinMap.{get}
 use Rattle.std.proofs.Math.Seq.{take-append_seam}
 use Rattle.std.proofs.lemmas.List.{length-append}
-use Rattle.sfs_image.specs.Seen.{Seen}
-use Rattle.sfs_image.specs.Slot.{kind_byte}
 use Rattle.sfs_tree.specs.declared.history.Entry.{Entry}
 use Rattle.sfs_tree.specs.History.{tree_after}
-use Rattle.sfs_tree.specs.Tree.{TreeState, row_of, is_alive}
+use Rattle.sfs_tree.specs.Tree.{TreeState, is_alive}
 use Rattle.image_tree.specs.Image.{inodes_shown}
-use Rattle.image_tree.specs.Stands.{inode_under, row_on, ShowsNode, StandsForTree}
+use Rattle.image_tree.specs.Stands.{StandsForTree}
 use Rattle.flush_core.specs.Closure.{every_entry, Flush, HasLiveNode, AreFlushed}
 use Rattle.flush_core.specs.Cut.{tree_at_cut}
 use Rattle.flush_core.specs.Laws.{KeepsAll}
@@ -21,7 +19,7 @@ use Rattle.flush_core.proofs.Prefix.{take_take}
 use Rattle.flush_core.proofs.RunFacts.{cuts_stay_low}
 use Rattle.flush_core.proofs.WholeHistory.{none_above, flushes_grow, cut_trees_grow}
 use Rattle.cut_trees.specs.Next.{IsMountedHistory}
-use Rattle.commit_turns.proofs.MoreNodes.{kind_more, bytes_more, links_more, row_more}
+use Rattle.volume_laws.proofs.MoreNodes.{stands_more}
 use Rattle.volume_laws.specs.Laws.{LongerHistoriesStayBetween}
 use Rattle.volume_laws.specs.Volume.{Volume, tree_held, IsStanding}
 
@@ -63,35 +61,8 @@ module _ (volume : Volume) (entry : Entry) (is : IsStanding volume) (mounted : I
   numbered_node : (node i : ℕ) → volume.num node ≡ Some i → IsSome (get tree.nodes node)
   numbered_node node i has = ((cuts_keep_kinds volume.first volume.history volume.cut).nodes node).1 (keeps.nodes node ((is.between.numbers.each node).1 (i, has)))
 
-  row_same : (directory : ℕ) (name : List ℕ) → option_map (row_on volume.num more name) (row_of more directory name) ≡ option_map (row_on volume.num tree name) (row_of tree directory name)
-  row_same directory name = ap (option_map (row_on volume.num more name)) (row_more tree more keeps.sound has_more directory name) ∙ by (row_of tree directory name) refl
-    where
-      by : (o : Option ℕ) → row_of tree directory name ≡ o → option_map (row_on volume.num more name) o ≡ option_map (row_on volume.num tree name) o
-      by None e = refl
-      by (Some child) e =
-          let kind = kind_more tree more keeps.sound has_more child (keeps.sound.node directory name child e) in
-          λ i. Some (record { inode = inode_under volume.num child; kind = kind i; name = name })
-
-  shows_more : (node i : ℕ) (seen : Seen) → volume.num node ≡ Some i → ShowsNode volume.num tree node seen → ShowsNode volume.num more node seen
-  shows_more node i seen has shows = record {
-    kind = shows.kind ∙ ap kind_byte (sym (kind_more tree more keeps.sound has_more node (numbered_node node i has)));
-    links = shows.links ∙ sym (links_more tree more keeps.sound has_more node (numbered_node node i has));
-    size = shows.size;
-    bytes = shows.bytes ∙ sym (bytes_more tree more keeps.sound has_more node (numbered_node node i has));
-    slots = λ name. shows.slots name ∙ sym (row_same node name);
-    once = shows.once;
-  }
-
-  stands_more : StandsForTree volume.num more (inodes_shown volume.layout volume.parts)
-  stands_more = let stands = is.between.stands in record {
-    root = stands.root;
-    once = stands.once;
-    within = stands.within;
-    named = λ directory name child row. stands.named directory name child (sym (row_more tree more keeps.sound has_more directory name) ∙ row);
-    each = λ node i has. shows_more node i ((inodes_shown volume.layout volume.parts).seen i) has (stands.each node i has);
-    rest = stands.rest;
-    apart = stands.apart;
-  }
+  stands_longer : StandsForTree volume.num more (inodes_shown volume.layout volume.parts)
+  stands_longer = stands_more volume.num tree more keeps.sound has_more numbered_node (inodes_shown volume.layout volume.parts) is.between.stands
 
   flushed_more : AreFlushed volume.first longer every_entry volume.flushes volume.cut volume.inodes
   flushed_more =
@@ -106,7 +77,7 @@ module _ (volume : Volume) (entry : Entry) (is : IsStanding volume) (mounted : I
       flushed = flushed_more;
       numbers = is.between.numbers;
       sound = is.between.sound;
-      stands = stands_more;
+      stands = stands_longer;
     };
     among = record {
       low = λ flush one. let e = length-append volume.history (entry ∷ []) in let low = is.among.low flush one in omega arith;

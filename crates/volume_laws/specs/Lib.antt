@@ -1,3 +1,4 @@
+pub mod Begun
 pub mod Commits
 pub mod Laws
 pub mod Stores

@@ -1,4 +1,5 @@
 // What is proved of the definitions: each function's contract is a law.
+ghost use Rattle.volume_laws.specs.Begun.{MountsBegin, ToldMountsLeave};
 ghost use Rattle.volume_laws.specs.Commits.{OkCommitsGoOn, EmptyCommitsWrite, BuiltJobsWritePlans};
 ghost use Rattle.volume_laws.specs.Laws.{LongerHistoriesStayBetween};
 ghost use Rattle.volume_laws.specs.Stores.{StoresGoOn, CommitsStayStanding};
@@ -33,4 +34,14 @@ pub fn stores_go_on()
 /// And a volume goes on standing over them.
 pub fn commits_stay_standing()
     ensures { CommitsStayStanding }
+{}
+
+/// A mount whose parts stand in blocks begins a volume.
+pub fn mounts_begin()
+    ensures { MountsBegin }
+{}
+
+/// Where the disk told its content, each image stands for the parts of the volume, and the tree was mounted.
+pub fn told_mounts_leave<D: Disk>(disk: &D, later: &D)
+    ensures { ToldMountsLeave (D.view disk.now) (D.view later.now) }
 {}
