@@ -8,3 +8,4 @@ pub mod MoreNodes
 pub mod Mounts
 pub mod Stores
 pub mod Told
+pub mod ToldMounts

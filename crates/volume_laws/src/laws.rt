@@ -1,5 +1,5 @@
 // What is proved of the definitions: each function's contract is a law.
-ghost use Rattle.volume_laws.specs.Begun.{MountsBegin, ToldMountsLeave};
+ghost use Rattle.volume_laws.specs.Begun.{MountsBegin, ToldMountsBegin, ToldMountsLeave};
 ghost use Rattle.volume_laws.specs.Commits.{OkCommitsGoOn, EmptyCommitsWrite, BuiltJobsWritePlans};
 ghost use Rattle.volume_laws.specs.Laws.{LongerHistoriesStayBetween};
 ghost use Rattle.volume_laws.specs.Stores.{StoresGoOn, CommitsStayStanding};
@@ -44,4 +44,9 @@ pub fn mounts_begin()
 /// Where the disk told its content, each image stands for the parts of the volume, and the tree was mounted.
 pub fn told_mounts_leave<D: Disk>(disk: &D, later: &D)
     ensures { ToldMountsLeave (D.view disk.now) (D.view later.now) }
+{}
+
+/// So does one of a disk that told an image, whose records are bytes, with the image's own parts.
+pub fn told_mounts_begin()
+    ensures { ToldMountsBegin }
 {}
