@@ -66,7 +66,8 @@ module _ (image : SeenInodes) (making : Making) where
       let is = numbered node i has in
       ap is_some (get_node image (is_used image) node is.low) ∙ ap (λ b. is_some (cond b (Some (node_shown (image.seen node))) None)) is.used
 
-  module _ (itself_is : StandsByItself image making) (kinds : Rattle.image_tree.specs.Mount.ShowsByKind image) (none_left : Rattle.image_tree.specs.Mount.HasNoOrphans image) where
+  module _ (itself_is : StandsByItself image making) (kinds : Rattle.image_tree.specs.Mount.ShowsByKind image)
+      (none_left : Rattle.image_tree.specs.Mount.HasNoOrphans image) where
     pub numbers_inodes : NumbersInodes num (λ node. is_some (get tree.nodes node))
     numbers_inodes = record {
       root = itself_is.stands.root;
@@ -115,9 +116,14 @@ module _ (image : SeenInodes) (making : Making) where
         no_bytes None e = refl
         no_bytes (Some n) e = absurd (true_not_false e)
 
-        of_kind : node < image.count → ((image.seen node).kind ≡ kind_byte File) ⊎ ((image.seen node).kind ≡ kind_byte Directory) → length (image.seen node).bytes ≤ BLOCK_BYTES * FILE_BLOCKS
-        of_kind low (inr directory) = subst (λ (bytes : List ℕ). length bytes ≤ BLOCK_BYTES * FILE_BLOCKS) (sym (kinds.directories node low directory)) (omega arith)
+        of_kind : node < image.count → ((image.seen node).kind ≡ kind_byte File) ⊎ ((image.seen node).kind ≡ kind_byte Directory)
+            → length (image.seen node).bytes ≤ BLOCK_BYTES * FILE_BLOCKS
+        of_kind low (inr directory) =
+            subst (λ (bytes : List ℕ). length bytes ≤ BLOCK_BYTES * FILE_BLOCKS) (sym (kinds.directories node low directory)) (omega arith)
         of_kind low (inl file) =
             let size = kinds.sizes node low (λ free. not_used File (sym file ∙ free)) in
-            let own : own_size (image.seen node) ≡ length (image.seen node).bytes = ap (λ k. cond (nat_eq k (kind_byte Directory)) (BLOCK_BYTES * (Rattle.std.specs.Prelude.◌/◌ (length (image.seen node).slots) Rattle.image_tree.specs.Slots.BLOCK_SLOTS)) (length (image.seen node).bytes)) file in
+            let own : own_size (image.seen node) ≡ length (image.seen node).bytes =
+            ap (λ k. cond (nat_eq k (kind_byte Directory))
+            (BLOCK_BYTES * (Rattle.std.specs.Prelude.◌/◌ (length (image.seen node).slots) Rattle.image_tree.specs.Slots.BLOCK_SLOTS))
+            (length (image.seen node).bytes)) file in
             subst (λ (n : ℕ). n ≤ BLOCK_BYTES * FILE_BLOCKS) (size ∙ own) (sizes node low file)

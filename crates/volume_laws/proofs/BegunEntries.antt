@@ -40,7 +40,8 @@ module _ (layout : Layout) (parts : ℕ → Part) where
       by false used given = (used, some_same given)
 
   in_range : (i : ℕ) → Contains (range_with_len 0 layout.inodes) i → i < layout.inodes
-  in_range i (k, within, at) = let low = length-range_with_len 0 layout.inodes in let e = get_or-range_with_len 0 layout.inodes k i (omega (arith, within, low)) in omega (arith, at, e, within, low)
+  in_range i (k, within, at) = let low = length-range_with_len 0 layout.inodes in
+      let e = get_or-range_with_len 0 layout.inodes k i (omega (arith, within, low)) in omega (arith, at, e, within, low)
 
   ranged : (i : ℕ) → i < layout.inodes → Contains (range_with_len 0 layout.inodes) i
   ranged i low = (i, subst (λ n. i < n) (sym (length-range_with_len 0 layout.inodes)) low, get_or-range_with_len 0 layout.inodes i i low ∙ zero_plus i)

@@ -52,10 +52,12 @@ module _ (volume : Volume) (one : OneFsync) (job : Job) (has : HasJob volume one
       shows_commit volume.first volume.history volume.flushes volume.cut volume.inodes one.flush one.raised one.after volume.num volume.store volume.parts one.nodes one.entries one.plan one.grant job planned_there spelled_there has.writes share
 
   -- an image of the parts after a job's commit is one of those that the fsync leaves
-  pub image_left : (image : List ℕ) → IsImageOf job.place.layout nothing_open (parts_after job volume.parts (parts_brought volume one)) image → IsImageOf volume.layout nothing_open (parts_left volume one) image
+  pub image_left : (image : List ℕ) → IsImageOf job.place.layout nothing_open (parts_after job volume.parts (parts_brought volume one)) image
+      → IsImageOf volume.layout nothing_open (parts_left volume one) image
   image_left image is =
       subst (λ (layout : Layout). IsImageOf layout nothing_open (parts_left volume one) image) has.layout
-      (parts_instead job.place.layout nothing_open (parts_after job volume.parts (parts_brought volume one)) (parts_left volume one) image (λ i low none. sym ((shows 0).after i low)) is)
+      (parts_instead job.place.layout nothing_open (parts_after job volume.parts (parts_brought volume one)) (parts_left volume one) image
+      (λ i low none. sym ((shows 0).after i low)) is)
 
   pub record_is_low : (entry : TxRecord) → Contains (records_written (change_planned one.plan) one.grant) entry → entry.inode < job.place.layout.inodes
   record_is_low =
@@ -82,21 +84,28 @@ module _ (volume : Volume) (one : OneFsync) (disk : View) (is : HasNothingToWrit
   }
 
   none_brought : (i : ℕ) → find (λ (own : InodePart). nat_eq own.inode i) (parts_brought volume one) ≡ None
-  none_brought i = ap (λ (those : List TxRecord). find (λ (own : InodePart). nat_eq own.inode i) (map (λ (one_record : TxRecord). record { inode = one_record.inode; part = parts_left volume one one_record.inode }) those)) is.none
+  none_brought i =
+      ap (λ (those : List TxRecord). find (λ (own : InodePart). nat_eq own.inode i)
+      (map (λ (one_record : TxRecord). record { inode = one_record.inode; part = parts_left volume one one_record.inode }) those)) is.none
 
   after_is : (i : ℕ) → parts_after job_of_none volume.parts (parts_brought volume one) i ≡ volume.parts i
   after_is i = others_stay job_of_none has_job.writes.slot (parts_brought volume one) volume.parts i (none_brought i)
 
-  image_after : (image : List ℕ) → IsImageOf volume.layout nothing_open volume.parts image → IsImageOf volume.layout nothing_open (parts_after job_of_none volume.parts (parts_brought volume one)) image
-  image_after image stands = parts_instead volume.layout nothing_open volume.parts (parts_after job_of_none volume.parts (parts_brought volume one)) image (λ i low none. after_is i) stands
+  image_after : (image : List ℕ) → IsImageOf volume.layout nothing_open volume.parts image
+      → IsImageOf volume.layout nothing_open (parts_after job_of_none volume.parts (parts_brought volume one)) image
+  image_after image stands =
+      parts_instead volume.layout nothing_open volume.parts (parts_after job_of_none volume.parts (parts_brought volume one)) image
+      (λ i low none. after_is i) stands
 
   read_raised : (share : ℕ) (image : List ℕ) → IsImageOf volume.layout nothing_open volume.parts image → IsReadAsTree image share (tree_raised volume one)
   read_raised share image stands = (shows volume one job_of_none has_job share).after_shows image (image_after image stands)
 
-  wrote_none : (content : List ℕ) → disk.content ≡ Some content → (share : ℕ) → Wrote share (tree_held volume) (tree_raised volume one) disk disk (Some disk.now)
+  wrote_none : (content : List ℕ) → disk.content ≡ Some content → (share : ℕ)
+      → Wrote share (tree_held volume) (tree_raised volume one) disk disk (Some disk.now)
   wrote_none content told share = record {
     keeps = record { later = le_itself disk.now; past = λ k image low left. left };
-    moments = λ k image low high left. inl (read_left image (subst (λ (m : ℕ). disk.crash_images m image) (let same : k ≡ disk.now = omega (arith, low, high) in same) left));
+    moments = λ k image low high left. inl
+        (read_left image (subst (λ (m : ℕ). disk.crash_images m image) (let same : k ≡ disk.now = omega (arith, low, high) in same) left));
     makes = record {
       not_before = le_itself disk.now;
       not_after = le_itself disk.now;
@@ -145,15 +154,18 @@ module _ (volume : Volume) (one : OneFsync) (tx : Tx) (place : Place) (stamp : �
       subst (λ (e : JournalEntry). e.inode < place.layout.inodes) of_record.2
       (record_is_low volume one job built_job of_record.0 (subst (λ (those : List TxRecord). Contains those of_record.0) is.built.records of_record.1))
 
-  over : IsPlanOverParts volume.num one.nodes (tree_held volume) (tree_raised volume one) (inodes_shown volume.layout volume.parts) one.plan one.grant volume.store volume.parts
+  over : IsPlanOverParts volume.num one.nodes (tree_held volume) (tree_raised volume one)
+      (inodes_shown volume.layout volume.parts) one.plan one.grant volume.store volume.parts
   over = over_parts volume.first volume.history volume.flushes volume.cut volume.inodes one.flush one.raised one.after volume.num volume.layout volume.store volume.parts one.nodes one.entries one.plan one.grant is.planned
 
   lies : (fresh : FreshBlock) → Contains (contents_of tx).fresh fresh → LiesInData place.layout fresh
   lies fresh there =
-      let planned_block : Contains (blocks_planned one.plan one.grant) fresh = subst (λ (those : List FreshBlock). Contains those fresh) (ap (map block_of) is.built.fresh) there in
+      let planned_block : Contains (blocks_planned one.plan one.grant) fresh =
+      subst (λ (those : List FreshBlock). Contains those fresh) (ap (map block_of) is.built.fresh) there in
       let granted : Contains one.grant.blocks fresh.block =
       subst (λ (those : List ℕ). Contains those fresh.block)
-      (fresh_numbers volume.num one.nodes (tree_held volume) (tree_raised volume one) (inodes_shown volume.layout volume.parts) one.plan one.grant volume.store volume.parts over)
+      (fresh_numbers volume.num one.nodes (tree_held volume) (tree_raised volume one)
+      (inodes_shown volume.layout volume.parts) one.plan one.grant volume.store volume.parts over)
       (in_mapped (λ (block : FreshBlock). block.block) (blocks_planned one.plan one.grant) fresh planned_block) in
       let bounds = is.planned.grants.lies fresh.block granted in
       subst (λ (layout : Layout). LiesInData layout fresh) (sym is.layout) (record { low = bounds.0; high = bounds.1 })

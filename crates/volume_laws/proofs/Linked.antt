@@ -32,7 +32,8 @@ use Rattle.recovery.proofs.FreePart.{free_raw, free_is_free, free_is_unused, fre
 use Rattle.recovery.proofs.FreedShown.{AreFaultless, orphan_is_unlinked}
 use Rattle.volume_laws.specs.Begun.{StandInBlocks}
 
-module _ (layout : Layout) (parts : ℕ → Part) (store : ℕ → List ℕ) (some : 0 < layout.inodes) (none : fault_of_parts layout parts ≡ None) (stand : StandInBlocks store layout parts) where
+module _ (layout : Layout) (parts : ℕ → Part) (store : ℕ → List ℕ) (some : 0 < layout.inodes) (none : fault_of_parts layout parts ≡ None)
+    (stand : StandInBlocks store layout parts) where
   abbrev shown : SeenInodes
   shown = inodes_shown layout parts
 
@@ -46,16 +47,22 @@ module _ (layout : Layout) (parts : ℕ → Part) (store : ℕ → List ℕ) (so
   whole i low = subst IsWholePart (stand.gathered i low) (gathered_whole store (parts i).raw)
 
   kinds_shown : ShowsByKind shown
-  kinds_shown = shows_by_kind parts layout.inodes whole (λ i within. byte_rules_kept layout parts none 1 i (omega arith) (omega arith) within) (λ i within. byte_rules_kept layout parts none 3 i (omega arith) (omega arith) within)
+  kinds_shown = shows_by_kind parts layout.inodes whole (λ i within. byte_rules_kept layout parts none 1 i (omega arith) (omega arith) within)
+      (λ i within. byte_rules_kept layout parts none 3 i (omega arith) (omega arith) within)
 
   start : KeepsByteRules shown
   start = record {
     root = (some, root_shown (parts 0) (byte_rules_kept layout parts none 2 0 (omega arith) (omega arith) some));
-    apart = holds_apart parts layout.inodes whole (λ i within. byte_rules_kept layout parts none 1 i (omega arith) (omega arith) within) (λ i within. byte_rules_kept layout parts none 5 i (omega arith) (omega arith) within);
+    apart = holds_apart parts layout.inodes whole (λ i within. byte_rules_kept layout parts none 1 i (omega arith) (omega arith) within)
+        (λ i within. byte_rules_kept layout parts none 5 i (omega arith) (omega arith) within);
   }
 
   ruled : AreRuled shown
-  ruled = record { rules = (no_fault_is_rules_kept shown (λ rule i. breaks_bytes_rule rule layout parts i) start (byte_rules_kept layout parts none)).0 none; kinds = kinds_shown }
+  ruled = record {
+    rules =
+        (no_fault_is_rules_kept shown (λ rule i. breaks_bytes_rule rule layout parts i) start (byte_rules_kept layout parts none)).0 none;
+    kinds = kinds_shown;
+  }
 
   are : AreFaultless layout parts
   are = record { ruled = ruled; none = none }
@@ -73,7 +80,8 @@ module _ (layout : Layout) (parts : ℕ → Part) (store : ℕ → List ℕ) (so
   frees : FreesOrphans shown next
   frees = record {
     count = refl;
-    freed = λ i low orphan. subst (λ (p : Part). IsUnused (seen_of p)) (sym (of_test i true (sym (orphan_is_unlinked layout parts are i low) ∙ orphan))) free_is_unused;
+    freed = λ i low orphan. subst (λ (p : Part). IsUnused (seen_of p))
+        (sym (of_test i true (sym (orphan_is_unlinked layout parts are i low) ∙ orphan))) free_is_unused;
     others = λ i low other. ap seen_of (of_test i false (sym (orphan_is_unlinked layout parts are i low) ∙ other));
   }
 
@@ -89,19 +97,22 @@ module _ (layout : Layout) (parts : ℕ → Part) (store : ℕ → List ℕ) (so
 
   no_root : is_unlinked (parts 0).raw ≡ true → ⊥
   no_root unlinked =
-      let file : (shown.seen 0).kind ≡ kind_byte File = eqb-true _ _ (and_first (eqb (shown.seen 0).kind (kind_byte File)) (eqb (shown.seen 0).links 0) unlinked) in
+      let file : (shown.seen 0).kind ≡ kind_byte File =
+      eqb-true _ _ (and_first (eqb (shown.seen 0).kind (kind_byte File)) (eqb (shown.seen 0).links 0) unlinked) in
       file_is_no_directory (sym file ∙ ruled.rules.root.1)
 
   pub good : HaveGoodBytes layout linked
   good rule i low high no_second no_fifth within = elim (cases_Bool (is_unlinked (parts i).raw)) [
     | inr in_use ↦ rule_alike layout linked parts i (of_test i false in_use) rule no_fifth ∙ byte_rules_kept layout parts none rule i low high within
-    | inl unlinked ↦ rule_alike layout linked (λ _. free_part) i (of_test i true unlinked) rule no_fifth ∙ free_good rule (λ root. no_root (subst (λ (n : ℕ). is_unlinked (parts n).raw ≡ true) root unlinked))
+    | inl unlinked ↦ rule_alike layout linked (λ _. free_part) i (of_test i true unlinked) rule no_fifth
+        ∙ free_good rule (λ root. no_root (subst (λ (n : ℕ). is_unlinked (parts n).raw ≡ true) root unlinked))
   ]
     where
       free_good : (rule : ℕ) → (i ≡ 0 → ⊥) → breaks_bytes_rule rule layout (λ _. free_part) i ≡ false
       free_good rule inner = elim (cases_eq rule 1) [
         | inr later ↦ free_breaks_none rule layout (λ _. free_part) i later inner free_is_free
-        | inl first ↦ ap (λ (r : ℕ). breaks_bytes_rule r layout (λ _. free_part) i) first ∙ ap (λ (raw : List ℕ). is_some (inode_fault raw)) free_raw ∙ ap is_some zeros_are_sound
+        | inl first ↦ ap (λ (r : ℕ). breaks_bytes_rule r layout (λ _. free_part) i) first ∙ ap (λ (raw : List ℕ). is_some (inode_fault raw)) free_raw
+            ∙ ap is_some zeros_are_sound
       ]
 
   pub stand_linked : StandInBlocks store layout linked
@@ -115,4 +126,5 @@ module _ (layout : Layout) (parts : ℕ → Part) (store : ℕ → List ℕ) (so
       free_spelled : inode_bytes (inode_in free_part) ≡ free_part.raw
       free_spelled =
           ap (λ (raw : List ℕ). inode_bytes (Rattle.sfs_image.specs.Inode.inode_of raw)) free_raw
-          ∙ inode_bytes-inode_of (Rattle.sfs_image.specs.Bytes.zeros 512) (length-zeros 512) (λ k. let zero = zeros-byte 512 k in omega (arith, zero)) zeros_are_sound ∙ sym free_raw
+          ∙ inode_bytes-inode_of (Rattle.sfs_image.specs.Bytes.zeros 512) (length-zeros 512)
+          (λ k. let zero = zeros-byte 512 k in omega (arith, zero)) zeros_are_sound ∙ sym free_raw

@@ -48,7 +48,8 @@ module _ (volume : Volume) (entry : Entry) (is : IsStanding volume) (mounted : I
   -- what was alive at a stamp is so in the longer history
   live : (flush : Flush) → IsOneOf volume.flushes flush → HasLiveNode volume.first longer flush
   live flush one =
-      ap (λ (h : List Entry). is_alive (tree_after volume.first h) flush.node) (sym (take_take longer flush.stamp count (is.among.low flush one)) ∙ ap (take flush.stamp) before_is)
+      ap (λ (h : List Entry). is_alive (tree_after volume.first h) flush.node)
+      (sym (take_take longer flush.stamp count (is.among.low flush one)) ∙ ap (take flush.stamp) before_is)
       ∙ is.among.live flush one
 
   has_more : HasMoreNodes tree more
@@ -59,7 +60,8 @@ module _ (volume : Volume) (entry : Entry) (is : IsStanding volume) (mounted : I
 
   -- a node with a number is one of the tree's
   numbered_node : (node i : ℕ) → volume.num node ≡ Some i → IsSome (get tree.nodes node)
-  numbered_node node i has = ((cuts_keep_kinds volume.first volume.history volume.cut).nodes node).1 (keeps.nodes node ((is.between.numbers.each node).1 (i, has)))
+  numbered_node node i has =
+      ((cuts_keep_kinds volume.first volume.history volume.cut).nodes node).1 (keeps.nodes node ((is.between.numbers.each node).1 (i, has)))
 
   stands_longer : StandsForTree volume.num more (inodes_shown volume.layout volume.parts)
   stands_longer = stands_more volume.num tree more keeps.sound has_more numbered_node (inodes_shown volume.layout volume.parts) is.between.stands

@@ -11,8 +11,10 @@ use Rattle.flush_core.specs.LawsGrowth.{HasMoreNodes}
 use Rattle.commit_turns.proofs.MoreNodes.{kind_more, bytes_more, links_more, row_more}
 
 -- each node with a number is one of the tree's
-module _ (num : Numbering) (tree more : TreeState) (sound : IsSound tree) (has : HasMoreNodes tree more) (numbered : (node i : ℕ) → num node ≡ Some i → IsSome (get tree.nodes node)) where
-  row_same : (directory : ℕ) (name : List ℕ) → option_map (row_on num more name) (row_of more directory name) ≡ option_map (row_on num tree name) (row_of tree directory name)
+module _ (num : Numbering) (tree more : TreeState) (sound : IsSound tree) (has : HasMoreNodes tree more)
+    (numbered : (node i : ℕ) → num node ≡ Some i → IsSome (get tree.nodes node)) where
+  row_same : (directory : ℕ) (name : List ℕ)
+      → option_map (row_on num more name) (row_of more directory name) ≡ option_map (row_on num tree name) (row_of tree directory name)
   row_same directory name = ap (option_map (row_on num more name)) (row_more tree more sound has directory name) ∙ by (row_of tree directory name) refl
     where
       by : (o : Option ℕ) → row_of tree directory name ≡ o → option_map (row_on num more name) o ≡ option_map (row_on num tree name) o

@@ -30,7 +30,8 @@ use Rattle.volume_laws.proofs.BegunEntries.{keeps_entries}
 use Rattle.volume_laws.proofs.Linked.{freed, itself, tree_is, good, stand_linked}
 use Rattle.volume_laws.proofs.MoreNodes.{stands_more}
 
-module _ (nodes size : ℕ) (mounted : Mounted) (store : ℕ → List ℕ) (sound : IsSoundMount nodes size mounted) (stand : StandInBlocks store mounted.layout sound.parts) where
+module _ (nodes size : ℕ) (mounted : Mounted) (store : ℕ → List ℕ) (sound : IsSoundMount nodes size mounted)
+    (stand : StandInBlocks store mounted.layout sound.parts) where
   abbrev layout : Layout
   layout = mounted.layout
 
@@ -75,7 +76,14 @@ module _ (nodes size : ℕ) (mounted : Mounted) (store : ℕ → List ℕ) (soun
           };
           flushed = none;
           numbers = numbers_inodes image making own ruled.kinds ruled.none_left;
-          sound = record { gathered = stand_after.gathered; records = stand_after.records; whole = stand_after.whole; good = good_after; ranges = sound.fits.ranges };
+          sound = record {
+            gathered = stand_after.gathered;
+            records = stand_after.records;
+            whole = stand_after.whole;
+            good = good_after;
+            ranges =
+                sound.fits.ranges;
+          };
           stands = stands_more (own_numbers image) tree (tree_at_cut tree [] empty) own.sound (first_nodes tree) (node_there image making) image own.stands;
         };
         among = record { low = λ flush one. absurd one; live = λ flush one. absurd one };
@@ -86,7 +94,8 @@ module _ (nodes size : ℕ) (mounted : Mounted) (store : ℕ → List ℕ) (soun
       let own = itself layout parts store some sound.faultless stand making in
       let ruled = freed layout parts store some sound.faultless stand making in
       short_files image making own ruled.kinds ruled.none_left
-      (λ i low file. ((sizes_say (linked i)).0 (good_after 3 i (omega arith) (omega arith) (λ e. omega (arith, e)) (λ e. omega (arith, e)) low)).file (eq-eqb (inode_in (linked i)).kind (kind_byte File) file))
+      (λ i low file. ((sizes_say (linked i)).0 (good_after 3 i (omega arith) (omega arith) (λ e. omega (arith, e)) (λ e. omega (arith, e)) low)).file
+      (eq-eqb (inode_in (linked i)).kind (kind_byte File) file))
 
   pub begins_volume : BeginsVolume mounted store linked
   begins_volume = record {

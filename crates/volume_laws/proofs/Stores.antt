@@ -60,18 +60,22 @@ module _ (volume : Volume) (one : OneFsync) (is : IsPlanned volume one) where
   stand_fresh = λ k d low.
       let block : FreshBlock = get_or fresh k d in
       ap (λ (o : Option FreshBlock). option_map_or (λ (other : FreshBlock). other.bytes) o (volume.store block.block))
-      (found_once (λ (other : FreshBlock). other.block) fresh (each_once volume.num one.nodes old new image one.plan one.grant volume.store volume.parts over) block (Contains-get_or fresh k d low))
+      (found_once (λ (other : FreshBlock). other.block) fresh
+      (each_once volume.num one.nodes old new image one.plan one.grant volume.store volume.parts over) block (Contains-get_or fresh k d low))
 
   -- a part before is gathered as it was, since no fresh block is one that it points to
   gathered_still : (i : ℕ) → i < volume.layout.inodes → IsGathered later (volume.parts i)
   gathered_still i low = gather_same volume.store later (volume.parts i).raw kept ∙ is.ready.sound.gathered i low
     where
-      kept : (place : ℕ) → (pointer_at (part_of volume.store (volume.parts i).raw) place ≡ 0 → ⊥) → later (pointer_at (part_of volume.store (volume.parts i).raw) place) ≡ volume.store (pointer_at (part_of volume.store (volume.parts i).raw) place)
+      kept : (place : ℕ) → (pointer_at (part_of volume.store (volume.parts i).raw) place ≡ 0 → ⊥)
+          → later (pointer_at (part_of volume.store (volume.parts i).raw) place) ≡ volume.store (pointer_at (part_of volume.store (volume.parts i).raw) place)
       kept place some = elim (cases_lt place PLACES) [
         | inl within ↦
-            let here : pointer_at (part_of volume.store (volume.parts i).raw) place ≡ pointer_at (volume.parts i) place = ap (λ p. pointer_at p place) (is.ready.sound.gathered i low) in
+            let here : pointer_at (part_of volume.store (volume.parts i).raw) place ≡ pointer_at (volume.parts i) place =
+            ap (λ p. pointer_at p place) (is.ready.sound.gathered i low) in
             ap later here
-            ∙ ap (λ (o : Option FreshBlock). option_map_or (λ (block : FreshBlock). block.bytes) o (volume.store (pointer_at (volume.parts i) place))) (held_is_old volume.num one.nodes old new image one.plan one.grant volume.store volume.parts over i place low within)
+            ∙ ap (λ (o : Option FreshBlock). option_map_or (λ (block : FreshBlock). block.bytes) o (volume.store (pointer_at (volume.parts i) place)))
+            (held_is_old volume.num one.nodes old new image one.plan one.grant volume.store volume.parts over i place low within)
             ∙ ap volume.store (sym here)
         | inr past ↦ absurd (some (none_past_places volume.store (volume.parts i).raw place past))
       ]
@@ -83,25 +87,33 @@ module _ (volume : Volume) (one : OneFsync) (is : IsPlanned volume one) where
       ap (λ (b : FreshBlock). length b.bytes) (sym tx.2) ∙ of_node node.0 node.1 tx.0 node.2
     where
       in_range : (k : ℕ) → Contains (range_with_len 0 16) k → k < 16
-      in_range k (i, within, at) = let low = length-range_with_len 0 16 in let e = get_or-range_with_len 0 16 i k (omega (arith, within, low)) in omega (arith, at, e, within, low)
+      in_range k (i, within, at) = let low = length-range_with_len 0 16 in let e = get_or-range_with_len 0 16 i k (omega (arith, within, low)) in
+          omega (arith, at, e, within, low)
 
-      of_node : (made : Built) → Contains (nodes_with_grant (change_planned one.plan) one.grant) made → (tx : TxBlock) → Contains (fresh_of_node one.plan.files made) tx → length tx.bytes ≡ 4096
-      of_node made there_made tx has = elim (Contains-append_cases (filter_map (data_written made (pages_of_node one.plan.files made.node)) made.changed) (filter_map (table_of_place made) (range_with_len 0 16)) tx has) [
-        | inl data_ ↦
-            let c = given_by (data_written made (pages_of_node one.plan.files made.node)) made.changed tx data_ in
-            data_long made (pages_of_node one.plan.files made.node) (is.grants.slots made there_made)
-            (λ n page e. ap length (page_bytes new one.plan is.plans.files.pages made.node n page e) ∙ length_block n (bytes_of new made.node)) c.0 tx c.2
-        | inr table ↦
-            let k = given_by (table_of_place made) (range_with_len 0 16) tx table in
-            let node : IsBuiltNode volume.num one.nodes old new image one.plan one.grant over.full made = node_built volume.num one.nodes old new image one.plan one.grant over.full made there_made in
-            table_long (numbers_with (change_planned one.plan) one.grant.inodes) (net_of_node one.plan.nets node.seat.node)
-            (unwrap_or (numbers_with (change_planned one.plan) one.grant.inodes node.seat.node) 0) (fresh_cut (change_planned one.plan).seats one.grant.blocks node.m node.seat) node.seat k.0 (in_range k.0 k.1) tx (subst (λ (b : Built). table_of_place b k.0 ≡ Some tx) node.is k.2)
-      ]
+      of_node : (made : Built) → Contains (nodes_with_grant (change_planned one.plan) one.grant) made → (tx : TxBlock)
+          → Contains (fresh_of_node one.plan.files made) tx → length tx.bytes ≡ 4096
+      of_node made there_made tx has =
+          elim (Contains-append_cases (filter_map (data_written made (pages_of_node one.plan.files made.node)) made.changed)
+          (filter_map (table_of_place made) (range_with_len 0 16)) tx has) [
+            | inl data_ ↦
+                let c = given_by (data_written made (pages_of_node one.plan.files made.node)) made.changed tx data_ in
+                data_long made (pages_of_node one.plan.files made.node) (is.grants.slots made there_made)
+                (λ n page e. ap length (page_bytes new one.plan is.plans.files.pages made.node n page e) ∙ length_block n (bytes_of new made.node)) c.0 tx c.2
+            | inr table ↦
+                let k = given_by (table_of_place made) (range_with_len 0 16) tx table in
+                let node : IsBuiltNode volume.num one.nodes old new image one.plan one.grant over.full made =
+                node_built volume.num one.nodes old new image one.plan one.grant over.full made there_made in
+                table_long (numbers_with (change_planned one.plan) one.grant.inodes) (net_of_node one.plan.nets node.seat.node)
+                (unwrap_or (numbers_with (change_planned one.plan) one.grant.inodes node.seat.node) 0)
+                (fresh_cut (change_planned one.plan).seats one.grant.blocks node.m node.seat) node.seat k.0 (in_range k.0 k.1) tx
+                (subst (λ (b : Built). table_of_place b k.0 ≡ Some tx) node.is k.2)
+          ]
 
   whole_still : (block : ℕ) → data_start volume.layout ≤ block → block < volume.layout.blocks → length (later block) ≡ 4096
   whole_still block low high = by (find (λ (other : FreshBlock). nat_eq other.block block) fresh) refl
     where
-      by : (o : Option FreshBlock) → find (λ (other : FreshBlock). nat_eq other.block block) fresh ≡ o → length (option_map_or (λ (other : FreshBlock). other.bytes) o (volume.store block)) ≡ 4096
+      by : (o : Option FreshBlock) → find (λ (other : FreshBlock). nat_eq other.block block) fresh ≡ o
+          → length (option_map_or (λ (other : FreshBlock). other.bytes) o (volume.store block)) ≡ 4096
       by None e = is.ready.sound.whole block low high
       by (Some other) e = fresh_long other (found_is_in (λ (other : FreshBlock). nat_eq other.block block) fresh other e)
 
@@ -122,7 +134,11 @@ commits_stay_standing volume one later stands is comes there = record {
     ];
     live = λ flush among. elim (in_either volume.flushes (one.flush ∷ []) flush among) [
       | inl before ↦ stands.among.live flush before
-      | inr own ↦ elim own [ inl same ↦ subst (λ (f : Flush). Rattle.flush_core.specs.Closure.HasLiveNode volume.first volume.history f) same comes.live | inr none ↦ absurd none ]
+      | inr own ↦ elim own [
+        | inl same ↦
+            subst (λ (f : Flush). Rattle.flush_core.specs.Closure.HasLiveNode volume.first volume.history f) same comes.live
+        | inr none ↦ absurd none
+      ]
     ];
   };
 }

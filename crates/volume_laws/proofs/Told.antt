@@ -22,7 +22,8 @@ module _ (nodes : ℕ) (image : List ℕ) (mounted : Mounted) (old new : View) (
   stands_for : (now : List ℕ) → IsRecoveredFrom image now → IsImageOf mounted.layout nothing_open (without_unlinked (parts_of mounted.layout image)) now
   stands_for now recovered =
       subst (λ (layout : Layout). IsImageOf layout nothing_open (without_unlinked (parts_of layout image)) now) (sym told.is.layout_is)
-      (parts_instead (layout_of image) nothing_open recovered.parts (without_unlinked (parts_of (layout_of image) image)) now (λ i low none. sym (recovered.without i low)) recovered.stands)
+      (parts_instead (layout_of image) nothing_open recovered.parts (without_unlinked (parts_of (layout_of image) image)) now
+      (λ i low none. sym (recovered.without i low)) recovered.stands)
 
   read_same : (now : List ℕ) → ShowsTheSame now image → IsReadAsTree now share mounted.tree
   read_same now same = record {

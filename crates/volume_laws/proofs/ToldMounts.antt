@@ -32,7 +32,8 @@ record HasStart (image : List ℕ) : Type 0 where
 start_of : (image : List ℕ) → fault_of image ≡ None → HasStart image
 start_of image = by (super_fault_of image) (journal_fault_of (layout_of image) image) (tree_fault (breaks_bytes_of image) (image_inodes image)) refl refl
   where
-    by : (super : Option ℕ) (journal : Option SlotFault) (tree : Option TreeFault) → super_fault_of image ≡ super → journal_fault_of (layout_of image) image ≡ journal → first_of_faults super journal tree ≡ None → HasStart image
+    by : (super : Option ℕ) (journal : Option SlotFault) (tree : Option TreeFault) → super_fault_of image ≡ super
+        → journal_fault_of (layout_of image) image ≡ journal → first_of_faults super journal tree ≡ None → HasStart image
     by None None tree a b e = record { super = a; journals = b }
     by (Some at) journal tree a b e = absurd (none_some (sym e))
     by None (Some slot) tree a b e = absurd (none_some (sym e))
@@ -66,8 +67,10 @@ module _ (nodes size : ℕ) (image : List ℕ) (mounted : Mounted) (told : HasTo
 
   shown : mounted.tree ≡ image_tree (inodes_shown layout parts) (making_with nodes layout)
   shown =
-      some_same (sym told.is.tree ∙ ap (λ (o : Option ImageFault). cond (is_none o) (Some (image_tree (image_inodes image) (making_at_mount image share))) None) no_fault)
-      ∙ sym (ap (λ (l : Layout). image_tree (inodes_shown l (parts_of l image)) (record { first = l.inodes; share = share; made = replicate l.cores 0 })) told.is.layout_is)
+      some_same (sym told.is.tree
+      ∙ ap (λ (o : Option ImageFault). cond (is_none o) (Some (image_tree (image_inodes image) (making_at_mount image share))) None) no_fault)
+      ∙ sym (ap (λ (l : Layout). image_tree (inodes_shown l (parts_of l image))
+      (record { first = l.inodes; share = share; made = replicate l.cores 0 })) told.is.layout_is)
 
   sound_of_image : IsSoundMount nodes size mounted
   sound_of_image = record {
@@ -88,7 +91,8 @@ module _ (nodes size : ℕ) (image : List ℕ) (mounted : Mounted) (told : HasTo
       (inode_bytes-inode_of (settled layout image i) (told.long i low) (told.bytes i low) (none_of (inode_fault (settled layout image i)) kept))
     where
       kept : is_some (inode_fault (settled layout image i)) ≡ false
-      kept = ap (λ (raw : List ℕ). is_some (inode_fault raw)) (sym (raw_of (image_block image) (settled layout image i))) ∙ byte_rules_kept layout parts faultless 1 i (omega arith) (omega arith) low
+      kept = ap (λ (raw : List ℕ). is_some (inode_fault raw)) (sym (raw_of (image_block image) (settled layout image i)))
+          ∙ byte_rules_kept layout parts faultless 1 i (omega arith) (omega arith) low
 
       none_of : (o : Option ℕ) → is_some o ≡ false → o ≡ None
       none_of None e = refl

@@ -58,7 +58,8 @@ pub record BeginsVolume (mounted : Mounted) (store : ℕ → List ℕ) (parts : 
 
 -- So it is of each mount whose parts stand in a store.
 abbrev pub MountsBegin : Type 0
-MountsBegin = (nodes size : ℕ) (mounted : Mounted) (store : ℕ → List ℕ) (sound : IsSoundMount nodes size mounted) → StandInBlocks store mounted.layout sound.parts
+MountsBegin = (nodes size : ℕ) (mounted : Mounted) (store : ℕ → List ℕ) (sound : IsSoundMount nodes size mounted)
+    → StandInBlocks store mounted.layout sound.parts
     → BeginsVolume mounted store (without_unlinked sound.parts)
 
 -- A mount of a disk that told an image: it is of this image, each image of each moment shows the same, and those left at its end are recovered
@@ -77,7 +78,8 @@ pub record LeavesMounted (nodes : ℕ) (image : List ℕ) (mounted : Mounted) (o
   pub mounts : Mounts (share_of_nodes nodes mounted.layout) old.now mounted.tree new
 
 abbrev pub ToldMountsLeave : View → View → Type 0
-ToldMountsLeave old new = (nodes : ℕ) (image : List ℕ) (mounted : Mounted) → WasTold nodes image mounted old new → LeavesMounted nodes image mounted old new
+ToldMountsLeave old new = (nodes : ℕ) (image : List ℕ) (mounted : Mounted) → WasTold nodes image mounted old new
+    → LeavesMounted nodes image mounted old new
 
 -- What was mounted of a told image, whose settled records are bytes.
 pub record HasToldRecords (nodes size : ℕ) (image : List ℕ) (mounted : Mounted) : Type 0 where

@@ -81,7 +81,9 @@ pub record CanCommit (volume : Volume) (one : OneFsync) (tx : Tx) (place : Place
   pub below : All (λ (entry : JournalEntry). entry.inode < place.layout.inodes) (contents_of tx).entries
   pub in_data : All (LiesInData place.layout) (contents_of tx).fresh
   pub shows : (share : ℕ)
-      → ShowsCommit share (tree_held volume) (tree_raised volume one) (job_for place (contents_of tx) stamp) volume.parts (parts_left volume one) (parts_brought volume one)
+      → ShowsCommit share (tree_held volume) (tree_raised volume one) (job_for place (contents_of tx) stamp) volume.parts (parts_left volume one)
+      (parts_brought volume one)
 
 abbrev pub BuiltJobsWritePlans : Type 0
-BuiltJobsWritePlans = (volume : Volume) (one : OneFsync) (tx : Tx) (place : Place) (stamp : ℕ) → WasBuilt volume one tx place → CanCommit volume one tx place stamp
+BuiltJobsWritePlans = (volume : Volume) (one : OneFsync) (tx : Tx) (place : Place) (stamp : ℕ) → WasBuilt volume one tx place
+    → CanCommit volume one tx place stamp
