@@ -103,7 +103,8 @@ module _ (image : SeenInodes) (making : Making) where
         met _ (named directory name x row) = named_alive tree x (record { directory = directory; name = name; row = row })
 
     -- no file has more bytes than its blocks
-    pub short_files : ((i : ℕ) → i < image.count → (image.seen i).kind ≡ kind_byte File → (image.seen i).size ≤ BLOCK_BYTES * FILE_BLOCKS) → HasShortFiles tree
+    pub short_files : ((i : ℕ) → i < image.count → (image.seen i).kind ≡ kind_byte File → (image.seen i).size ≤ BLOCK_BYTES * FILE_BLOCKS)
+        → HasShortFiles tree
     short_files sizes node = elim (cases_Bool (is_some (get tree.nodes node))) [
       | inr absent ↦ subst (λ (bytes : List ℕ). length bytes ≤ BLOCK_BYTES * FILE_BLOCKS) (sym (no_bytes (get tree.nodes node) absent)) (omega arith)
       | inl some ↦

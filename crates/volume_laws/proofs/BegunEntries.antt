@@ -35,7 +35,8 @@ module _ (layout : Layout) (parts : ℕ → Part) where
   kept_is : (i : ℕ) (one : NumberedKept) → kept_if_used parts i ≡ Some one → (is_free_part (parts i) ≡ false) × (kept_at i ≡ one)
   kept_is i one e = by (is_free_part (parts i)) refl e
     where
-      by : (b : Bool) → is_free_part (parts i) ≡ b → cond b None (Some (kept_at i)) ≡ Some one → (is_free_part (parts i) ≡ false) × (kept_at i ≡ one)
+      by : (b : Bool) → is_free_part (parts i) ≡ b → cond b None (Some (kept_at i)) ≡ Some one
+          → (is_free_part (parts i) ≡ false) × (kept_at i ≡ one)
       by true free given = absurd (none_some given)
       by false used given = (used, some_same given)
 

@@ -39,17 +39,21 @@ first_slot layout is = let cores = is.cores_low in let slots = is.slots_low in b
     by (suc a) (suc b) low some = omega arith
 
 module _ (volume : Volume) (one : OneFsync) (job : Job) (has : HasJob volume one job) where
-  planned_there : IsPlannedFsync volume.first volume.history volume.flushes volume.cut volume.inodes one.flush one.raised one.after volume.num job.place.layout volume.store volume.parts one.nodes one.entries one.plan one.grant
+  planned_there : IsPlannedFsync volume.first volume.history volume.flushes volume.cut volume.inodes one.flush one.raised one.after volume.num
+      job.place.layout volume.store volume.parts one.nodes one.entries one.plan one.grant
   planned_there =
-      subst (λ (layout : Layout). IsPlannedFsync volume.first volume.history volume.flushes volume.cut volume.inodes one.flush one.raised one.after volume.num layout volume.store volume.parts one.nodes one.entries one.plan one.grant)
+      subst (λ (layout : Layout). IsPlannedFsync volume.first volume.history volume.flushes volume.cut volume.inodes one.flush one.raised one.after volume.num
+      layout volume.store volume.parts one.nodes one.entries one.plan one.grant)
       (sym has.layout) has.planned
 
   spelled_there : AreSpelled job.place.layout.inodes volume.parts
   spelled_there = subst (λ (layout : Layout). AreSpelled layout.inodes volume.parts) (sym has.layout) has.spelled
 
-  pub shows : (share : ℕ) → ShowsCommit share (tree_held volume) (tree_raised volume one) job volume.parts (parts_left volume one) (parts_brought volume one)
+  pub shows : (share : ℕ) → ShowsCommit share (tree_held volume) (tree_raised volume one) job volume.parts (parts_left volume one)
+      (parts_brought volume one)
   shows share =
-      shows_commit volume.first volume.history volume.flushes volume.cut volume.inodes one.flush one.raised one.after volume.num volume.store volume.parts one.nodes one.entries one.plan one.grant job planned_there spelled_there has.writes share
+      shows_commit volume.first volume.history volume.flushes volume.cut volume.inodes one.flush one.raised one.after volume.num volume.store volume.parts
+      one.nodes one.entries one.plan one.grant job planned_there spelled_there has.writes share
 
   -- an image of the parts after a job's commit is one of those that the fsync leaves
   pub image_left : (image : List ℕ) → IsImageOf job.place.layout nothing_open (parts_after job volume.parts (parts_brought volume one)) image
@@ -61,7 +65,8 @@ module _ (volume : Volume) (one : OneFsync) (job : Job) (has : HasJob volume one
 
   pub record_is_low : (entry : TxRecord) → Contains (records_written (change_planned one.plan) one.grant) entry → entry.inode < job.place.layout.inodes
   record_is_low =
-      low_record volume.first volume.history volume.flushes volume.cut volume.inodes one.flush one.raised one.after volume.num volume.store volume.parts one.nodes one.entries one.plan one.grant job planned_there spelled_there has.writes
+      low_record volume.first volume.history volume.flushes volume.cut volume.inodes one.flush one.raised one.after volume.num volume.store volume.parts
+      one.nodes one.entries one.plan one.grant job planned_there spelled_there has.writes
 
 pub ok_commits_go_on : (old now : View) → OkCommitsGoOn old now
 ok_commits_go_on old now volume one job has carried content told image left = image_left volume one job has image (carried.ended content told image left)
@@ -97,7 +102,8 @@ module _ (volume : Volume) (one : OneFsync) (disk : View) (is : HasNothingToWrit
       parts_instead volume.layout nothing_open volume.parts (parts_after job_of_none volume.parts (parts_brought volume one)) image
       (λ i low none. after_is i) stands
 
-  read_raised : (share : ℕ) (image : List ℕ) → IsImageOf volume.layout nothing_open volume.parts image → IsReadAsTree image share (tree_raised volume one)
+  read_raised : (share : ℕ) (image : List ℕ) → IsImageOf volume.layout nothing_open volume.parts image
+      → IsReadAsTree image share (tree_raised volume one)
   read_raised share image stands = (shows volume one job_of_none has_job share).after_shows image (image_after image stands)
 
   wrote_none : (content : List ℕ) → disk.content ≡ Some content → (share : ℕ)
@@ -156,7 +162,8 @@ module _ (volume : Volume) (one : OneFsync) (tx : Tx) (place : Place) (stamp : �
 
   over : IsPlanOverParts volume.num one.nodes (tree_held volume) (tree_raised volume one)
       (inodes_shown volume.layout volume.parts) one.plan one.grant volume.store volume.parts
-  over = over_parts volume.first volume.history volume.flushes volume.cut volume.inodes one.flush one.raised one.after volume.num volume.layout volume.store volume.parts one.nodes one.entries one.plan one.grant is.planned
+  over = over_parts volume.first volume.history volume.flushes volume.cut volume.inodes one.flush one.raised one.after volume.num volume.layout volume.store
+      volume.parts one.nodes one.entries one.plan one.grant is.planned
 
   lies : (fresh : FreshBlock) → Contains (contents_of tx).fresh fresh → LiesInData place.layout fresh
   lies fresh there =

@@ -71,7 +71,8 @@ module _ (layout : Layout) (parts : ℕ → Part) (store : ℕ → List ℕ) (so
   of_test i b is = ap (λ b. cond b free_part (parts i)) is
 
   -- what holds of the free part and of all parts holds of those without orphans
-  pub each_linked : (P : Part → Type 0) → P free_part → ((i : ℕ) → i < layout.inodes → P (parts i)) → (i : ℕ) → i < layout.inodes → P (linked i)
+  pub each_linked : (P : Part → Type 0) → P free_part → ((i : ℕ) → i < layout.inodes → P (parts i))
+      → (i : ℕ) → i < layout.inodes → P (linked i)
   each_linked P of_free of_each i low = elim (cases_Bool (is_unlinked (parts i).raw)) [
     | inl unlinked ↦ subst P (sym (of_test i true unlinked)) of_free
     | inr in_use ↦ subst P (sym (of_test i false in_use)) (of_each i low)

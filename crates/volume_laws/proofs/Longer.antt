@@ -43,7 +43,8 @@ module _ (volume : Volume) (entry : Entry) (is : IsStanding volume) (mounted : I
   within = let e = length-append volume.history (entry ∷ []) in omega arith
 
   keeps : KeepsAll volume.first volume.history volume.cut volume.inodes
-  keeps = lists_keep volume.first volume.history volume.flushes volume.cut volume.inodes is.between.history_is.sound is.between.history_is.legal is.between.flushed
+  keeps = lists_keep volume.first volume.history volume.flushes volume.cut volume.inodes is.between.history_is.sound is.between.history_is.legal
+      is.between.flushed
 
   -- what was alive at a stamp is so in the longer history
   live : (flush : Flush) → IsOneOf volume.flushes flush → HasLiveNode volume.first longer flush

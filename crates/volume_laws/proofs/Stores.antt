@@ -54,7 +54,8 @@ module _ (volume : Volume) (one : OneFsync) (is : IsPlanned volume one) where
   later = store_planned volume.store one.plan one.grant
 
   over : IsPlanOverParts volume.num one.nodes old new image one.plan one.grant volume.store volume.parts
-  over = over_parts volume.first volume.history volume.flushes volume.cut volume.inodes one.flush one.raised one.after volume.num volume.layout volume.store volume.parts one.nodes one.entries one.plan one.grant is
+  over = over_parts volume.first volume.history volume.flushes volume.cut volume.inodes one.flush one.raised one.after volume.num volume.layout volume.store
+      volume.parts one.nodes one.entries one.plan one.grant is
 
   stand_fresh : StandIn later fresh
   stand_fresh = λ k d low.
@@ -126,7 +127,8 @@ stores_go_on volume one is = (store_planned volume.store one.plan one.grant, sto
 pub commits_stay_standing : CommitsStayStanding
 commits_stay_standing volume one later stands is comes there = record {
   between =
-      fsyncs_leave_ready volume.first volume.history volume.flushes volume.cut volume.inodes one.flush one.raised one.after volume.num volume.layout volume.store volume.parts one.nodes one.entries one.plan one.grant later is there;
+      fsyncs_leave_ready volume.first volume.history volume.flushes volume.cut volume.inodes one.flush one.raised one.after volume.num volume.layout
+      volume.store volume.parts one.nodes one.entries one.plan one.grant later is there;
   among = record {
     low = λ flush among. elim (in_either volume.flushes (one.flush ∷ []) flush among) [
       | inl before ↦ stands.among.low flush before
