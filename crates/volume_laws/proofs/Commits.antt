@@ -182,6 +182,7 @@ module _ (volume : Volume) (one : OneFsync) (tx : Tx) (place : Place) (stamp : �
     job = built_job;
     below = λ k d low. low_entry (get_or (contents_of tx).entries k d) (Contains-get_or (contents_of tx).entries k d low);
     in_data = λ k d low. lies (get_or (contents_of tx).fresh k d) (Contains-get_or (contents_of tx).fresh k d low);
+    spelled = subst (λ (layout : Layout). AreSpelled layout.inodes (parts_left volume one)) is.layout (shows volume one job built_job 0).spelled;
     shows = shows volume one job built_job;
   }
 

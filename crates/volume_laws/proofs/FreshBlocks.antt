@@ -73,7 +73,8 @@ module _ (numbers : ℕ → Option ℕ) (net : List NetRow) (number : ℕ) (own 
       (get_or-tabulate 16 (table_fate (rewrite_in seat)) k Stays low)) ∙ given)
     where
       by : (f : TableFate) → table_fate (rewrite_in seat) k ≡ f
-          → indirect_block_written f (slice_index one.meta.indirect k) (find (λ (t : Table). nat_eq t.place k) one.tables) ≡ Some tx → length tx.bytes ≡ 4096
+          → indirect_block_written f (slice_index one.meta.indirect k) (find (λ (t : Table). nat_eq t.place k) one.tables) ≡ Some tx
+          → length tx.bytes ≡ 4096
       by Stays fate e = absurd (none_some e)
       by Goes fate e = absurd (none_some e)
       by IsWritten fate e = written_long (slice_index one.meta.indirect k) fate e

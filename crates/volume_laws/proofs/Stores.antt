@@ -69,7 +69,8 @@ module _ (volume : Volume) (one : OneFsync) (is : IsPlanned volume one) where
   gathered_still i low = gather_same volume.store later (volume.parts i).raw kept ∙ is.ready.sound.gathered i low
     where
       kept : (place : ℕ) → (pointer_at (part_of volume.store (volume.parts i).raw) place ≡ 0 → ⊥)
-          → later (pointer_at (part_of volume.store (volume.parts i).raw) place) ≡ volume.store (pointer_at (part_of volume.store (volume.parts i).raw) place)
+          → later (pointer_at (part_of volume.store (volume.parts i).raw) place)
+          ≡ volume.store (pointer_at (part_of volume.store (volume.parts i).raw) place)
       kept place some = elim (cases_lt place PLACES) [
         | inl within ↦
             let here : pointer_at (part_of volume.store (volume.parts i).raw) place ≡ pointer_at (volume.parts i) place =

@@ -75,11 +75,12 @@ pub record WasBuilt (volume : Volume) (one : OneFsync) (tx : Tx) (place : Place)
   pub slot : place.slot ≡ 0
 
 -- A transaction can be committed: its job is that of the fsync, its records are of inodes of the disk, and its fresh blocks lie in the data
--- area; it changes the parts to those that the fsync leaves, and shows the tree before and the tree after.
+-- area; it changes the parts to those that the fsync leaves, which are spelled too, and shows the tree before and the tree after.
 pub record CanCommit (volume : Volume) (one : OneFsync) (tx : Tx) (place : Place) (stamp : ℕ) : Type 0 where
   pub job : HasJob volume one (job_for place (contents_of tx) stamp)
   pub below : All (λ (entry : JournalEntry). entry.inode < place.layout.inodes) (contents_of tx).entries
   pub in_data : All (LiesInData place.layout) (contents_of tx).fresh
+  pub spelled : AreSpelled volume.layout.inodes (parts_left volume one)
   pub shows : (share : ℕ)
       → ShowsCommit share (tree_held volume) (tree_raised volume one) (job_for place (contents_of tx) stamp) volume.parts (parts_left volume one)
       (parts_brought volume one)

@@ -2,6 +2,7 @@
 ghost use Rattle.volume_laws.specs.Begun.{MountsBegin, ToldMountsBegin, ToldMountsLeave};
 ghost use Rattle.volume_laws.specs.Commits.{OkCommitsGoOn, EmptyCommitsWrite, BuiltJobsWritePlans};
 ghost use Rattle.volume_laws.specs.Laws.{LongerHistoriesStayBetween};
+ghost use Rattle.volume_laws.specs.Read.{ReadPartsStand};
 ghost use Rattle.volume_laws.specs.Stores.{StoresGoOn, CommitsStayStanding};
 
 use sfs_dev::Disk;
@@ -49,4 +50,9 @@ pub fn told_mounts_leave<D: Disk>(disk: &D, later: &D)
 /// So does one of a disk that told an image, whose records are bytes, with the image's own parts.
 pub fn told_mounts_begin()
     ensures { ToldMountsBegin }
+{}
+
+/// Parts without a fault that were read whole stand in blocks.
+pub fn read_parts_stand()
+    ensures { ReadPartsStand }
 {}
