@@ -20,7 +20,7 @@ bytes_first : (first : TreeState) (node stamp : ℕ) → bytes_at first [] node 
 bytes_first first node stamp = refl
 
 -- the tree at the cut 0 of no entries is the first one
-first_nodes : (first : TreeState) → HasMoreNodes first (tree_at_cut first [] empty)
+pub first_nodes : (first : TreeState) → HasMoreNodes first (tree_at_cut first [] empty)
 first_nodes first = record {
   rows = refl;
   nodes = λ node some.

@@ -195,7 +195,7 @@ module _ (first : TreeState) (history : List Entry) (flushes : List Flush) (cut 
   clean = clean_plan first history flushes cut inodes flush raised after num layout store parts nodes entries plan grant is
 
   -- the inode of a record is one of the disk's
-  low_record : (one : TxRecord) → Contains records one → one.inode < layout.inodes
+  pub low_record : (one : TxRecord) → Contains records one → one.inode < layout.inodes
   low_record one there = elim (Contains-append_cases (filter_map written_of_built (nodes_with_grant change grant)) (filter_map written_of_gone change.gone) one (ascending_is_in record_inode _ one there)) [
     | inl in_built ↦
         let b = given_by written_of_built (nodes_with_grant change grant) one in_built in

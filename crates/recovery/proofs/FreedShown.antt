@@ -45,7 +45,7 @@ module _ (layout : Layout) (parts : ℕ → Part) (are : AreFaultless layout par
   shown = inodes_shown layout parts
 
   -- an orphan is a file of link count 0
-  orphan_is_unlinked : (i : ℕ) → i < layout.inodes → is_orphan shown i ≡ is_unlinked (parts i).raw
+  pub orphan_is_unlinked : (i : ℕ) → i < layout.inodes → is_orphan shown i ≡ is_unlinked (parts i).raw
   orphan_is_unlinked i low = elim (cases_Bool (eqb (shown.seen i).kind (kind_byte File))) [
     | inr other ↦ ap (λ b. b && eqb (count_of (image_rows shown) i) 0) other ∙ sym (ap (λ b. b && eqb (shown.seen i).links 0) other)
     | inl file ↦

@@ -44,7 +44,7 @@ grant_at (x ∷ entering) (j ∷ grant) (suc k) node i once at gives =
     ∙ grant_at entering grant k node i (λ m l n first later. let same : suc m ≡ suc l = once (suc m) (suc l) n first later in omega (arith, same)) at gives
 
 -- what is in all that a function gives of some items is in what it gives of one
-in_some : {X Y : Type 0} (f : X → List Y) (xs : List X) (y : Y) → Contains (flat_map f xs) y → (x : X) × Contains xs x × Contains (f x) y
+pub in_some : {X Y : Type 0} (f : X → List Y) (xs : List X) (y : Y) → Contains (flat_map f xs) y → (x : X) × Contains xs x × Contains (f x) y
 in_some f [] y (k, within, is) = absurd (omega arith)
 in_some f (x ∷ xs) y there = elim (Contains-append_cases (f x) (flat_map f xs) y there) [
   | inl own ↦ (x, first_in x xs, own)

@@ -1,0 +1,13 @@
+pub mod Begun
+pub mod BegunEntries
+pub mod BlocksHeld
+pub mod Commits
+pub mod FreshBlocks
+pub mod Linked
+pub mod Longer
+pub mod MoreNodes
+pub mod Mounts
+pub mod ReadParts
+pub mod Stores
+pub mod Told
+pub mod ToldMounts

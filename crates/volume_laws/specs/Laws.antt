@@ -1,0 +1,10 @@
+-- The laws of a volume, each of which a function of the module laws proves.
+use Rattle.std.specs.Prelude.{[], ◌∷◌, ◌++◌}
+use Rattle.sfs_tree.specs.declared.history.Entry.{Entry}
+use Rattle.cut_trees.specs.Next.{IsMountedHistory}
+use Rattle.volume_laws.specs.Volume.{Volume, IsStanding}
+
+-- A volume goes on standing once a call has come.
+abbrev pub LongerHistoriesStayBetween : Type 0
+LongerHistoriesStayBetween = (volume : Volume) (entry : Entry) → IsStanding volume → IsMountedHistory volume.first (volume.history ++ entry ∷ [])
+    → IsStanding (record volume { history = volume.history ++ entry ∷ [] })

@@ -1,0 +1,6 @@
+pub mod Begun
+pub mod Commits
+pub mod Laws
+pub mod Read
+pub mod Stores
+pub mod Volume
