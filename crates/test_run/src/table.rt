@@ -1,9 +1,10 @@
-ghost use Rattle.std.specs.Prelude.{◌≡◌, ◌<◌, [], length, IfOk};
-ghost use Rattle.stamp_table.specs.Idle.{IsStillIdle};
+// Cores that count in cells of one table, in threads of their own.
+ghost use Rattle.std.specs.Prelude.{◌≡◌, ◌<◌, [], length, None, IfOk};
+ghost use Rattle.test_run.specs.Idle.{IsStillIdle};
 
-use crate::{Core, Meaning, Shared};
 use sfs_base::{NoMemory, NodeId};
-use sfs_tree::{Call, Reply, Tree};
+use sfs_tree::{Call, History, Reply, Tree};
+use stamp_table::{Core, Meaning, Shared};
 use std::alloc::Global;
 use std::sync::Wait;
 use std::test::*;
@@ -22,7 +23,7 @@ type Counters = Shared<u64, (), Anything>;
 
 type Counter = Core<u64, ()>;
 
-// Holds a cell, adds 1 to it, adds an entry, and lets go.
+// Holds a cell, adds 1 to it, adds an entry, lets go, and answers the entry by what the cell had.
 fn count_once<R: Wait>(
     rt: &R,
     shared: &Counters,
@@ -31,7 +32,7 @@ fn count_once<R: Wait>(
 ) -> Result<(), NoMemory>
     requires table { core.old.table ≡ shared.now.table }
     requires cell { place < shared.now.table.slots }
-    requires idle { (core.old.held ≡ []) × (core.old.view.held ≡ []) }
+    requires idle { (core.old.held ≡ []) × (core.old.view.held ≡ []) × (core.old.waiting ≡ None) }
     requires known { core.old.view.core < length core.old.view.first.made }
     ensures { IsStillIdle core.old core.new }
 {
@@ -39,8 +40,9 @@ fn count_once<R: Wait>(
     core.hold_one(rt, shared, place);
     let count = *core.cell(place);
     core.replace(place, count.wrapping_add(1));
-    core.stamp(shared, Call::Fsync { node: NodeId(0) }, Reply::NoMemory);
+    let stamp = core.stamp(shared, Call::Fsync { node: NodeId(0) }, Reply::NoMemory);
     core.let_go(shared, 0);
+    core.answer(stamp, Reply::Ok, Some(count));
     Ok(())
 }
 
@@ -54,7 +56,7 @@ fn count<R: Wait>(
 ) -> Result<Counter, NoMemory>
     requires table { core.table ≡ shared.now.table }
     requires cell { place < shared.now.table.slots }
-    requires idle { (core.held ≡ []) × (core.view.held ≡ []) }
+    requires idle { (core.held ≡ []) × (core.view.held ≡ []) × (core.waiting ≡ None) }
     requires known { core.view.core < length core.view.first.made }
     ensures { IfOk result (λ after. IsStillIdle core after) }
 {
@@ -64,7 +66,22 @@ fn count<R: Wait>(
     Ok(core)
 }
 
-// How many entries the history of a table of two cores has, each of which counts in a cell.
+// How many entries of a history are acknowledged.
+fn count_answered(history: &History) -> u64 {
+    let mut answered: u64 = 0;
+    let mut cursor = history.first();
+    for _ in 0..history.len() {
+        if let Some(entry) = history.next(&mut cursor)
+            && let Reply::Ok = &entry.reply
+            && entry.ack.is_some()
+        {
+            answered = answered.wrapping_add(1);
+        }
+    }
+    answered
+}
+
+// How many acknowledged entries the history of a table of two cores has, each of which counts in a cell.
 fn entries_of_two<R: Threads + Wait + Sync>(
     rt: &R,
     alloc: Global,
@@ -90,11 +107,12 @@ fn entries_of_two<R: Threads + Wait + Sync>(
     );
     cores.push(one?)?;
     cores.push(two?)?;
-    Ok(shared.close(cores).len())
+    let history = shared.close(cores);
+    Ok(count_answered(&history))
 }
 
 #[test]
-fn each_stamp_of_two_cores_is_in_the_history(rt: HostRuntime) -> Result<(), Fail> {
+fn each_answer_of_two_cores_is_in_the_history(rt: HostRuntime) -> Result<(), Fail> {
     let alloc = rt.alloc();
     let apart = entries_of_two(&rt, alloc, (0, 1), 2000)
         .ok()
