@@ -1,0 +1,11 @@
+pub mod Places
+pub mod Moves
+pub mod Pushes
+pub mod Standing
+pub mod Kept
+pub mod Keeping
+pub mod Lawful
+pub mod Stamping
+pub mod Told
+pub mod Telling
+pub mod Lasting
