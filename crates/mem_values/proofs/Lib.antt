@@ -9,3 +9,5 @@ pub mod Stamping
 pub mod Told
 pub mod Telling
 pub mod Lasting
+pub mod Committed
+pub mod Home

@@ -1,5 +1,6 @@
 pub mod Account
 pub mod Facts
+pub mod Home
 pub mod Laws
 pub mod Logs
 pub mod Places

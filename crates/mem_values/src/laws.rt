@@ -1,6 +1,7 @@
 // What is proved of the cells: each function's contract is a law.
 ghost use Rattle.mem_values.specs.Places.{PlacesApart, PlacesAscend};
 ghost use Rattle.mem_values.specs.Laws.{CallsKeepCells, ToldWaysStay, CallsMayCome};
+ghost use Rattle.mem_values.specs.Home.{MovedLocksStand, PartsTakeEntries, TrimmedPartsStand, ToldPartsStand, WrittenNodesStand};
 ghost use Rattle.mem_values.specs.Telling.{SawMayBeTold, NotedMayBeTold, CommitsMayBeTold, TrimsMayBeTold, CommitsStayLast};
 
 /// Two cells at one place are one.
@@ -51,4 +52,29 @@ pub fn trims_may_be_told()
 /// As long as a part is not trimmed for a commit, the commit is the last one that holds each of its nodes.
 pub fn commits_stay_last()
     ensures { CommitsStayLast }
+{}
+
+/// The lock goes home with the stamp of a call that moved a directory to another one.
+pub fn moved_locks_stand()
+    ensures { MovedLocksStand }
+{}
+
+/// A log goes home with what the core's entry logs behind what it had.
+pub fn parts_take_entries()
+    ensures { PartsTakeEntries }
+{}
+
+/// A log that is trimmed below a commit of a member of that stands as before.
+pub fn trimmed_parts_stand()
+    ensures { TrimmedPartsStand }
+{}
+
+/// Once it is told that a log is trimmed for a commit, it goes home where it is.
+pub fn told_parts_stand()
+    ensures { ToldPartsStand }
+{}
+
+/// What a commit wrote of a node goes home once the last part is trimmed for the commit.
+pub fn written_nodes_stand()
+    ensures { WrittenNodesStand }
 {}
