@@ -1,26 +1,21 @@
 -- The values with which cells go home.
-use Rattle.std.proofs.Common.{◌≡◌, ◌≢◌, ◌<◌, ◌≤◌, ◌+◌, ℕ, Bool, true, false, ◌==◌, List, [], ◌∷◌, ◌++◌, length, filter, filter_map, max, Option, Some, None, option_map, ◌⊎◌, inl, inr, refl, sym, ap, subst, ◌∙◌, nat_eq, eq-eqb, length-append, arith, ⊎_elim}
+use Rattle.std.proofs.Common.{◌≡◌, ◌≤◌, ◌+◌, ℕ, Bool, true, false, ◌==◌, List, [], ◌∷◌, ◌++◌, length, filter, max, Option, Some, None, option_map, ◌⊎◌, inl, inr, refl, sym, ap, subst, ◌∙◌, eq-eqb, length-append, arith, ⊎_elim}
 use mathlib.Core.Logic.{dite}
 use native.Mathlib.Decide.{ℕ_discrete}
-use Rattle.std.specs.Prelude.{Vec, All, nat_le, if◌then◌else◌}
-use Rattle.std.specs.declared.alloc.Global.{Global}
+use Rattle.std.specs.Prelude.{All, nat_le, if◌then◌else◌}
 use Rattle.std.proofs.lemmas.Bool.{cases_Bool, eqb-true, leb-true, leb-false}
 use Rattle.std.proofs.lemmas.List.Elements.{filter_map-append, All-cons, All-nil, All-append}
 use Rattle.sfs_base.specs.declared.numbers.Stamp.{Stamp}
-use Rattle.sfs_base.specs.declared.numbers.CoreId.{CoreId}
-use Rattle.sfs_base.specs.declared.numbers.NodeId.{NodeId}
 use Rattle.sfs_base.specs.declared.numbers.Kind.{Kind}
 use Rattle.sfs_tree.specs.declared.changes.Change.{Change}
-use Rattle.sfs_tree.specs.declared.history.Entry.{Entry}
 use Rattle.sfs_tree.specs.Tree.{TreeState, row_of, made_by}
 use Rattle.sfs_tree.specs.Effect.{Effect, Stays, Adds, Removes, Moves, Edits}
-use Rattle.sfs_tree.specs.Lock.{needs_lock}
 use Rattle.sfs_tree.specs.Logged.{logged_by, logged_replaced}
 use Rattle.sfs_tree.specs.History.{tree_after, IsLegal}
 use Rattle.sfs_tree.specs.Merged.{is_core}
 use Rattle.sfs_tree.specs.Verdict.{verdict}
 use Rattle.mem_cells.specs.Laws.{IsLeftOf}
-use Rattle.mem_cells.specs.Part.{IsAddedTo, IsTrimmed, mark_kept}
+use Rattle.mem_cells.specs.Part.{IsTrimmed, mark_kept}
 use Rattle.mem_cells.proofs.Left.{entries_are_kept, trims_keep}
 use Rattle.flush_core.specs.Rules.{IsOneOf}
 use Rattle.flush_core.proofs.Basics.{in_left, in_right, in_either}
@@ -29,19 +24,19 @@ use Rattle.stamp_table.specs.declared.event.Event.{Event}
 use Rattle.stamp_table.specs.declared.event.Event.TheVariants.{Called, Told}
 use Rattle.stamp_table.specs.Events.{called, calls_in}
 use Rattle.mem_values.specs.declared.fact.Fact.{Fact}
-use Rattle.mem_values.specs.declared.fact.Fact.TheVariants.{Committed, Trimmed}
+use Rattle.mem_values.specs.declared.fact.Fact.TheVariants.{Committed}
 use Rattle.mem_values.specs.declared.fact.HeldNode.{HeldNode}
 use Rattle.mem_values.specs.declared.cell.Cell.TheVariants as cell
 use Rattle.mem_values.specs.declared.cell.PartCell.{PartCell}
 use Rattle.mem_values.specs.declared.cell_id.CellId.TheVariants as id
-use Rattle.mem_values.specs.Account.{Account, Commitment, Trimming, account_of, held_by, last_writer}
+use Rattle.mem_values.specs.Account.{Commitment, Trimming, account_of, held_by}
 use Rattle.mem_values.specs.Logs.{entry_logged, own_logged, last_move}
-use Rattle.mem_values.specs.Stands.{Flushed, flushed_by, IsTrimmedFor, IsCapped, AreMarksOf, StandsPart, StandsPending, StandsFor}
+use Rattle.mem_values.specs.Stands.{flushed_by, IsTrimmedFor, IsCapped, StandsPart, StandsPending, StandsFor}
 use Rattle.mem_values.specs.Facts.{IsLawfulLog}
 use Rattle.mem_values.specs.Telling.{commit_by}
 use Rattle.mem_values.specs.Home.{MovedLocksStand, PartsTakeEntries, TrimmedPartsStand, ToldPartsStand, WrittenNodesStand}
 use Rattle.mem_values.proofs.Moves.{last_move-append, legal_behind}
-use Rattle.mem_values.proofs.Pushes.{with_call, account_called, own_logged-push, count-own}
+use Rattle.mem_values.proofs.Pushes.{account_called, own_logged-push, count-own}
 use Rattle.mem_values.proofs.Told.{with_trimming, account_trimmed}
 use Rattle.mem_values.proofs.Committed.{cuts_within, raised, one_commit}
 use Rattle.mem_values.proofs.Lasting.{commits_stay_last}

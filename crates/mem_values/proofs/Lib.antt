@@ -11,3 +11,4 @@ pub mod Telling
 pub mod Lasting
 pub mod Committed
 pub mod Home
+pub mod Worked

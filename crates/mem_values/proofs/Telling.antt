@@ -68,7 +68,7 @@ module _ (given : ℕ → Option OldKept) (view : View TreeState (Event Fact)) w
   known_stands log past which P knows = still_stands given view log past knows.known knows.knows which knows.is_cell knows.there
 
 -- a directory that stands in another has it as its holder
-stands_there : (tree : TreeState) (node holder : ℕ) → stands_of tree node ≡ Some holder → IsHolder tree node holder
+pub stands_there : (tree : TreeState) (node holder : ℕ) → stands_of tree node ≡ Some holder → IsHolder tree node holder
 stands_there tree node holder stands = ⊎_elim
     (λ kind. record { kind = kind; held = λ alive. sym (ap (λ b. if b then holder_of tree node else None) kind) ∙ stands })
     (λ file. absurd (let never : None ≡ Some holder = sym (ap (λ b. if b then holder_of tree node else None) file) ∙ stands in cc))

@@ -1,5 +1,5 @@
 -- What the values stand for with which cells go home, by what their core did; each law is proved by a function of the module laws.
-use Rattle.std.specs.Prelude.{◌≡◌, ◌≢◌, ℕ, ◌<◌, ◌≤◌, true, List, [], ◌∷◌, ◌++◌, length, Option, Some, option_map, Vec}
+use Rattle.std.specs.Prelude.{◌≡◌, ◌≢◌, ℕ, ◌<◌, ◌≤◌, true, List, [], ◌∷◌, ◌++◌, length, Option, Some, Vec}
 use Rattle.std.specs.declared.alloc.Global.{Global}
 use Rattle.sfs_base.specs.declared.numbers.NodeId.{NodeId}
 use Rattle.sfs_base.specs.declared.numbers.Stamp.{Stamp}
@@ -8,7 +8,6 @@ use Rattle.sfs_tree.specs.declared.history.Entry.{Entry}
 use Rattle.sfs_tree.specs.Tree.{TreeState, made_by}
 use Rattle.sfs_tree.specs.Lock.{needs_lock}
 use Rattle.sfs_tree.specs.History.{tree_after, IsLegal}
-use Rattle.sfs_tree.specs.Laws.{IsSoundTree}
 use Rattle.sfs_tree.specs.NameRow.{number_of}
 use Rattle.mem_cells.specs.Part.{IsAddedTo, IsTrimmed, mark_kept}
 use Rattle.flush_core.specs.Rules.{IsOneOf}
@@ -19,7 +18,6 @@ use Rattle.stamp_table.specs.Events.{calls_in}
 use Rattle.mem_values.specs.declared.fact.Fact.{Fact}
 use Rattle.mem_values.specs.declared.fact.Fact.TheVariants.{Committed, Trimmed}
 use Rattle.mem_values.specs.declared.fact.HeldNode.{HeldNode}
-use Rattle.mem_values.specs.declared.cell.Cell.{Cell}
 use Rattle.mem_values.specs.declared.cell.Cell.TheVariants as cell
 use Rattle.mem_values.specs.declared.cell.TreeLock.{TreeLock}
 use Rattle.mem_values.specs.declared.cell.Pending.{Pending}

@@ -7,3 +7,4 @@ pub mod Places
 pub mod Stands
 pub mod Telling
 pub mod Touches
+pub mod Worked

@@ -3,6 +3,7 @@ ghost use Rattle.mem_values.specs.Places.{PlacesApart, PlacesAscend};
 ghost use Rattle.mem_values.specs.Laws.{CallsKeepCells, ToldWaysStay, CallsMayCome};
 ghost use Rattle.mem_values.specs.Home.{MovedLocksStand, PartsTakeEntries, TrimmedPartsStand, ToldPartsStand, WrittenNodesStand};
 ghost use Rattle.mem_values.specs.Telling.{SawMayBeTold, NotedMayBeTold, CommitsMayBeTold, TrimsMayBeTold, CommitsStayLast};
+ghost use Rattle.mem_values.specs.Worked.{TablesCanBeMet};
 
 /// Two cells at one place are one.
 pub fn places_apart()
@@ -77,4 +78,9 @@ pub fn told_parts_stand()
 /// What a commit wrote of a node goes home once the last part is trimmed for the commit.
 pub fn written_nodes_stand()
     ensures { WrittenNodesStand }
+{}
+
+/// In each tree with two cores and a directory that stands in another one the worked table can be met.
+pub fn tables_can_be_met()
+    ensures { TablesCanBeMet }
 {}

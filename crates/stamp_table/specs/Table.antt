@@ -203,6 +203,22 @@ module _ {C X : Type 0} where
     pub leads : first_leads hands ≡ true
     pub ready : AreIdleFrom t.table t.cores 0 hands
 
+  -- A core of a table between two calls: it holds no cell, and no fsync of it waits for its answer.
+  pub record IsBetweenCalls (t : TableState) (hand : Hand C X) : Type 0 where
+    pub table_is : hand.table ≡ t.table
+    pub first_is : hand.view.first ≡ t.first
+    pub core_is : hand.view.core < length t.first.made
+    pub holds_none : hand.held ≡ []
+    pub none_held : hand.view.held ≡ []
+    pub none_waits : hand.waiting ≡ None
+
+  -- What stays of a core from one pause to another: its number, its table, and whether it leads.
+  pub record IsSameCore (before after : Hand C X) : Type 0 where
+    pub table : after.table ≡ before.table
+    pub cores : after.cores ≡ before.cores
+    pub leads : after.leads ≡ before.leads
+    pub number : after.view.core ≡ before.view.core
+
   -- what a core knows as its own
   abbrev pub mine_of : Hand C X → List (Event X)
   mine_of hand = hand.view.mine
