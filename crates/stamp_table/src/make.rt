@@ -101,6 +101,7 @@ impl<C: Drop, X, M: Meaning<C, X>> Shared<C, X, M> {
         requires lawful { M.lawful first.now [] }
         ensures first { IfOk result (λ made. made.0.first ≡ first.now) }
         ensures slots { IfOk result (λ made. made.0.table.slots ≡ length cells.items) }
+        ensures count { IfOk result (λ made. length made.1.items ≡ cores) }
         ensures cores { IfOk result (λ made. AreAllCores made.0 made.1.items) }
         ensures new { IfOk result (λ made. AreNew first.now made.1.items) }
     {
