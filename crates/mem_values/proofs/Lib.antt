@@ -12,3 +12,4 @@ pub mod Lasting
 pub mod Committed
 pub mod Home
 pub mod Worked
+pub mod Begun

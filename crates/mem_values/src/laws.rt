@@ -1,7 +1,7 @@
 // What is proved of the cells: each function's contract is a law.
 ghost use Rattle.mem_values.specs.Places.{PlacesApart, PlacesAscend};
 ghost use Rattle.mem_values.specs.Laws.{CallsKeepCells, ToldWaysStay, CallsMayCome};
-ghost use Rattle.mem_values.specs.Home.{MovedLocksStand, PartsTakeEntries, TrimmedPartsStand, ToldPartsStand, WrittenNodesStand};
+ghost use Rattle.mem_values.specs.Home.{CellsBegin, MovedLocksStand, PartsTakeEntries, TrimmedPartsStand, ToldPartsStand, WrittenNodesStand};
 ghost use Rattle.mem_values.specs.Telling.{SawMayBeTold, NotedMayBeTold, CommitsMayBeTold, TrimsMayBeTold, CommitsStayLast};
 ghost use Rattle.mem_values.specs.Worked.{TablesCanBeMet};
 
@@ -53,6 +53,11 @@ pub fn trims_may_be_told()
 /// As long as a part is not trimmed for a commit, the commit is the last one that holds each of its nodes.
 pub fn commits_stay_last()
     ensures { CommitsStayLast }
+{}
+
+/// A cell begins with a value that stands for it.
+pub fn cells_begin()
+    ensures { CellsBegin }
 {}
 
 /// The lock goes home with the stamp of a call that moved a directory to another one.
