@@ -1,6 +1,8 @@
 -- The cores of a table that begins.
-use Rattle.std.proofs.Common.{◌≡◌, ℕ, zero, suc, ◌+◌, ◌<◌, List, [], ◌∷◌, ◌++◌, map, length, Option, Some, slice_get, sym, refl, ap, ◌∙◌, subst, arith, get_or, replicate}
+use Rattle.std.proofs.Common.{◌≡◌, ℕ, zero, suc, ◌+◌, ◌<◌, ◌≤◌, true, List, [], ◌∷◌, ◌++◌, map, length, Option, Some, slice_get, sym, refl, ap, ◌∙◌, subst, arith, get_or, replicate}
+use Rattle.std.specs.Prelude.{All}
 use Rattle.std.proofs.lemmas.List.{length-map}
+use Rattle.std.proofs.lemmas.List.Elements.{All-cons, All-nil}
 use lib.ListN.{get_elem?}
 use mathlib.Core.Option.{some, some-injective, some-ne-none}
 use Rattle.atomic_table.specs.Table.{Splits, opening}
@@ -12,7 +14,7 @@ use Rattle.stamp_table.specs.Rule.{Kept}
 use Rattle.stamp_table.specs.Steps.{gatherer, one_more, newcomer}
 use Rattle.stamp_table.specs.Events.{event_core, is_call, IsLawful, stands_for}
 use Rattle.stamp_table.specs.Hand.{Hand}
-use Rattle.stamp_table.specs.Table.{IsIdleCore, AreIdleFrom, IsNew, AreNew}
+use Rattle.stamp_table.specs.Table.{TableState, IsIdleCore, AreIdleFrom, IsNew, AreNew, IsBetweenCalls, IsSameCore, AreAllCores, first_leads}
 use Rattle.stamp_table.proofs.Gathering.{may_split, begins}
 
 -- the seat that gathers, once so many cores are made
@@ -56,3 +58,46 @@ module _ {C X : Type 0} where
   asks_new lawful stands first words values zero_stamp long told stood = begins event_core is_call (IsLawful lawful) (stands_for stands) first words (map Some values) zero_stamp
       (long ∙ ap (λ k. 16 + k) (sym (length-map values Some))) (record { legal_calls = tt; told = told })
       (λ p x at. subst (λ q. stands_for stands first [] q x) (omega arith) (stood_at stands first 0 values p x at (λ q y is. subst (λ r. stands first [] r y) (omega arith) (stood q y is))))
+
+  -- new cores are between two calls
+  pub new_between : (t : TableState) (number : ℕ) (hands : List (Hand C X)) → AreIdleFrom t.table t.cores number hands → AreNew t.first hands → number + length hands ≤ length t.first.made → All (IsBetweenCalls t) hands
+  new_between t number [] idle new within = All-nil (IsBetweenCalls t)
+  new_between t number (h ∷ hands) idle new within = All-cons (IsBetweenCalls t) h hands
+      (record {
+        table_is = idle.0.table_is;
+        first_is = new.0.first_is;
+        core_is = let n = idle.0.number_is in omega (arith, n, within);
+        holds_none = idle.0.holds_none;
+        none_held = new.0.none_held;
+        none_waits = new.0.none_waits;
+      })
+      (new_between t (number + 1) hands idle.1 new.1 (omega (arith, within)))
+
+  -- cores that stay what they are and are between two calls again are still all cores of the table
+  pub idle_again : (t : TableState) (number : ℕ) (before after : List (Hand C X)) → length after ≡ length before → AreIdleFrom t.table t.cores number before
+      → ((place : ℕ) (d : Hand C X) → place < length before → IsSameCore (get_or before place d) (get_or after place d) × ((get_or after place d).held ≡ [])) → AreIdleFrom t.table t.cores number after
+  idle_again t number [] [] long idle same = tt
+  idle_again t number [] (a ∷ after) long idle same = absurd (omega (arith, long))
+  idle_again t number (b ∷ before) [] long idle same = absurd (omega (arith, long))
+  idle_again t number (b ∷ before) (a ∷ after) long idle same = let here = same 0 b (omega arith) in (
+    record {
+      table_is = here.0.table ∙ idle.0.table_is;
+      cores_are = here.0.cores ∙ idle.0.cores_are;
+      number_is = here.0.number ∙ idle.0.number_is;
+      holds_none = here.1;
+    },
+    idle_again t (number + 1) before after (omega (arith, long)) idle.1 (λ place d lt. same (suc place) d (omega (arith, lt))),
+  )
+
+  leads_again : (before after : List (Hand C X)) → length after ≡ length before → ((place : ℕ) (d : Hand C X) → place < length before → IsSameCore (get_or before place d) (get_or after place d) × ((get_or after place d).held ≡ [])) → first_leads before ≡ true → first_leads after ≡ true
+  leads_again [] [] long same leads = leads
+  leads_again [] (a ∷ after) long same leads = absurd (omega (arith, long))
+  leads_again (b ∷ before) [] long same leads = absurd (omega (arith, long))
+  leads_again (b ∷ before) (a ∷ after) long same leads = (same 0 b (omega arith)).0.leads ∙ leads
+
+  pub all_again : (t : TableState) (before after : List (Hand C X)) → length after ≡ length before → ((place : ℕ) (d : Hand C X) → place < length before → IsSameCore (get_or before place d) (get_or after place d) × ((get_or after place d).held ≡ [])) → AreAllCores t before → AreAllCores t after
+  all_again t before after long same all = record {
+    count = long ∙ all.count;
+    leads = leads_again before after long same all.leads;
+    ready = idle_again t 0 before after long all.ready same;
+  }

@@ -1,12 +1,17 @@
 -- A core's list gets an entry more.
-use Rattle.std.proofs.Common.{◌≡◌, ℕ, ◌+◌, ◌^◌, ◌<◌, List, [], ◌∷◌, ◌++◌, length, Option, sym, ap, ◌∙◌, subst, arith, length-append, append-nil}
+use Rattle.std.proofs.Common.{◌≡◌, ℕ, ◌+◌, ◌^◌, ◌<◌, true, List, [], ◌∷◌, ◌++◌, map, length, Option, IsSome, sym, ap, ◌∙◌, subst, refl, arith, length-append, append-nil, Some, None, option_map, ⊎_elim}
+use Rattle.std.specs.Prelude.{◌↔◌, IsTrue, if◌then◌else◌}
+use Rattle.std.proofs.lemmas.Bool.{cases_Bool}
+use Rattle.std.proofs.lemmas.List.{map-append}
 use Rattle.std.proofs.lemmas.List.Elements.{filter_map-append}
 use Rattle.atomic_table.specs.Seated.{TableId}
 use Rattle.atomic_table.specs.declared.shared.Seat.{Seat}
+use Rattle.sfs_base.specs.declared.numbers.Stamp.{Stamp}
 use Rattle.sfs_tree.specs.Tree.{TreeState}
 use Rattle.sfs_tree.specs.declared.call.Call.{Call}
 use Rattle.sfs_tree.specs.declared.reply.Reply.{Reply}
 use Rattle.sfs_tree.specs.declared.history.Entry.{Entry}
+use Rattle.sfs_tree.specs.History.{IsLegal, IsFsyncReply, is_ok_reply}
 use Rattle.stamp_table.specs.declared.event.Event.{Event}
 use Rattle.stamp_table.specs.declared.event.Event.TheVariants.{Called}
 use Rattle.stamp_table.specs.declared.view.View.{View}
@@ -14,12 +19,49 @@ use Rattle.stamp_table.specs.declared.held.HeldCell.{HeldCell}
 use Rattle.stamp_table.specs.Ascending.{Falls, AreBelow}
 use Rattle.stamp_table.specs.Steps.{MayDraw, IsPast}
 use Rattle.stamp_table.specs.Events.{event_core, is_call, called, told_by, calls_in, IsLawful, stands_for}
-use Rattle.stamp_table.specs.Hand.{IsCore, spare_of, empty_slots}
-use Rattle.stamp_table.specs.Table.{IsSameSeat, MayCall, MayDrawEntry, AddsEntry, MayTell, MayTellNow, TellsNow, entry_numbered}
+use Rattle.stamp_table.specs.Hand.{IsCore, WaitsWell, spare_of, empty_slots}
+use Rattle.stamp_table.specs.Table.{IsSameSeat, MayCall, MayDrawEntry, AddsEntry, MayTell, MayTellNow, TellsNow, entry_numbered, with_answer}
+use Rattle.stamp_table.specs.Answered.{unanswered, IsWellAnswered, AreWellAnswered, AreCallsOf, waits_for_answer}
+use Rattle.stamp_table.proofs.Answered.{last_comes_well, answered_well}
 
 -- where there is room for an entry more, the most that a core may have was not reached
 pub below_most : (capacity entries events : ℕ) → 0 < spare_of capacity entries events → events < 2 ^ 50
 below_most capacity entries events some = grind (arith, some)
+
+well_snoc : (entries : List Entry) (entry : Entry) → AreWellAnswered entries → IsWellAnswered entry → AreWellAnswered (entries ++ entry ∷ [])
+well_snoc [] entry well last = (last, tt)
+well_snoc (e ∷ entries) entry well last = (well.0, well_snoc entries entry well.1 last)
+
+well_last : (entries : List Entry) (last entry : Entry) → AreWellAnswered (entries ++ last ∷ []) → IsWellAnswered entry → AreWellAnswered (entries ++ entry ∷ [])
+well_last [] last entry well new = (new, tt)
+well_last (e ∷ entries) last entry well new = (well.0, well_last entries last entry well.1 new)
+
+module _ {X : Type 0} where
+  -- a core's entries with one more are the calls of its events with one more
+  calls_more : (mine : List (Event X)) (entries : List Entry) (entry : Entry) → AreCallsOf mine entries → IsWellAnswered entry → AreCallsOf (mine ++ Called entry ∷ []) (entries ++ entry ∷ [])
+  calls_more mine entries entry are well = record {
+    same = map-append unanswered entries (entry ∷ []) ∙ (ap (λ l. l ++ unanswered entry ∷ []) are.same ∙ (sym (map-append unanswered (calls_in mine) (entry ∷ [])) ∙ ap (map unanswered) (sym (filter_map-append called mine (Called entry ∷ [])))));
+    answered = well_snoc entries entry are.answered well;
+  }
+
+  -- a core's entries are the calls of its events with a fact more
+  calls_told : (mine : List (Event X)) (entries : List Entry) (core : ℕ) (fact : X) (number : ℕ) → AreCallsOf mine entries → AreCallsOf (mine ++ told_by core fact number ∷ []) entries
+  calls_told mine entries core fact number are = record {
+    same = are.same ∙ ap (map unanswered) (sym (append-nil (calls_in mine)) ∙ sym (filter_map-append called mine (told_by core fact number ∷ [])));
+    answered = are.answered;
+  }
+
+  -- so are they once the last one that waits has its answer
+  pub calls_answered : (mine : List (Event X)) (front : List Entry) (last : Entry) (reply : Reply) (ack : Option ℕ) → AreCallsOf mine (front ++ last ∷ []) → waits_for_answer last.call last.reply ≡ true → IsFsyncReply reply → (IsSome ack ↔ IsTrue (is_ok_reply reply))
+      → AreCallsOf mine (front ++ with_answer last reply ack ∷ [])
+  calls_answered mine front last reply ack are waits may acknowledged = let a = answered_well last reply ack waits may acknowledged in record {
+    same = map-append unanswered front (with_answer last reply ack ∷ []) ∙ (ap (λ e. map unanswered front ++ e ∷ []) a.same ∙ (sym (map-append unanswered front (last ∷ [])) ∙ are.same));
+    answered = well_last front last (with_answer last reply ack) are.answered a.well;
+  }
+
+  -- the call that was seen last has an answer that it may have
+  seen_well : (first : TreeState) (log : List (Event X)) (entry : Entry) (seen : List (Event X)) → seen ≡ log ++ Called entry ∷ [] → IsLegal first (calls_in seen) → IsWellAnswered entry
+  seen_well first log entry seen is legal = last_comes_well first 0 (calls_in log) entry (subst (λ l. IsLegal first l) (ap calls_in is ∙ filter_map-append called log (Called entry ∷ [])) legal)
 
 module _ {C X : Type 0} (lawful : TreeState → List (Event X) → Type 0) (stands : TreeState → List (Event X) → ℕ → C → Type 0) (seat : Seat (Option C) (View TreeState (Event X))) (number events : ℕ) (entries : List Entry) (cells : List (HeldCell C)) (core : IsCore seat number entries events cells) (call : Call) (reply : Reply) where
   -- a call that may come may be entered
@@ -37,7 +79,8 @@ module _ {C X : Type 0} (lawful : TreeState → List (Event X) → Type 0) (stan
     lives = ap (λ v. v.gone) drew.frame ∙ core.lives;
     calls = ap (λ v. v.gathers) drew.frame ∙ core.calls;
     number_known = ap (λ v. v.core) drew.frame ∙ core.number_known;
-    entries_are = ap (λ l. l ++ entry_numbered number call reply stamp ∷ []) core.entries_are ∙ (sym (filter_map-append called seat.me.0.mine (Called (entry_numbered number call reply stamp) ∷ [])) ∙ ap calls_in (sym drew.mine));
+    entries_are = subst (λ m. AreCallsOf m (entries ++ entry_numbered number call reply stamp ∷ [])) (sym drew.mine)
+        (calls_more seat.me.0.mine entries (entry_numbered number call reply stamp) core.entries_are (seen_well seat.me.0.first adds.1.0 (entry_numbered number call reply stamp) after.me.0.seen drew.entry_last drew.legal_seen.legal_calls));
     counted = let c = core.counted in let l = ap length drew.mine in let m = length-append seat.me.0.mine (Called (entry_numbered number call reply stamp) ∷ []) in omega (arith, c, l, m);
     few = omega (arith, few);
     places = held ∙ core.places;
@@ -60,7 +103,7 @@ module _ {C X : Type 0} (lawful : TreeState → List (Event X) → Type 0) (stan
     lives = ap (λ v. v.gone) drew.frame ∙ core.lives;
     calls = ap (λ v. v.gathers) drew.frame ∙ core.calls;
     number_known = ap (λ v. v.core) drew.frame ∙ core.number_known;
-    entries_are = core.entries_are ∙ (sym (append-nil (calls_in seat.me.0.mine)) ∙ (sym (filter_map-append called seat.me.0.mine (told_by seat.me.0.core fact tells.0 ∷ [])) ∙ ap calls_in (sym drew.mine)));
+    entries_are = subst (λ m. AreCallsOf m entries) (sym drew.mine) (calls_told seat.me.0.mine entries seat.me.0.core fact tells.0 core.entries_are);
     counted = let c = core.counted in let l = ap length drew.mine in let m = length-append seat.me.0.mine (told_by seat.me.0.core fact tells.0 ∷ []) in omega (arith, c, l, m);
     few = omega (arith, few);
     places = held ∙ core.places;
@@ -68,3 +111,44 @@ module _ {C X : Type 0} (lawful : TreeState → List (Event X) → Type 0) (stan
     slots = tells.1.0 ∙ (core.slots ∙ ap empty_slots (sym held));
     within = subst (λ (z : TableId × List ℕ). AreBelow z.0.slots z.1) (λ i. (sym same.table i, sym held i)) core.within;
   }
+
+module _ {C X : Type 0} (seat : Seat (Option C) (View TreeState (Event X))) (number events : ℕ) (entries : List Entry) (cells : List (HeldCell C)) (core : IsCore seat number entries events cells) where
+  -- once its last entry has an answer its parts fit again
+  pub has_answered : (front : List Entry) (last : Entry) (answer : Reply) (ack : Option ℕ) → entries ≡ front ++ last ∷ [] → waits_for_answer last.call last.reply ≡ true → IsFsyncReply answer → (IsSome ack ↔ IsTrue (is_ok_reply answer))
+      → IsCore seat number (front ++ with_answer last answer ack ∷ []) events cells
+  has_answered front last answer ack is waits may acknowledged = record {
+    lives = core.lives;
+    calls = core.calls;
+    number_known = core.number_known;
+    entries_are = calls_answered seat.me.0.mine front last answer ack (subst (λ l. AreCallsOf seat.me.0.mine l) is core.entries_are) waits may acknowledged;
+    counted = core.counted;
+    few = core.few;
+    places = core.places;
+    falls = core.falls;
+    slots = core.slots;
+    within = core.within;
+  }
+
+-- the entry that was added waits where it was noted
+pub waits_now : (entries : List Entry) (call : Call) (reply : Reply) (number stamp : ℕ) → WaitsWell (entries ++ entry_numbered number call reply stamp ∷ []) (if waits_for_answer call reply then Some (record { 0 = stamp }) else None)
+waits_now entries call reply number stamp = ⊎_elim
+    (λ is. rw is (record { front = entries; last = entry_numbered number call reply stamp; entries_are = refl; stamped = refl; waits = is }))
+    (λ not. rw not tt) (cases_Bool (waits_for_answer call reply))
+
+last_same : {X : Type 0} (xs ys : List X) (x y : X) → xs ++ x ∷ [] ≡ ys ++ y ∷ [] → x ≡ y
+last_same [] [] x y same = cc (same)
+last_same [] (b ∷ ys) x y same = let l = ap length same in let m = length-append ys (y ∷ []) in absurd (omega (arith, l, m))
+last_same (a ∷ xs) [] x y same = let l = ap length same in let m = length-append xs (x ∷ []) in absurd (omega (arith, l, m))
+last_same (a ∷ xs) (b ∷ ys) x y same = last_same xs ys x y (cc (same))
+
+-- the last entry waits, where the stamp of one is noted
+pub record IsWaitingEntry (entry : Entry) (stamp : ℕ) : Type 0 where
+  pub stamped : entry.stamp.0 ≡ stamp
+  pub waits : waits_for_answer entry.call entry.reply ≡ true
+
+pub last_waits : (entries front : List Entry) (last : Entry) (waiting : Option Stamp) (stamp : ℕ) → option_map (λ (s : Stamp). s.0) waiting ≡ Some stamp → WaitsWell entries waiting → entries ≡ front ++ last ∷ [] → IsWaitingEntry last stamp
+last_waits entries front last None stamp is well ends = absurd (cc (is))
+last_waits entries front last (Some noted) stamp is well ends =
+    let same : well.last ≡ last = last_same well.front front well.last last (sym well.entries_are ∙ ends) in
+    let here : noted.0 ≡ stamp = cc (is) in
+    subst (λ e. IsWaitingEntry e stamp) same (record { stamped = well.stamped ∙ here; waits = well.waits })

@@ -5,8 +5,10 @@ pub mod Drawing
 pub mod Gathering
 pub mod Asking
 pub mod Hands
+pub mod Answered
 pub mod Entering
 pub mod Leaving
+pub mod Refilling
 pub mod Closing
 pub mod Beginning
 pub mod Replacing

@@ -1,7 +1,7 @@
 -- How what a core knows is stored, so that contracts may see it.
-use Rattle.std.specs.Prelude.{◌≡◌, ◌⊎◌, ℕ, Bool, List, refl}
+use Rattle.std.specs.Prelude.{◌≡◌, ◌⊎◌, ℕ, Bool, List, Option, refl}
 use Rattle.std.proofs.Common.{inl, inr}
-use Rattle.std.specs.Coded.{Coded, code_by, coded×, coded⊎, coded_ℕ, coded_bool, coded_list}
+use Rattle.std.specs.Coded.{Coded, code_by, coded×, coded⊎, coded_ℕ, coded_bool, coded_list, coded_option}
 use Rattle.atomic_table.specs.Seated.{TableId, table_id_coded}
 use Rattle.sfs_tree.specs.Tree.{TreeState, tree_code}
 use Rattle.sfs_tree.specs.declared.history.Entry.{Entry}
@@ -49,12 +49,14 @@ cell_code {C} value = code_by (ℕ × C) (coded× coded_ℕ value) (λ c. (c.pla
 -- a core as its fields
 abbrev pub hand_code : {C X : Type 0} → Coded Entry → Coded C → Coded X → Coded (Hand C X)
 hand_code {C} {X} entry value fact =
-    code_by (TableId × (View TreeState (Event X) × (List (HeldCell C) × (ℕ × (ℕ × (Bool × ℕ)))))) (coded× table_id_coded (coded× (view_code tree_code (event_code entry fact)) (coded× (coded_list (cell_code value)) (coded× coded_ℕ (coded× coded_ℕ (coded× coded_bool coded_ℕ)))))) (λ h. (h.table, (h.view, (h.held, (h.spare, (h.room, (h.leads, h.cores))))))) (λ p. record {
+    code_by (TableId × (View TreeState (Event X) × (List Entry × (Option ℕ × (List (HeldCell C) × (ℕ × (ℕ × (Bool × ℕ)))))))) (coded× table_id_coded (coded× (view_code tree_code (event_code entry fact)) (coded× (coded_list entry) (coded× (coded_option coded_ℕ) (coded× (coded_list (cell_code value)) (coded× coded_ℕ (coded× coded_ℕ (coded× coded_bool coded_ℕ)))))))) (λ h. (h.table, (h.view, (h.entries, (h.waiting, (h.held, (h.spare, (h.room, (h.leads, h.cores))))))))) (λ p. record {
       table = p.0;
       view = p.1.0;
-      held = p.1.1.0;
-      spare = p.1.1.1.0;
-      room = p.1.1.1.1.0;
-      leads = p.1.1.1.1.1.0;
-      cores = p.1.1.1.1.1.1;
+      entries = p.1.1.0;
+      waiting = p.1.1.1.0;
+      held = p.1.1.1.1.0;
+      spare = p.1.1.1.1.1.0;
+      room = p.1.1.1.1.1.1.0;
+      leads = p.1.1.1.1.1.1.1.0;
+      cores = p.1.1.1.1.1.1.1.1;
     }) (λ _. refl)

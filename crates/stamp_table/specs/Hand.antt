@@ -1,7 +1,8 @@
 -- A core: what contracts see of it, and what holds of its parts.
-use Rattle.std.specs.Prelude.{◌≡◌, ℕ, ◌-◌, ◌≤◌, true, false, Bool, List, [], Option, Some, None, map, length, min, reverse}
+use Rattle.std.specs.Prelude.{◌≡◌, ℕ, ◌-◌, ◌≤◌, ◌++◌, ◌∷◌, true, false, Bool, List, [], Option, Some, None, map, length, min, reverse}
 use Rattle.atomic_table.specs.Seated.{TableId}
 use Rattle.atomic_table.specs.declared.shared.Seat.{Seat}
+use Rattle.sfs_base.specs.declared.numbers.Stamp.{Stamp}
 use Rattle.sfs_tree.specs.Tree.{TreeState}
 use Rattle.sfs_tree.specs.declared.history.Entry.{Entry}
 use Rattle.stamp_table.specs.declared.event.Event.{Event}
@@ -9,13 +10,16 @@ use Rattle.stamp_table.specs.declared.view.View.{View}
 use Rattle.stamp_table.specs.declared.held.HeldCell.{HeldCell}
 use Rattle.stamp_table.specs.Rule.{MOST_ENTRIES}
 use Rattle.stamp_table.specs.Ascending.{Falls, AreBelow}
-use Rattle.stamp_table.specs.Events.{calls_in}
+use Rattle.stamp_table.specs.Answered.{AreCallsOf, waits_for_answer}
 
--- A core: its table, what it knows, the cells that it holds with their values, places ascending, for how many further entries and
--- cells it has room, whether it leads the others to the end, and how many cores there are.
+-- A core: its table, what it knows, its entries with their answers, the stamp of its fsync that waits for its answer where one does,
+-- the cells that it holds with their values, places ascending, for how many further entries and cells it has room, whether it leads
+-- the others to the end, and how many cores there are.
 pub record Hand (C X : Type 0) : Type 0 where
   pub table : TableId
   pub view : View TreeState (Event X)
+  pub entries : List Entry
+  pub waiting : Option ℕ
   pub held : List (HeldCell C)
   pub spare : ℕ
   pub room : ℕ
@@ -34,6 +38,19 @@ empty_slots places = map (λ place. (place, None)) places
 abbrev pub spare_of : ℕ → ℕ → ℕ → ℕ
 spare_of capacity entries events = min (capacity - entries) (MOST_ENTRIES - events)
 
+-- The last of a core's entries has this stamp, and waits for its answer.
+pub record EndsWaiting (entries : List Entry) (stamp : ℕ) : Type 0 where
+  pub front : List Entry
+  pub last : Entry
+  pub entries_are : entries ≡ front ++ last ∷ []
+  pub stamped : last.stamp.0 ≡ stamp
+  pub waits : waits_for_answer last.call last.reply ≡ true
+
+-- where a stamp is noted, the entry with it waits
+abbrev pub WaitsWell : List Entry → Option Stamp → Type 0
+WaitsWell entries None = Unit {0}
+WaitsWell entries (Some stamp) = EndsWaiting entries stamp.0
+
 module _ {C X : Type 0} where
   -- the seat that gathers, before any list was gathered
   pub record IsLead (table : TableId) (cores : ℕ) (seat : Seat (Option C) (View TreeState (Event X))) : Type 0 where
@@ -48,12 +65,13 @@ module _ {C X : Type 0} where
   LeadsWell table cores None = Unit {0}
   LeadsWell table cores (Some seat) = IsLead table cores seat
 
-  -- The parts of a core fit: its entries are the calls that it knows as its own, its places fall, and its slots are empty.
+  -- The parts of a core fit: its entries are the calls that it knows as its own, but for their answers, its places fall, and its slots
+  -- are empty.
   pub record IsCore (seat : Seat (Option C) (View TreeState (Event X))) (number : ℕ) (entries : List Entry) (events : ℕ) (cells : List (HeldCell C)) : Type 0 where
     pub lives : seat.me.0.gone ≡ false
     pub calls : seat.me.0.gathers ≡ false
     pub number_known : seat.me.0.core ≡ number
-    pub entries_are : entries ≡ calls_in seat.me.0.mine
+    pub entries_are : AreCallsOf seat.me.0.mine entries
     pub counted : events ≡ length seat.me.0.mine
     pub few : events ≤ MOST_ENTRIES
     pub places : seat.me.0.held ≡ reverse (places_of cells)

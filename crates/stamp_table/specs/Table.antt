@@ -16,6 +16,7 @@ use Rattle.stamp_table.specs.declared.held.HeldCell.{HeldCell}
 use Rattle.stamp_table.specs.Rule.{Has, MOST_ENTRIES}
 use Rattle.stamp_table.specs.Steps.{tail, SawMore, Took, Drew, Adds, MayDraw, IsPast}
 use Rattle.stamp_table.specs.Events.{event_core, is_call, told_by, IsLawful, stands_for}
+use Rattle.stamp_table.specs.Answered.{waits_for_answer}
 use Rattle.stamp_table.specs.Hand.{Hand}
 
 -- A table: which one, the tree before the first call, and how many cores it has.
@@ -159,13 +160,26 @@ module _ {C X : Type 0} (lawful : TreeState → List (Event X) → Type 0) (stan
   MayCall view call reply = (log : List (Event X)) → IsPast event_core is_call (IsLawful lawful) (stands_for stands) view log
       → MayDraw event_core is_call (IsLawful lawful) (stands_for stands) view (λ number. Called (entry_numbered view.core call reply number)) log
 
-  -- A core has one entry more, which stands at the end of the history that it has seen.
+  -- A core has one entry more, which stands at the end of the history that it has seen. It waits for its answer where it is an fsync
+  -- with want of memory.
   pub record Stamps (call : Call) (reply : Reply) (before : Hand C X) (number : ℕ) (after : Hand C X) : Type 0 where
-    pub frame : record after { view = before.view; spare = before.spare } ≡ before
+    pub frame : record after { view = before.view; entries = before.entries; waiting = before.waiting; spare = before.spare } ≡ before
     pub spare : after.spare + 1 ≡ before.spare
+    pub entries : after.entries ≡ before.entries ++ entry_numbered before.view.core call reply number ∷ []
+    pub waiting : after.waiting ≡ (if waits_for_answer call reply then Some number else None)
     pub drew : (log : List (Event X)) × Drew event_core is_call (IsLawful lawful) (stands_for stands) (λ number. Called (entry_numbered before.view.core call reply number)) before.view number after.view log
 
+-- an entry with an answer
+abbrev pub with_answer : Entry → Reply → Option ℕ → Entry
+with_answer entry reply ack = record entry { reply = reply; ack = ack }
+
 module _ {C X : Type 0} where
+  -- The core's last entry, which waited, has an answer. It is a fact of this core alone: the history that it has seen is as before.
+  pub record Answers (stamp : ℕ) (reply : Reply) (ack : Option ℕ) (before after : Hand C X) : Type 0 where
+    pub frame : record after { entries = before.entries; waiting = before.waiting } ≡ before
+    pub waiting : after.waiting ≡ None
+    pub answered : (front : List Entry) × (last : Entry) × (last.stamp.0 ≡ stamp) × (before.entries ≡ front ++ last ∷ []) × (after.entries ≡ front ++ with_answer last reply ack ∷ [])
+
   -- a core of a table, by its number, which holds nothing
   pub record IsIdleCore (table : TableId) (cores number : ℕ) (hand : Hand C X) : Type 0 where
     pub table_is : hand.table ≡ table
@@ -189,9 +203,29 @@ module _ {C X : Type 0} where
     pub leads : first_leads hands ≡ true
     pub ready : AreIdleFrom t.table t.cores 0 hands
 
+  -- A core of a table between two calls: it holds no cell, and no fsync of it waits for its answer.
+  pub record IsBetweenCalls (t : TableState) (hand : Hand C X) : Type 0 where
+    pub table_is : hand.table ≡ t.table
+    pub first_is : hand.view.first ≡ t.first
+    pub core_is : hand.view.core < length t.first.made
+    pub holds_none : hand.held ≡ []
+    pub none_held : hand.view.held ≡ []
+    pub none_waits : hand.waiting ≡ None
+
+  -- What stays of a core from one pause to another: its number, its table, and whether it leads.
+  pub record IsSameCore (before after : Hand C X) : Type 0 where
+    pub table : after.table ≡ before.table
+    pub cores : after.cores ≡ before.cores
+    pub leads : after.leads ≡ before.leads
+    pub number : after.view.core ≡ before.view.core
+
   -- what a core knows as its own
   abbrev pub mine_of : Hand C X → List (Event X)
   mine_of hand = hand.view.mine
+
+  -- a core's entries, with their answers
+  abbrev pub entries_of : Hand C X → List Entry
+  entries_of hand = hand.entries
 
   -- a core that has seen nothing yet and has no entries
   pub record IsNew (first : TreeState) (hand : Hand C X) : Type 0 where
@@ -199,6 +233,8 @@ module _ {C X : Type 0} where
     pub none_seen : hand.view.seen ≡ []
     pub none_mine : hand.view.mine ≡ []
     pub none_held : hand.view.held ≡ []
+    pub none_entered : hand.entries ≡ []
+    pub none_waits : hand.waiting ≡ None
 
   -- so are all of them
   abbrev pub AreNew : TreeState → List (Hand C X) → Type 0

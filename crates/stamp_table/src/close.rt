@@ -5,10 +5,11 @@ ghost use Rattle.atomic_table.specs.Seated.{TableId};
 ghost use Rattle.sfs_tree.specs.History.{IsLegal};
 ghost use Rattle.sfs_tree.specs.Merged.{is_core};
 ghost use Rattle.std.specs.Mem.Slots.{IsFull};
-ghost use Rattle.stamp_table.specs.Events.{calls_in};
+ghost use Rattle.std.specs.List.{AllZip};
+ghost use Rattle.stamp_table.specs.Answered.{AreCallsOf};
 ghost use Rattle.stamp_table.specs.Steps.{gathered};
 ghost use Rattle.stamp_table.specs.Hand.{Hand, IsLead};
-ghost use Rattle.stamp_table.specs.Table.{AreAllCores, AreIdleFrom, first_leads, mine_of, IsSameSeat};
+ghost use Rattle.stamp_table.specs.Table.{AreAllCores, AreIdleFrom, first_leads, mine_of, entries_of, IsSameSeat};
 
 use crate::meaning::Gather;
 use crate::shared::CoreSeat;
@@ -42,7 +43,8 @@ fn gather<C: Drop, X, M: Meaning<C, X>>(
     requires core { (core.table ≡ table.now.shared.table_id) × (core.view.core ≡ length lead.old.me.0.lists) × (core.held ≡ []) }
     ensures same { IsSameSeat lead.old lead.new }
     ensures gathered { lead.new.me.0 ≡ gathered lead.old.me.0 core.view }
-    ensures entries { result.items ≡ calls_in core.view.mine }
+    ensures entries { result.items ≡ core.entries }
+    ensures calls { AreCallsOf core.view.mine core.entries }
 {
     let Core {
         seat,
@@ -50,6 +52,7 @@ fn gather<C: Drop, X, M: Meaning<C, X>>(
         number: _,
         cores: _,
         entries,
+        waiting: _,
         events: _,
         held: _,
     } = core;
@@ -62,6 +65,7 @@ fn first_lead<C: Drop, X>(cores: &mut Vec<Core<C, X>>) -> CoreSeat<C, X>
     requires { first_leads cores.old.items ≡ true }
     ensures ready { (table : TableId) (count : ℕ) → AreIdleFrom table count 0 cores.old.items → AreIdleFrom table count 0 cores.new.items × IsLead table count result }
     ensures mine { map mine_of cores.new.items ≡ map mine_of cores.old.items }
+    ensures entries { map entries_of cores.new.items ≡ map entries_of cores.old.items }
 {
     cores[0].take_lead()
 }
@@ -78,7 +82,8 @@ fn gather_all<C: Drop, X, M: Meaning<C, X>>(
     requires room { (parts.items ≡ []) × (length cores.items ≤ vec_capacity parts) }
     ensures lead { (result.0.table_id ≡ table.now.shared.table_id) × (result.0.me.0.gathers ≡ true) }
     ensures lists { result.0.me.0.lists ≡ map mine_of cores.items }
-    ensures parts { map (λ part. part.items) result.1.items ≡ map calls_in (map mine_of cores.items) }
+    ensures parts { map (λ part. part.items) result.1.items ≡ map entries_of cores.items }
+    ensures calls { AllZip AreCallsOf (map mine_of cores.items) (map entries_of cores.items) }
 {
     let mut lead = first_lead(&mut cores);
     for core in cores {
@@ -89,12 +94,12 @@ fn gather_all<C: Drop, X, M: Meaning<C, X>>(
 }
 
 impl<C: Drop, X, M: Meaning<C, X>> Shared<C, X, M> {
-    /// Ends the table, and answers the history: it is legal from the first tree on, and each core's entries stand in it, once
-    /// and in their order. It takes all cores of the table, ascending by number, none of which holds a cell. It takes no memory.
+    /// Ends the table, and answers the history: it is legal from the first tree on, and each core's entries stand in it, with their
+    /// answers, once and in their order. It takes all cores of the table, ascending by number, none of which holds a cell. It takes no memory.
     pub fn close(self, cores: Vec<Core<C, X>>) -> History
         requires { AreAllCores self cores.items }
         ensures legal { IsLegal self.first result }
-        ensures own { (core : ℕ) (hand : Hand C X) → slice_get cores.items core ≡ Some hand → filter (is_core core) result ≡ calls_in hand.view.mine }
+        ensures own { (core : ℕ) (hand : Hand C X) → slice_get cores.items core ≡ Some hand → filter (is_core core) result ≡ hand.entries }
     {
         let Shared {
             table,

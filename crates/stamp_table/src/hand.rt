@@ -1,9 +1,11 @@
 // A core, and the cells that it holds.
-ghost use Rattle.std.specs.Prelude.{◌≡◌, ◌<◌, ◌≤◌, ◌++◌, ◌∷◌, [], length, reverse, OnOk};
+ghost use Rattle.std.specs.Prelude.{◌≡◌, ◌<◌, ◌≤◌, ◌++◌, ◌∷◌, ◌↔◌, [], length, reverse, OnOk, Some, None, IsSome, IsTrue, if◌then◌else◌};
+ghost use Rattle.sfs_tree.specs.History.{IsFsyncReply, is_ok_reply};
+ghost use Rattle.stamp_table.specs.Answered.{waits_for_answer};
 ghost use Rattle.stamp_table.specs.declared.held.HeldCell.{HeldCell};
 ghost use Rattle.stamp_table.specs.Hand.{places_of};
 ghost use Rattle.stamp_table.specs.Ascending.{LiesAbove, AreBelow, RiseAbove};
-ghost use Rattle.stamp_table.specs.Table.{HoldsMore, HoldsAll, MayCall, MayTell, Stamps, TellsFact, LetsGo, Stands, OfLast, EachFrom, begins_from, left_below};
+ghost use Rattle.stamp_table.specs.Table.{HoldsMore, HoldsAll, MayCall, MayTell, Stamps, TellsFact, Answers, LetsGo, Stands, OfLast, EachFrom, begins_from, left_below};
 
 use crate::shared::CoreSeat;
 use crate::{HeldCell, Meaning, Shared};
@@ -23,15 +25,27 @@ pub struct Core<C, X> {
     pub(crate) number: CoreId,
     pub(crate) cores: u8,
     pub(crate) entries: Vec<Entry>,
+    // The stamp of its last entry, where that is an fsync that waits for its answer.
+    pub(crate) waiting: Option<Stamp>,
     // How many events the core has: its entries, and what it told.
     pub(crate) events: u64,
     pub(crate) held: Vec<HeldCell<C>>,
 }
 
+// The stamp, where the entry with it waits for its answer: it is an fsync with want of memory.
+fn waiting_with(call: &Call, reply: &Reply, stamp: Stamp) -> Option<Stamp>
+    ensures { result ≡ (if waits_for_answer call.now reply.now then Some stamp else None) }
+{
+    match (call, reply) {
+        (Call::Fsync { .. }, Reply::NoMemory) => Some(stamp),
+        _ => None,
+    }
+}
+
 impl<C, X> Model for Core<C, X> {
-    ghost use Rattle.std.specs.Prelude.{◌-◌, is_some};
+    ghost use Rattle.std.specs.Prelude.{◌-◌, is_some, option_map};
     ghost use Rattle.std.specs.Vec.{vec_capacity, vec_len};
-    ghost use Rattle.stamp_table.specs.Hand.{Hand, spare_of, IsCore, LeadsWell};
+    ghost use Rattle.stamp_table.specs.Hand.{Hand, spare_of, IsCore, LeadsWell, WaitsWell};
     ghost use Rattle.stamp_table.specs.Codes.{hand_code};
     ghost use Rattle.sfs_tree.specs.contracts.history.Entry as entry;
 
@@ -42,6 +56,8 @@ impl<C, X> Model for Core<C, X> {
     ghost view = { λ c. record {
       table = c.seat.table_id;
       view = c.seat.me.0;
+      entries = c.entries.items;
+      waiting = option_map (λ stamp. stamp.0) c.waiting;
       held = c.held.items;
       spare = spare_of (vec_capacity c.entries) (vec_len c.entries) c.events;
       room = vec_capacity c.held - vec_len c.held;
@@ -49,7 +65,7 @@ impl<C, X> Model for Core<C, X> {
       cores = c.cores;
     } };
 
-    ghost invariant = { λ c. IsCore c.seat c.number.0 c.entries.items c.events c.held.items × LeadsWell c.seat.table_id c.cores c.lead };
+    ghost invariant = { λ c. IsCore c.seat c.number.0 c.entries.items c.events c.held.items × LeadsWell c.seat.table_id c.cores c.lead × WaitsWell c.entries.items c.waiting };
 }
 
 impl<C: Drop, X> Core<C, X> {
@@ -110,7 +126,8 @@ impl<C: Drop, X> Core<C, X> {
         }
     }
 
-    /// Adds the entry of a call with this reply, and answers its stamp.
+    /// Adds the entry of a call with this reply, and answers its stamp. An fsync of a live node has want of memory as its reply, and
+    /// waits for its answer; no further call is stamped before it.
     pub fn stamp<M: Meaning<C, X>>(
         &mut self,
         shared: &Shared<C, X, M>,
@@ -119,11 +136,13 @@ impl<C: Drop, X> Core<C, X> {
     ) -> Stamp
         requires table { self.old.table ≡ shared.now.table }
         requires spare { 0 < self.old.spare }
+        requires answered { self.old.waiting ≡ None }
         requires may { MayCall M.lawful M.stands self.old.view call reply }
         ensures { Stamps M.lawful M.stands call reply self.old result.0 self.new }
     {
         let core = self.number;
         let number = shared.draw::<Brand>(&mut self.seat, core, &call, &reply);
+        self.waiting = waiting_with(&call, &reply, Stamp(number));
         self.entries.push_reserved(Entry {
             stamp: Stamp(number),
             core,
@@ -133,6 +152,37 @@ impl<C: Drop, X> Core<C, X> {
         });
         self.events += 1;
         Stamp(number)
+    }
+
+    /// Gives the core's fsync that waits for its answer this reply, and where that is Ok the moment at which it was acknowledged. It
+    /// takes no memory.
+    pub fn answer(&mut self, stamp: Stamp, reply: Reply, ack: Option<u64>)
+        requires waits { self.old.waiting ≡ Some stamp.0 }
+        requires reply { IsFsyncReply reply }
+        requires acknowledged { IsSome ack ↔ IsTrue (is_ok_reply reply) }
+        ensures { Answers stamp.0 reply ack self.old self.new }
+    {
+        let Some(
+            Entry {
+                stamp: last,
+                core,
+                call,
+                reply: _,
+                ack: _,
+            },
+        ) = self.entries.pop()
+        else {
+            unreachable!()
+        };
+        self.waiting = None;
+        let _stamp = stamp;
+        self.entries.push_reserved(Entry {
+            stamp: last,
+            core,
+            call,
+            reply,
+            ack,
+        });
     }
 
     /// Tells a fact: it stands in the history behind all that came before it. It takes no memory.

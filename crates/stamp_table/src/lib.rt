@@ -8,8 +8,6 @@ mod held;
 mod make;
 mod meaning;
 mod shared;
-#[cfg(test)]
-mod tests;
 mod values;
 mod view;
 

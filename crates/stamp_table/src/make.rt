@@ -1,5 +1,5 @@
 // The beginning of a table and of its cores.
-ghost use Rattle.std.specs.Prelude.{◌≡◌, ◌<◌, ◌≤◌, ◌^◌, ℕ, [], ◌∷◌, true, false, length, map, replicate, slice_get, Some, IfOk, OnOk};
+ghost use Rattle.std.specs.Prelude.{◌≡◌, ◌<◌, ◌≤◌, ◌^◌, ℕ, [], ◌∷◌, true, false, length, map, replicate, slice_get, Some, None, IfOk, OnOk};
 ghost use Rattle.stamp_table.specs.Steps.{gatherer, newcomer};
 ghost use Rattle.stamp_table.specs.Hand.{IsLead};
 ghost use Rattle.stamp_table.specs.Table.{AreAllCores, AreIdleFrom, AreNew, IsIdleCore, IsNew, IsBegun};
@@ -23,6 +23,8 @@ impl<C: Drop, X> Core<C, X> {
         ensures ready { IsIdleCore seat.table_id cores seat.me.0.core result }
         ensures view { result.view ≡ seat.me.0 }
         ensures leads { result.leads ≡ false }
+        ensures entries { result.entries ≡ [] }
+        ensures waiting { result.waiting ≡ None }
     {
         Core {
             seat,
@@ -30,6 +32,7 @@ impl<C: Drop, X> Core<C, X> {
             number,
             cores,
             entries: Vec::new(alloc),
+            waiting: None,
             events: 0,
             held: Vec::new(alloc),
         }
@@ -98,6 +101,7 @@ impl<C: Drop, X, M: Meaning<C, X>> Shared<C, X, M> {
         requires lawful { M.lawful first.now [] }
         ensures first { IfOk result (λ made. made.0.first ≡ first.now) }
         ensures slots { IfOk result (λ made. made.0.table.slots ≡ length cells.items) }
+        ensures count { IfOk result (λ made. length made.1.items ≡ cores) }
         ensures cores { IfOk result (λ made. AreAllCores made.0 made.1.items) }
         ensures new { IfOk result (λ made. AreNew first.now made.1.items) }
     {

@@ -16,4 +16,6 @@ mod rows;
 #[cfg(test)]
 mod statuses;
 #[cfg(test)]
+mod table;
+#[cfg(test)]
 mod words;

@@ -1,7 +1,8 @@
 use Rattle.std.proofs.Common.{◌≡◌, ◌+◌, ◌≤◌, ◌++◌, length, map, true}
 use Rattle.std.specs.Vec.{vec_capacity}
-use Rattle.stamp_table.specs.Events.{calls_in}
-use Rattle.stamp_table.specs.Table.{AreIdleFrom, mine_of}
+use Rattle.std.specs.List.{AllZip}
+use Rattle.stamp_table.specs.Answered.{AreCallsOf}
+use Rattle.stamp_table.specs.Table.{AreIdleFrom, mine_of, entries_of}
 use Rattle.stamp_table.proofs.close.gather_all.Given as goal
 
 abbrev pub invariant-loop-core : goal.invariant-loop-core
@@ -10,6 +11,7 @@ invariant-loop-core g l = record {
   gathers : l.lead.me.0.gathers ≡ true;
   ready : AreIdleFrom l.table.shared.table_id (length l.fn.cores.items) (length l.lead.me.0.lists) l.core-iterator.rest.items;
   lists : l.lead.me.0.lists ++ map mine_of l.core-iterator.rest.items ≡ map mine_of l.fn.cores.items;
-  parts : map (λ part. part.items) l.parts.items ≡ map calls_in l.lead.me.0.lists;
+  parts : map (λ part. part.items) l.parts.items ++ map entries_of l.core-iterator.rest.items ≡ map entries_of l.fn.cores.items;
+  calls : AllZip AreCallsOf l.lead.me.0.lists (map (λ part. part.items) l.parts.items);
   room : length l.parts.items + length l.core-iterator.rest.items ≤ vec_capacity l.parts;
 }

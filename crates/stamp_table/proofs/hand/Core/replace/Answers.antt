@@ -30,6 +30,7 @@ invariant_of-self g c =
         within = core.within;
       },
       c.self.invariant.1,
+      c.self.invariant.2,
     )
 
 pub returns-clause-old : goal.returns-clause-old
@@ -47,6 +48,8 @@ returns-clause-new g c =
     (λ i. record {
       table = (c.self.view_is i).table;
       view = (c.self.view_is i).view;
+      entries = (c.self.view_is i).entries;
+      waiting = (c.self.view_is i).waiting;
       held = done.1 i;
       spare = (c.self.view_is i).spare;
       room = (c.self.view_is i).room;

@@ -1,8 +1,9 @@
-use Rattle.std.proofs.Common.{subst, ap, sym, ◌<◌, ℕ, ◌+◌, List}
+use Rattle.std.proofs.Common.{subst, ap, sym, ◌<◌, ℕ, ◌+◌, List, Option}
+use Rattle.sfs_base.specs.declared.numbers.Stamp.{Stamp}
 use Rattle.sfs_tree.specs.declared.history.Entry.{Entry}
 use Rattle.stamp_table.specs.Table.{MayCall}
-use Rattle.stamp_table.specs.Hand.{IsCore, LeadsWell}
-use Rattle.stamp_table.proofs.Entering.{may_enter, entered, below_most}
+use Rattle.stamp_table.specs.Hand.{IsCore, LeadsWell, WaitsWell}
+use Rattle.stamp_table.proofs.Entering.{may_enter, entered, waits_now, below_most}
 use Rattle.stamp_table.proofs.hand.Core.stamp.Goals as goal
 
 pub draw-number-requires-clause-entry : goal.draw-number-requires-clause-entry
@@ -16,4 +17,6 @@ invariant_of-self g c = (
       (entered g.M.Meaning.lawful g.M.Meaning.stands c.self.inside.seat _ _ _ _ c.self.invariant.0 c.args.call c.args.reply c.draw-number.new.seat c.draw-number.result
       (below_most _ _ _ (subst (λ (n : ℕ). 0 < n) (ap (λ h. h.spare) (sym c.self.view_is)) c.requires.spare)) c.draw-number.ensures.same c.draw-number.ensures.adds),
   subst (λ t. LeadsWell t c.self.inside.cores c.self.inside.lead) (sym c.draw-number.ensures.same.table) c.self.invariant.1,
+  subst (λ (z : List Entry × Option Stamp). WaitsWell z.0 z.1) (λ i. (sym c.push_reserved.ensures.items i, sym c.waiting_with-self-inside.ensures i))
+      (waits_now c.self.inside.entries.items c.args.call c.args.reply c.self.inside.number.0 c.draw-number.result),
 )

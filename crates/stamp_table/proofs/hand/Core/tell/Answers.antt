@@ -14,4 +14,5 @@ invariant_of-self g c = (
   has_told g.M.Meaning.lawful g.M.Meaning.stands c.self.inside.seat _ _ _ _ c.self.invariant.0 c.tell.new.seat c.args.fact.now
       (below_most _ _ _ (subst (λ (n : ℕ). 0 < n) (ap (λ h. h.spare) (sym c.self.view_is)) c.requires.spare)) c.tell.ensures.same c.tell.ensures.adds,
   subst (λ t. LeadsWell t c.self.inside.cores c.self.inside.lead) (sym c.tell.ensures.same.table) c.self.invariant.1,
+  c.self.invariant.2,
 )

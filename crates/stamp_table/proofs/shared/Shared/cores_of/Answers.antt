@@ -33,6 +33,8 @@ loop-number-preserved g c =
       none_seen = ap (λ v. v.seen) c.begin.ensures.view ∙ ap (λ v. v.seen) knows;
       none_mine = ap (λ v. v.mine) c.begin.ensures.view ∙ ap (λ v. v.mine) knows;
       none_held = ap (λ v. v.held) c.begin.ensures.view ∙ ap (λ v. v.held) knows;
+      none_entered = c.begin.ensures.entries;
+      none_waits = c.begin.ensures.waiting;
     } in
     record {
       table = split.0 ∙ inv.table;

@@ -1,0 +1,15 @@
+pub mod Places
+pub mod Moves
+pub mod Pushes
+pub mod Standing
+pub mod Kept
+pub mod Keeping
+pub mod Lawful
+pub mod Stamping
+pub mod Told
+pub mod Telling
+pub mod Lasting
+pub mod Committed
+pub mod Home
+pub mod Worked
+pub mod Begun

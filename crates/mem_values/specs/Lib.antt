@@ -1,0 +1,10 @@
+pub mod Account
+pub mod Facts
+pub mod Home
+pub mod Laws
+pub mod Logs
+pub mod Places
+pub mod Stands
+pub mod Telling
+pub mod Touches
+pub mod Worked

@@ -1,0 +1,46 @@
+-- Where cells lie: the lock of the tree first, then by nodes their buckets and files, then what was flushed of each node, then the logs.
+-- The lock and each log have a line of memory to themselves.
+use Rattle.std.specs.Prelude.{◌≡◌, ◌⊎◌, ℕ, ◌+◌, ◌*◌, ◌<◌, length}
+use Rattle.sfs_tree.specs.Tree.{TreeState}
+use Rattle.mem_values.specs.declared.cell_id.CellId.{CellId}
+use Rattle.mem_values.specs.declared.cell_id.CellId.TheVariants.{Lock, Bucket, File, Pending, Part}
+
+-- how many nodes there may be
+abbrev pub node_count : TreeState → ℕ
+node_count first = first.first + first.share * length first.made
+
+-- the place of a cell, where there may be so many nodes
+abbrev pub place_of : ℕ → CellId → ℕ
+place_of nodes Lock = 0
+place_of nodes (Bucket node bucket) = 16 + 9 * node.0 + bucket
+place_of nodes (File node) = 24 + 9 * node.0
+place_of nodes (Pending node) = 16 + 9 * nodes + node.0
+place_of nodes (Part core) = 32 + 10 * nodes + 16 * core.0
+
+-- a cell of a table of so many nodes and cores
+abbrev pub IsCell : ℕ → ℕ → CellId → Type 0
+IsCell nodes cores Lock = Unit {0}
+IsCell nodes cores (Bucket node bucket) = (node.0 < nodes) × (bucket < 8)
+IsCell nodes cores (File node) = node.0 < nodes
+IsCell nodes cores (Pending node) = node.0 < nodes
+IsCell nodes cores (Part core) = core.0 < cores
+
+-- The order of the cells: the lock; buckets and files by their nodes, a node's buckets before its file; what was flushed by nodes; logs by cores.
+abbrev pub cell_order : CellId → ℕ × (ℕ × ℕ)
+cell_order Lock = (0, (0, 0))
+cell_order (Bucket node bucket) = (1, (node.0, bucket))
+cell_order (File node) = (1, (node.0, 8))
+cell_order (Pending node) = (2, (node.0, 0))
+cell_order (Part core) = (3, (core.0, 0))
+
+-- one of these comes before the other: by the first number in which they differ
+abbrev pub ComesBefore : ℕ × (ℕ × ℕ) → ℕ × (ℕ × ℕ) → Type 0
+ComesBefore a b = (a.0 < b.0) ⊎ ((a.0 ≡ b.0) × ((a.1.0 < b.1.0) ⊎ ((a.1.0 ≡ b.1.0) × (a.1.1 < b.1.1))))
+
+-- two cells at one place are one
+abbrev pub PlacesApart : Type 0
+PlacesApart = (nodes cores : ℕ) (cell other : CellId) → IsCell nodes cores cell → IsCell nodes cores other → place_of nodes cell ≡ place_of nodes other → cell ≡ other
+
+-- Places ascend in the order of the cells.
+abbrev pub PlacesAscend : Type 0
+PlacesAscend = (nodes cores : ℕ) (cell other : CellId) → IsCell nodes cores cell → IsCell nodes cores other → ComesBefore (cell_order cell) (cell_order other) → place_of nodes cell < place_of nodes other

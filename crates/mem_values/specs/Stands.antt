@@ -1,0 +1,103 @@
+-- What the value of each cell stands for.
+use Rattle.std.specs.Prelude.{◌≡◌, ◌⊎◌, ℕ, ◌<◌, ◌≤◌, List, length, filter, Option, Some, None, option_map, if◌then◌else◌}
+use Rattle.std.specs.FinMap.{get}
+use Rattle.sfs_tree.specs.declared.history.Entry.{Entry}
+use Rattle.sfs_tree.specs.Tree.{TreeState, is_directory, count_of, bytes_of, made_by, bucket_rows}
+use Rattle.sfs_tree.specs.Lock.{stands_of}
+use Rattle.sfs_tree.specs.History.{tree_after}
+use Rattle.sfs_tree.specs.Merged.{is_core}
+use Rattle.sfs_tree.specs.NameRow.{number_of}
+use Rattle.mem_cells.specs.Laws.{IsLeftOf}
+use Rattle.mem_cells.specs.Part.{mark_kept}
+use Rattle.flush_core.specs.Rules.{IsOneOf}
+use Rattle.disk_change.specs.OldKept.{OldKept}
+use Rattle.mem_files.specs.File.{mark_of}
+use Rattle.stamp_table.specs.declared.event.Event.{Event}
+use Rattle.mem_values.specs.declared.fact.Fact.{Fact}
+use Rattle.mem_values.specs.declared.fact.HeldNode.{HeldNode}
+use Rattle.mem_values.specs.declared.cell.Cell.{Cell}
+use Rattle.mem_values.specs.declared.cell.Cell.TheVariants as cell
+use Rattle.mem_values.specs.declared.cell.FileCell.{FileCell}
+use Rattle.mem_values.specs.declared.cell.Pending.{Pending}
+use Rattle.mem_values.specs.declared.cell.PartCell.{PartCell}
+use Rattle.mem_values.specs.declared.cell_id.CellId.{CellId}
+use Rattle.mem_values.specs.declared.cell_id.CellId.TheVariants as id
+use Rattle.mem_values.specs.declared.bucket.Bucket.{Bucket}
+use Rattle.mem_values.specs.Places.{node_count, place_of, IsCell}
+use Rattle.mem_values.specs.Account.{Account, Commitment, account_of, held_by, last_writer}
+use Rattle.mem_values.specs.Logs.{own_logged, last_move, last_touch, birthplace}
+
+-- the child of a row, where it is a directory
+abbrev pub if_directory : TreeState → Option ℕ → Option ℕ
+if_directory tree None = None
+if_directory tree (Some child) = if is_directory tree child then Some child else None
+
+-- A bucket shows its rows of a directory of the tree, which of them name directories, and where the directory stands.
+pub record ShowsBucket (tree : TreeState) (directory number : ℕ) (bucket : Bucket) : Type 0 where
+  pub rows : bucket.rows ≡ bucket_rows directory number tree.rows
+  pub directories : (name : List ℕ) → get bucket.directories name ≡ if_directory tree (get (bucket_rows directory number tree.rows) name)
+  pub stands : number_of bucket.stands ≡ stands_of tree directory
+
+-- how many rows name a file, and 0 for a directory
+abbrev pub file_links : TreeState → ℕ → ℕ
+file_links tree node = if is_directory tree node then 0 else count_of tree.rows node
+
+-- A file's value has its links and its bytes, and of each block the stamp of the last call that touched it as its mark.
+pub record StandsFile (first : TreeState) (calls : List Entry) (node : ℕ) (file : FileCell) : Type 0 where
+  pub links : file.links ≡ file_links (tree_after first calls) node
+  pub bytes : file.file.bytes ≡ bytes_of (tree_after first calls) node
+  pub marks : (block : ℕ) → mark_of file.file block ≡ last_touch first None calls node block
+
+-- what was flushed of a node: its cut, the number of its last commit, and what the disk has of it
+pub record Flushed : Type 0 where
+  pub cut : ℕ
+  pub last : ℕ
+  pub old : Option OldKept
+
+-- what the last writer left; where there is none, the disk has what was given at the table's begin
+abbrev pub flushed_by : (ℕ → Option OldKept) → ℕ → Option (Commitment × HeldNode) → Flushed
+flushed_by given node None = record { cut = 0; last = 0; old = given node }
+flushed_by given node (Some writer) = record { cut = writer.1.new_cut.0; last = writer.0.number; old = writer.1.new }
+
+-- the core of a commit has trimmed a part for it
+abbrev pub IsTrimmedFor : Account → Commitment → ℕ → Type 0
+IsTrimmedFor account commit part = IsOneOf account.trimmings (record { core = commit.core; number = commit.number; part = part })
+
+-- every part is trimmed for the last commit that holds a node
+abbrev pub AreTrimmedFor : TreeState → Account → ℕ → Type 0
+AreTrimmedFor first account node = (writer : Commitment × HeldNode) → last_writer node account.commits ≡ Some writer → (part : ℕ) → part < length first.made → IsTrimmedFor account writer.0 part
+
+-- What was flushed of a node stands for what its last commit wrote once every part is trimmed for that commit.
+pub record StandsPending (given : ℕ → Option OldKept) (first : TreeState) (account : Account) (node : ℕ) (pending : Pending) : Type 0 where
+  pub flushed : ◌≡◌ {A = Flushed} (record { cut = pending.cut.0; last = pending.last; old = pending.old }) (flushed_by given node (last_writer node account.commits))
+  pub made_in : number_of pending.made_in ≡ birthplace first account.calls node
+  pub trimmed : AreTrimmedFor first account node
+
+-- A mark of a directory is 0, or at most a cut that a commit wrote for it.
+abbrev pub IsCapped : Account → ℕ → ℕ → Type 0
+IsCapped account directory mark =
+    (mark ≡ 0) ⊎ ((commit : Commitment) × (held : HeldNode) × IsOneOf account.commits commit × (held_by commit directory ≡ Some held) × (mark ≤ held.new_cut.0))
+
+-- Marks of a part, by directory: none is above a cut that was written for it, and none is below a commit for which the part is trimmed.
+pub record AreMarksOf (account : Account) (part : ℕ) (mark : ℕ → ℕ) : Type 0 where
+  pub capped : (directory : ℕ) → IsCapped account directory (mark directory)
+  pub trimmed : (commit : Commitment) (directory : ℕ) → IsOneOf account.commits commit → IsTrimmedFor account commit part → IsOneOf commit.members directory → commit.stamp ≤ mark directory
+
+-- A part has what is left of its core's changes, their count, and how many nodes the core has made.
+pub record StandsPart (first : TreeState) (account : Account) (core : ℕ) (part : PartCell) : Type 0 where
+  pub left : IsLeftOf (own_logged first core account.calls) (length (filter (is_core core) account.calls)) part.log
+  pub made : part.made ≡ made_by (tree_after first account.calls) core
+  pub marks : AreMarksOf account core (mark_kept part.log)
+
+-- A value stands for what a log leaves of a cell.
+abbrev pub StandsFor : (ℕ → Option OldKept) → TreeState → Account → CellId → Cell → Type 0
+StandsFor given first account id.Lock (cell.Lock lock) = option_map (λ stamp. stamp.0) lock.moved ≡ last_move first None account.calls
+StandsFor given first account (id.Bucket node number) (cell.Bucket bucket) = ShowsBucket (tree_after first account.calls) node.0 number bucket.value
+StandsFor given first account (id.File node) (cell.File file) = StandsFile first account.calls node.0 file.value
+StandsFor given first account (id.Pending node) (cell.Pending pending) = StandsPending given first account node.0 pending.value
+StandsFor given first account (id.Part core) (cell.Part part) = StandsPart first account core.0 part.value
+StandsFor given first account _ _ = ⊥
+
+-- a value stands for what a log leaves of the cell that lies at a place; where none does it is any value
+abbrev pub StandsAt : (ℕ → Option OldKept) → TreeState → List (Event Fact) → ℕ → Cell → Type 0
+StandsAt given first log place value = (id : CellId) → IsCell (node_count first) (length first.made) id → place_of (node_count first) id ≡ place → StandsFor given first (account_of log) id value
