@@ -21,9 +21,9 @@ use Rattle.flush_core.proofs.WholeHistory.{none_above, flushes_grow, cut_trees_g
 use Rattle.cut_trees.specs.Next.{IsMountedHistory}
 use Rattle.volume_laws.proofs.MoreNodes.{stands_more}
 use Rattle.volume_laws.specs.Laws.{LongerHistoriesStayBetween}
-use Rattle.volume_laws.specs.Volume.{Volume, tree_held, IsStanding}
+use Rattle.volume_laws.specs.Volume.{Volume, tree_held, IsVolumeStanding}
 
-module _ (volume : Volume) (entry : Entry) (is : IsStanding volume) (mounted : IsMountedHistory volume.first (volume.history ++ entry ∷ [])) where
+module _ (volume : Volume) (entry : Entry) (is : IsVolumeStanding volume) (mounted : IsMountedHistory volume.first (volume.history ++ entry ∷ [])) where
   abbrev longer : List Entry
   longer = volume.history ++ entry ∷ []
 
@@ -73,7 +73,7 @@ module _ (volume : Volume) (entry : Entry) (is : IsStanding volume) (mounted : I
       (record { low = is.among.low; live = live })
       (subst (λ (h : List Entry). AreFlushed volume.first h every_entry volume.flushes volume.cut volume.inodes) (sym before_is) is.between.flushed)
 
-  pub stays_between : IsStanding (record volume { history = longer })
+  pub stays_between : IsVolumeStanding (record volume { history = longer })
   stays_between = record {
     between = record {
       history_is = mounted;

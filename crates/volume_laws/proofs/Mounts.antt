@@ -24,7 +24,7 @@ use Rattle.mount.specs.Mounted.{making_with, IsSoundMount}
 use Rattle.mount.specs.declared.begin.Mounted.{Mounted}
 use Rattle.space_laws.proofs.Mapped.{first_maps_are_right}
 use Rattle.volume_laws.specs.Begun.{volume_begun, StandInBlocks, BeginsVolume, MountsBegin}
-use Rattle.volume_laws.specs.Volume.{IsStanding}
+use Rattle.volume_laws.specs.Volume.{IsVolumeStanding}
 use Rattle.volume_laws.proofs.Begun.{node_there, numbers_inodes, all_alive, short_files}
 use Rattle.volume_laws.proofs.BegunEntries.{keeps_entries}
 use Rattle.volume_laws.proofs.Linked.{freed, itself, tree_is, good, stand_linked}
@@ -62,7 +62,7 @@ module _ (nodes size : ℕ) (mounted : Mounted) (store : ℕ → List ℕ) (soun
   good_after : Rattle.image_tree.specs.Image.HaveGoodBytes layout linked
   good_after = good layout parts store some sound.faultless stand
 
-  standing : IsStanding (volume_begun tree layout store linked)
+  standing : IsVolumeStanding (volume_begun tree layout store linked)
   standing =
       let own = itself layout parts store some sound.faultless stand making in
       let ruled = freed layout parts store some sound.faultless stand making in
@@ -99,7 +99,7 @@ module _ (nodes size : ℕ) (mounted : Mounted) (store : ℕ → List ℕ) (soun
 
   pub begins_volume : BeginsVolume mounted store linked
   begins_volume = record {
-    stands = subst (λ (t : TreeState). IsStanding (volume_begun t layout store linked)) (sym mounted_is) standing;
+    stands = subst (λ (t : TreeState). IsVolumeStanding (volume_begun t layout store linked)) (sym mounted_is) standing;
     keeps = subst (KeepsEntries (own_numbers image) linked) (sym sound.entries) (keeps_entries layout linked);
     spelled = stand_after.spelled;
     map = first_maps_are_right layout mounted.old.items sound.space.held mounted.space sound.space.held_is sound.space.blocks sound.space.inodes;

@@ -34,10 +34,10 @@ use Rattle.flush_commits.proofs.Clean.{over_parts}
 use Rattle.flush_commits.proofs.Later.{fsyncs_leave_ready}
 use Rattle.space_laws.proofs.Used.{in_some}
 use Rattle.volume_laws.specs.Stores.{IsStoreLeft, StoresGoOn, CommitsStayStanding}
-use Rattle.volume_laws.specs.Volume.{Volume, OneFsync, IsPlanned, tree_held, tree_raised}
+use Rattle.volume_laws.specs.Volume.{Volume, OneFsync, IsPlannedFor, tree_held, tree_raised}
 use Rattle.volume_laws.proofs.FreshBlocks.{table_long, data_long}
 
-module _ (volume : Volume) (one : OneFsync) (is : IsPlanned volume one) where
+module _ (volume : Volume) (one : OneFsync) (is : IsPlannedFor volume one) where
   abbrev old : TreeState
   old = tree_held volume
 

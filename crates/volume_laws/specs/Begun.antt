@@ -23,7 +23,7 @@ use Rattle.recovery.specs.Recovered.{ShowsTheSame, IsRecoveredFrom}
 use Rattle.mount.specs.Mounted.{share_of_nodes, IsMountOf, IsSoundMount}
 use Rattle.mount.specs.declared.begin.Mounted.{Mounted}
 use Rattle.space_laws.specs.Map.{IsMapOf}
-use Rattle.volume_laws.specs.Volume.{Volume, IsStanding}
+use Rattle.volume_laws.specs.Volume.{Volume, IsVolumeStanding}
 
 -- a volume with nothing behind its mount: each node has its own number
 abbrev pub volume_begun : TreeState → Layout → (ℕ → List ℕ) → (ℕ → Part) → Volume
@@ -50,7 +50,7 @@ pub record StandInBlocks (store : ℕ → List ℕ) (layout : Layout) (parts : �
 -- What was mounted begins a volume with these parts in this store: it stands, memory keeps what its disk has of each node, its records are
 -- spelled, its map of free space is right, and no file is longer than one may be.
 pub record BeginsVolume (mounted : Mounted) (store : ℕ → List ℕ) (parts : ℕ → Part) : Type 0 where
-  pub stands : IsStanding (volume_begun mounted.tree mounted.layout store parts)
+  pub stands : IsVolumeStanding (volume_begun mounted.tree mounted.layout store parts)
   pub keeps : KeepsEntries (own_numbers (inodes_shown mounted.layout parts)) parts mounted.old.items
   pub spelled : AreSpelled mounted.layout.inodes parts
   pub map : IsMapOf mounted.layout mounted.old.items mounted.space

@@ -17,7 +17,7 @@ use Rattle.commit_laws.specs.CommitOfPlan.{change_planned}
 use Rattle.commit_laws.specs.PartsStand.{part_next}
 use Rattle.crash_laws.specs.Wrote.{Wrote}
 use Rattle.flush_commits.specs.Journal.{WritesPlan, AreSpelled, parts_given, ShowsCommit}
-use Rattle.volume_laws.specs.Volume.{Volume, OneFsync, IsPlanned, tree_held, tree_raised}
+use Rattle.volume_laws.specs.Volume.{Volume, OneFsync, IsPlannedFor, tree_held, tree_raised}
 
 -- the parts of a volume once an fsync is on its disk
 abbrev pub parts_left : Volume → OneFsync → ℕ → Part
@@ -37,7 +37,7 @@ HoldsParts volume parts disk = EachLeft disk (IsImageOf volume.layout nothing_op
 
 -- A planned fsync has a job that writes its plan, through a slot of the volume's disk.
 pub record HasJob (volume : Volume) (one : OneFsync) (job : Job) : Type 0 where
-  pub planned : IsPlanned volume one
+  pub planned : IsPlannedFor volume one
   pub spelled : IsSpelled volume
   pub layout : job.place.layout ≡ volume.layout
   pub writes : WritesPlan one.plan one.grant job
@@ -50,7 +50,7 @@ OkCommitsGoOn old now = (volume : Volume) (one : OneFsync) (job : Job) → HasJo
 
 -- A planned fsync has nothing to write: none of its records differs from what the disk has, and each image stands for the parts.
 pub record HasNothingToWrite (volume : Volume) (one : OneFsync) (disk : View) : Type 0 where
-  pub planned : IsPlanned volume one
+  pub planned : IsPlannedFor volume one
   pub spelled : IsSpelled volume
   pub none : records_written (change_planned one.plan) one.grant ≡ []
   pub holds : HoldsParts volume volume.parts disk
@@ -68,7 +68,7 @@ EmptyCommitsWrite disk = (volume : Volume) (one : OneFsync) → HasNothingToWrit
 
 -- A transaction was built of a planned fsync, for the first slot of the volume's disk.
 pub record WasBuilt (volume : Volume) (one : OneFsync) (tx : Tx) (place : Place) : Type 0 where
-  pub planned : IsPlanned volume one
+  pub planned : IsPlannedFor volume one
   pub spelled : IsSpelled volume
   pub built : IsTransactionOf (change_planned one.plan) one.grant tx
   pub layout : place.layout ≡ volume.layout

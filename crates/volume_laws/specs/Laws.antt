@@ -2,9 +2,9 @@
 use Rattle.std.specs.Prelude.{[], ◌∷◌, ◌++◌}
 use Rattle.sfs_tree.specs.declared.history.Entry.{Entry}
 use Rattle.cut_trees.specs.Next.{IsMountedHistory}
-use Rattle.volume_laws.specs.Volume.{Volume, IsStanding}
+use Rattle.volume_laws.specs.Volume.{Volume, IsVolumeStanding}
 
 -- A volume goes on standing once a call has come.
 abbrev pub LongerHistoriesStayBetween : Type 0
-LongerHistoriesStayBetween = (volume : Volume) (entry : Entry) → IsStanding volume → IsMountedHistory volume.first (volume.history ++ entry ∷ [])
-    → IsStanding (record volume { history = volume.history ++ entry ∷ [] })
+LongerHistoriesStayBetween = (volume : Volume) (entry : Entry) → IsVolumeStanding volume → IsMountedHistory volume.first (volume.history ++ entry ∷ [])
+    → IsVolumeStanding (record volume { history = volume.history ++ entry ∷ [] })

@@ -4,7 +4,7 @@ use Rattle.commit_laws.specs.CommitOfPlan.{numbers_planned}
 use Rattle.flush_core.specs.Closure.{HasLiveNode}
 use Rattle.flush_commits.specs.Laws.{IsStoreAfter}
 use Rattle.volume_laws.specs.Commits.{parts_left}
-use Rattle.volume_laws.specs.Volume.{Volume, OneFsync, IsStanding, IsPlanned}
+use Rattle.volume_laws.specs.Volume.{Volume, OneFsync, IsVolumeStanding, IsPlannedFor}
 
 -- these are the blocks of a volume once an fsync is on its disk
 abbrev pub IsStoreLeft : Volume → OneFsync → (ℕ → List ℕ) → Type 0
@@ -12,7 +12,7 @@ IsStoreLeft volume one later = IsStoreAfter volume.layout volume.parts one.plan 
 
 -- There are such blocks.
 abbrev pub StoresGoOn : Type 0
-StoresGoOn = (volume : Volume) (one : OneFsync) → IsPlanned volume one → (later : ℕ → List ℕ) × IsStoreLeft volume one later
+StoresGoOn = (volume : Volume) (one : OneFsync) → IsPlannedFor volume one → (later : ℕ → List ℕ) × IsStoreLeft volume one later
 
 -- a volume once an fsync is on its disk
 abbrev pub volume_left : Volume → OneFsync → (ℕ → List ℕ) → Volume
@@ -35,5 +35,5 @@ pub record ComesNow (volume : Volume) (one : OneFsync) : Type 0 where
 
 -- A volume goes on standing once a planned fsync that comes now is on its disk.
 abbrev pub CommitsStayStanding : Type 0
-CommitsStayStanding = (volume : Volume) (one : OneFsync) (later : ℕ → List ℕ) → IsStanding volume → IsPlanned volume one → ComesNow volume one
-    → IsStoreLeft volume one later → IsStanding (volume_left volume one later)
+CommitsStayStanding = (volume : Volume) (one : OneFsync) (later : ℕ → List ℕ) → IsVolumeStanding volume → IsPlannedFor volume one → ComesNow volume one
+    → IsStoreLeft volume one later → IsVolumeStanding (volume_left volume one later)

@@ -32,7 +32,7 @@ abbrev pub tree_held : Volume → TreeState
 tree_held volume = tree_at_cut volume.first volume.history volume.cut
 
 -- A volume stands: it is between two commits, and each of its fsyncs came in the history or comes next, of a node that was alive then.
-pub record IsStanding (volume : Volume) : Type 0 where
+pub record IsVolumeStanding (volume : Volume) : Type 0 where
   pub between : IsBetweenCommits volume.first volume.history volume.flushes volume.cut volume.inodes volume.num volume.layout volume.store volume.parts
   pub among : AreAmongFirst volume.first volume.history (length volume.history) volume.flushes
 
@@ -52,7 +52,7 @@ abbrev pub tree_raised : Volume → OneFsync → TreeState
 tree_raised volume one = tree_at_cut volume.first volume.history one.raised
 
 -- An fsync of a volume has its plan and its grant.
-abbrev pub IsPlanned : Volume → OneFsync → Type 0
-IsPlanned volume one =
+abbrev pub IsPlannedFor : Volume → OneFsync → Type 0
+IsPlannedFor volume one =
     IsPlannedFsync volume.first volume.history volume.flushes volume.cut volume.inodes one.flush one.raised one.after volume.num volume.layout volume.store
     volume.parts one.nodes one.entries one.plan one.grant
