@@ -31,7 +31,7 @@ use Rattle.mem_values.specs.declared.cell.PartCell.{PartCell}
 use Rattle.mem_values.specs.declared.cell_id.CellId.TheVariants as id
 use Rattle.mem_values.specs.Account.{Commitment, Trimming, account_of, held_by}
 use Rattle.mem_values.specs.Logs.{entry_logged, own_logged, last_move}
-use Rattle.mem_values.specs.Stands.{flushed_by, IsTrimmedFor, IsCapped, StandsPart, StandsPending, StandsFor}
+use Rattle.mem_values.specs.Stands.{flushed_by, IsTrimmedFor, IsCapped, StandsPart, StandsPending, StandsForCell}
 use Rattle.mem_values.specs.Facts.{IsLawfulLog}
 use Rattle.mem_values.specs.Telling.{commit_by}
 use Rattle.mem_values.specs.Home.{MovedLocksStand, PartsTakeEntries, TrimmedPartsStand, ToldPartsStand, WrittenNodesStand}
@@ -43,7 +43,7 @@ use Rattle.mem_values.proofs.Lasting.{commits_stay_last}
 
 pub moved_locks_stand : MovedLocksStand
 moved_locks_stand given first log entry lock moves is =
-    subst (λ a. StandsFor given first a id.Lock (cell.Lock lock)) (sym (account_called log entry))
+    subst (λ a. StandsForCell given first a id.Lock (cell.Lock lock)) (sym (account_called log entry))
     (ap (option_map (λ (s : Stamp). s.0)) is ∙ sym (last_move-append first None (calls_in log) (entry ∷ []) ∙ ap (λ b. if b then Some entry.stamp.0 else last_move first None (calls_in log)) moves))
 
 -- what an effect logs has its stamp, which no mark is above

@@ -26,7 +26,7 @@ use Rattle.mem_values.specs.declared.cell_id.CellId.{CellId}
 use Rattle.mem_values.specs.declared.cell_id.CellId.TheVariants as id
 use Rattle.mem_values.specs.declared.bucket.Bucket.{Bucket}
 use Rattle.mem_values.specs.Account.{Account, account_of}
-use Rattle.mem_values.specs.Stands.{ShowsBucket, file_links, StandsFile, StandsPending, StandsPart, StandsFor}
+use Rattle.mem_values.specs.Stands.{ShowsBucket, file_links, StandsFile, StandsPending, StandsPart, StandsForCell}
 use Rattle.mem_values.specs.Touches.{KeepsCell}
 use Rattle.mem_values.specs.Laws.{CallsKeepCells}
 use Rattle.mem_values.proofs.Moves.{legal_behind, legal_front, sound_after}
@@ -103,7 +103,7 @@ module _ (given : ℕ → Option OldKept) (first : TreeState) (account : Account
   apart_part : (core : ℕ) → KeepsCell before entry.core.0 entry.call (id.Part (record { 0 = core })) → nat_eq entry.core.0 core ≡ false
   apart_part core keeps = elim keeps [ inl apart ↦ apart | inr nothing ↦ absurd (let never : true ≡ false = nothing.1 in cc) ]
 
-  keep : (which : CellId) (value : Cell) → KeepsCell before entry.core.0 entry.call which → StandsFor given first account which value → StandsFor given first (with_call account entry) which value
+  keep : (which : CellId) (value : Cell) → KeepsCell before entry.core.0 entry.call which → StandsForCell given first account which value → StandsForCell given first (with_call account entry) which value
   keep id.Lock (cell.Lock lock) keeps stood = stood ∙ sym (last_move-push first account.calls entry (lock_kept keeps))
   keep id.Lock (cell.Bucket b) keeps stood = absurd stood
   keep id.Lock (cell.File f) keeps stood = absurd stood
@@ -132,5 +132,5 @@ module _ (given : ℕ → Option OldKept) (first : TreeState) (account : Account
 
 pub calls_keep_cells : CallsKeepCells
 calls_keep_cells given first log entry which value sound legal keeps stood =
-    subst (λ a. StandsFor given first a which value) (sym (account_called log entry))
+    subst (λ a. StandsForCell given first a which value) (sym (account_called log entry))
     (keep given first (account_of log) entry sound (subst (λ l. IsLegal first l) (filter_map-append called log (Called entry ∷ [])) legal) which value keeps stood)

@@ -25,9 +25,9 @@ use Rattle.mem_values.specs.declared.cell.Cell.TheVariants as cell
 use Rattle.mem_values.specs.declared.cell_id.CellId.{CellId}
 use Rattle.mem_values.specs.declared.cell_id.CellId.TheVariants as id
 use Rattle.mem_values.specs.Account.{Account, account_of}
-use Rattle.mem_values.specs.Stands.{StandsFor, StandsAt}
+use Rattle.mem_values.specs.Stands.{StandsForCell, StandsAt}
 use Rattle.mem_values.specs.Facts.{IsLawfulLog}
-use Rattle.mem_values.specs.Laws.{ShowsCell, ShowCells, KnowsCell, KnowsCells, FitsTree, MayMeet, CallsMayCome}
+use Rattle.mem_values.specs.Laws.{ShowsCell, ShowCells, KnowsCell, KnowsCells, CallFits, MayMeet, CallsMayCome}
 use Rattle.mem_values.proofs.Lawful.{lawful_push}
 use Rattle.mem_values.proofs.Moves.{sound_after}
 use Rattle.mem_values.proofs.Keeping.{calls_keep_cells}
@@ -48,7 +48,7 @@ share_stays first [] = refl
 share_stays first (e ∷ history) = share_stays (tree_after_entry first e) history
 
 -- a value that stands for a cell shows it
-shows : (given : ℕ → Option OldKept) (first : TreeState) (account : Account) (which : CellId) (value : Cell) → StandsFor given first account which value → ShowsCell (tree_after first account.calls) which value
+shows : (given : ℕ → Option OldKept) (first : TreeState) (account : Account) (which : CellId) (value : Cell) → StandsForCell given first account which value → ShowsCell (tree_after first account.calls) which value
 shows given first account id.Lock (cell.Lock lock) stood = tt
 shows given first account id.Lock (cell.Bucket b) stood = tt
 shows given first account id.Lock (cell.File f) stood = tt
@@ -94,7 +94,7 @@ module _ (given : ℕ → Option OldKept) (view : View TreeState (Event Fact)) (
     shows = all_show cells knows;
   }
 
-  module _ (c : Call) (reply : Reply) (sound : IsSoundTree view.first) (core : view.core < length view.first.made) (fits : FitsTree view (tree_after view.first (calls_in log)) c reply) where
+  module _ (c : Call) (reply : Reply) (sound : IsSoundTree view.first) (core : view.core < length view.first.made) (fits : CallFits view (tree_after view.first (calls_in log)) c reply) where
     abbrev entry : Entry
     entry = entry_numbered view.core c reply (length (calls_in log))
 

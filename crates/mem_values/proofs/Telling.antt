@@ -28,9 +28,9 @@ use Rattle.mem_values.specs.declared.cell.Pending.{Pending}
 use Rattle.mem_values.specs.declared.cell.PartCell.{PartCell}
 use Rattle.mem_values.specs.declared.cell_id.CellId.{CellId}
 use Rattle.mem_values.specs.declared.cell_id.CellId.TheVariants as id
-use Rattle.mem_values.specs.Places.{node_count, place_of}
+use Rattle.mem_values.specs.Places.{node_count, cell_place}
 use Rattle.mem_values.specs.Account.{Account, Commitment, Trimming, commit_told, account_of, is_held_of, held_by, writes_by, last_writer}
-use Rattle.mem_values.specs.Stands.{ShowsBucket, Flushed, flushed_by, IsTrimmedFor, AreTrimmedFor, AreMarksOf, StandsPending, StandsPart, StandsFor, StandsAt}
+use Rattle.mem_values.specs.Stands.{ShowsBucket, Flushed, flushed_by, IsTrimmedFor, AreTrimmedFor, AreMarksOf, StandsPending, StandsPart, StandsForCell, StandsAt}
 use Rattle.mem_values.specs.Facts.{mark_in, MayHoldNode, MayBeToldAfter, IsLawfulLog}
 use Rattle.mem_values.specs.Telling.{KnowsOf, StandsIn, HasMarks, SawNode, commit_by, MayTellCommit, SawMayBeTold, NotedMayBeTold, CommitsMayBeTold, TrimsMayBeTold}
 use Rattle.mem_values.proofs.Lawful.{lawful_push}
@@ -44,8 +44,8 @@ module _ (given : ℕ → Option OldKept) (view : View TreeState (Event Fact)) w
   -- what is asked of a fact behind one history: it may stand there, and each cell that the core does not hold keeps what it stands for
   record MayStandThere (fact : Fact) (log : List (Event Fact)) : Type 0 where
     may : MayBeToldAfter given view.first (account_of log) view.core fact
-    keeps : (which : CellId) (value : Cell) → (Has view.held (place_of (node_count view.first) which) → ⊥) → StandsFor given view.first (account_of log) which value
-        → StandsFor given view.first (account_of (log ++ told_by view.core fact 0 ∷ [])) which value
+    keeps : (which : CellId) (value : Cell) → (Has view.held (cell_place (node_count view.first) which) → ⊥) → StandsForCell given view.first (account_of log) which value
+        → StandsForCell given view.first (account_of (log ++ told_by view.core fact 0 ∷ [])) which value
 
   keeps_all : (fact : Fact) (log : List (Event Fact)) → MayStandThere fact log → (place : ℕ) (value : Option Cell) → (Has view.held place → ⊥) → stands_for (StandsAt given) view.first log place value → stands_for (StandsAt given) view.first (log ++ told_by view.core fact 0 ∷ []) place value
   keeps_all fact log there place None not stood = stood
@@ -64,7 +64,7 @@ module _ (given : ℕ → Option OldKept) (view : View TreeState (Event Fact)) w
       }
 
   -- what a core knows of a cell, in a history that it may meet
-  known_stands : (log : List (Event Fact)) → Past log → (which : CellId) (P : Cell → Type 0) (knows : KnowsOf given view which P) → StandsFor given view.first (account_of log) which knows.known.value
+  known_stands : (log : List (Event Fact)) → Past log → (which : CellId) (P : Cell → Type 0) (knows : KnowsOf given view which P) → StandsForCell given view.first (account_of log) which knows.known.value
   known_stands log past which P knows = still_stands given view log past knows.known knows.knows which knows.is_cell knows.there
 
 -- a directory that stands in another has it as its holder
@@ -74,7 +74,7 @@ stands_there tree node holder stands = ⊎_elim
     (λ file. absurd (let never : None ≡ Some holder = sym (ap (λ b. if b then holder_of tree node else None) file) ∙ stands in cc))
     (cases_Bool (is_directory tree node))
 
-bucket_holder : (given : ℕ → Option OldKept) (first : TreeState) (account : Account) (node : NodeId) (number holder : ℕ) (value : Cell) → StandsFor given first account (id.Bucket node number) value → StandsIn holder value → IsHolder (tree_after first account.calls) node.0 holder
+bucket_holder : (given : ℕ → Option OldKept) (first : TreeState) (account : Account) (node : NodeId) (number holder : ℕ) (value : Cell) → StandsForCell given first account (id.Bucket node number) value → StandsIn holder value → IsHolder (tree_after first account.calls) node.0 holder
 bucket_holder given first account node number holder (cell.Lock lock) stood stands = absurd stands
 bucket_holder given first account node number holder (cell.Bucket b) stood stands = stands_there (tree_after first account.calls) node.0 holder (sym stood.stands ∙ stands)
 bucket_holder given first account node number holder (cell.File f) stood stands = absurd stands
@@ -84,10 +84,10 @@ bucket_holder given first account node number holder (cell.Part p) stood stands 
 pub saw_may_be_told : SawMayBeTold
 saw_may_be_told given view node holder number knows = may_tell_by given view (Saw node holder) (λ log past. record {
   may = bucket_holder given view.first (account_of log) node number holder.0 knows.known.value (known_stands given view log past (id.Bucket node number) (StandsIn holder.0) knows) knows.has;
-  keeps = λ which value not stood. subst (λ a. StandsFor given view.first a which value) (sym (account_saw log (record { 0 = view.core }) node holder)) stood;
+  keeps = λ which value not stood. subst (λ a. StandsForCell given view.first a which value) (sym (account_saw log (record { 0 = view.core }) node holder)) stood;
 })
 
-part_marks : (given : ℕ → Option OldKept) (first : TreeState) (account : Account) (part : CoreId) (mark : ℕ → ℕ) (value : Cell) → StandsFor given first account (id.Part part) value → HasMarks mark value → AreMarksOf account part.0 mark
+part_marks : (given : ℕ → Option OldKept) (first : TreeState) (account : Account) (part : CoreId) (mark : ℕ → ℕ) (value : Cell) → StandsForCell given first account (id.Part part) value → HasMarks mark value → AreMarksOf account part.0 mark
 part_marks given first account part mark (cell.Lock lock) stood has = absurd has
 part_marks given first account part mark (cell.Bucket b) stood has = absurd has
 part_marks given first account part mark (cell.File f) stood has = absurd has
@@ -103,11 +103,11 @@ noted_may_be_told given view node stamp part marks fsync knows = may_tell_by giv
     own = (node, fsync_there log view.core node stamp.0 view.mine past.mine fsync);
     marks_are = part_marks given view.first (account_of log) part (mark_in marks.items) knows.known.value (known_stands given view log past (id.Part part) (HasMarks (mark_in marks.items)) knows) knows.has;
   };
-  keeps = λ which value not stood. subst (λ a. StandsFor given view.first a which value) (sym (account_noted log (record { 0 = view.core }) stamp part marks)) stood;
+  keeps = λ which value not stood. subst (λ a. StandsForCell given view.first a which value) (sym (account_noted log (record { 0 = view.core }) stamp part marks)) stood;
 })
 
 -- what a commit saw of a node is what the last one before it left
-saw_flushed : (given : ℕ → Option OldKept) (first : TreeState) (account : Account) (held : HeldNode) (value : Cell) → StandsFor given first account (id.Pending held.node) value → SawNode held value
+saw_flushed : (given : ℕ → Option OldKept) (first : TreeState) (account : Account) (held : HeldNode) (value : Cell) → StandsForCell given first account (id.Pending held.node) value → SawNode held value
     → (◌≡◌ {A = Flushed} (record { cut = held.cut.0; last = held.last; old = held.old }) (flushed_by given held.node.0 (last_writer held.node.0 account.commits))) × AreTrimmedFor first account held.node.0
 saw_flushed given first account held (cell.Lock lock) stood saw = absurd saw
 saw_flushed given first account held (cell.Bucket b) stood saw = absurd saw
@@ -147,7 +147,7 @@ module _ (given : ℕ → Option OldKept) (view : View TreeState (Event Fact)) (
       }
 
   -- a node that the core does not hold is none of the commit's
-  not_held : (node : NodeId) → (Has view.held (place_of (node_count first) (id.Pending node)) → ⊥) → held_by commit node.0 ≡ None
+  not_held : (node : NodeId) → (Has view.held (cell_place (node_count first) (id.Pending node)) → ⊥) → held_by commit node.0 ≡ None
   not_held node not = none_by (held_by commit node.0) refl
     where
       none_by : (o : Option HeldNode) → held_by commit node.0 ≡ o → o ≡ None
@@ -157,10 +157,10 @@ module _ (given : ℕ → Option OldKept) (view : View TreeState (Event Fact)) (
           let knows = asks.saw h there.0 in
           absurd (not (subst (λ (n : ℕ). Has view.held (16 + 9 * node_count first + n)) there.1 (subst (λ p. Has view.held p) (sym knows.there) knows.knows.holds)))
 
-  same_writer : (node : NodeId) → (Has view.held (place_of (node_count first) (id.Pending node)) → ⊥) → last_writer node.0 (account.commits ++ commit ∷ []) ≡ last_writer node.0 account.commits
+  same_writer : (node : NodeId) → (Has view.held (cell_place (node_count first) (id.Pending node)) → ⊥) → last_writer node.0 (account.commits ++ commit ∷ []) ≡ last_writer node.0 account.commits
   same_writer node not = last_writer-push node.0 account.commits commit ∙ ap (λ o. option_or (writes_by commit o) (last_writer node.0 account.commits)) (not_held node not)
 
-  pending_kept : (node : NodeId) (value : Pending) → (Has view.held (place_of (node_count first) (id.Pending node)) → ⊥) → StandsPending given first account node.0 value → StandsPending given first (with_commit account commit) node.0 value
+  pending_kept : (node : NodeId) (value : Pending) → (Has view.held (cell_place (node_count first) (id.Pending node)) → ⊥) → StandsPending given first account node.0 value → StandsPending given first (with_commit account commit) node.0 value
   pending_kept node value not stood = record {
     flushed = stood.flushed ∙ ap (flushed_by given node.0) (sym (same_writer node not));
     made_in = stood.made_in;
@@ -187,7 +187,7 @@ module _ (given : ℕ → Option OldKept) (view : View TreeState (Event Fact)) (
     };
   }
 
-  commit_keeps : (which : CellId) (value : Cell) → (Has view.held (place_of (node_count first) which) → ⊥) → StandsFor given first account which value → StandsFor given first (with_commit account commit) which value
+  commit_keeps : (which : CellId) (value : Cell) → (Has view.held (cell_place (node_count first) which) → ⊥) → StandsForCell given first account which value → StandsForCell given first (with_commit account commit) which value
   commit_keeps id.Lock (cell.Lock lock) not stood = stood
   commit_keeps id.Lock (cell.Bucket b) not stood = stood
   commit_keeps id.Lock (cell.File f) not stood = stood
@@ -223,10 +223,10 @@ commits_may_be_told given view number node stamp members held asks = may_tell_by
         holds = may_hold given view commit asks refl log past;
         raises = asks.raises;
       };
-      keeps = λ which value not stood. subst (λ a. StandsFor given view.first a which value) (sym (account_committed log (record { 0 = view.core }) number node stamp members held)) (commit_keeps given view commit asks refl log past which value not stood);
+      keeps = λ which value not stood. subst (λ a. StandsForCell given view.first a which value) (sym (account_committed log (record { 0 = view.core }) number node stamp members held)) (commit_keeps given view commit asks refl log past which value not stood);
     })
 
-module _ (given : ℕ → Option OldKept) (view : View TreeState (Event Fact)) (number : ℕ) (part : CoreId) (holds : Has view.held (place_of (node_count view.first) (id.Part part))) (account : Account) where
+module _ (given : ℕ → Option OldKept) (view : View TreeState (Event Fact)) (number : ℕ) (part : CoreId) (holds : Has view.held (cell_place (node_count view.first) (id.Part part))) (account : Account) where
   abbrev trimming : Trimming
   trimming = record { core = view.core; number = number; part = part.0 }
 
@@ -237,7 +237,7 @@ module _ (given : ℕ → Option OldKept) (view : View TreeState (Event Fact)) (
     trimmed = λ writer last other lt. in_left account.trimmings (trimming ∷ []) (record { core = writer.0.core; number = writer.0.number; part = other }) (stood.trimmed writer last other lt);
   }
 
-  part_still : (core : CoreId) (value : PartCell) → (Has view.held (place_of (node_count view.first) (id.Part core)) → ⊥) → StandsPart view.first account core.0 value → StandsPart view.first (with_trimming account trimming) core.0 value
+  part_still : (core : CoreId) (value : PartCell) → (Has view.held (cell_place (node_count view.first) (id.Part core)) → ⊥) → StandsPart view.first account core.0 value → StandsPart view.first (with_trimming account trimming) core.0 value
   part_still core value not stood = record {
     left = stood.left;
     made = stood.made;
@@ -253,7 +253,7 @@ module _ (given : ℕ → Option OldKept) (view : View TreeState (Event Fact)) (
     };
   }
 
-  trim_keeps : (which : CellId) (value : Cell) → (Has view.held (place_of (node_count view.first) which) → ⊥) → StandsFor given view.first account which value → StandsFor given view.first (with_trimming account trimming) which value
+  trim_keeps : (which : CellId) (value : Cell) → (Has view.held (cell_place (node_count view.first) which) → ⊥) → StandsForCell given view.first account which value → StandsForCell given view.first (with_trimming account trimming) which value
   trim_keeps id.Lock (cell.Lock lock) not stood = stood
   trim_keeps id.Lock (cell.Bucket b) not stood = stood
   trim_keeps id.Lock (cell.File f) not stood = stood
@@ -288,5 +288,5 @@ trims_may_be_told given view commit number part among own numbered holds = may_t
     own = own;
     numbered = numbered;
   };
-  keeps = λ which value not stood. subst (λ a. StandsFor given view.first a which value) (sym (account_trimmed log (record { 0 = view.core }) number part)) (trim_keeps given view number part holds (account_of log) which value not stood);
+  keeps = λ which value not stood. subst (λ a. StandsForCell given view.first a which value) (sym (account_trimmed log (record { 0 = view.core }) number part)) (trim_keeps given view number part holds (account_of log) which value not stood);
 })

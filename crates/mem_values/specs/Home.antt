@@ -28,14 +28,14 @@ use Rattle.mem_values.specs.declared.cell_id.CellId.{CellId}
 use Rattle.mem_values.specs.declared.cell_id.CellId.TheVariants as id
 use Rattle.mem_values.specs.Account.{Commitment, account_of, held_by}
 use Rattle.mem_values.specs.Logs.{entry_logged, birthplace}
-use Rattle.mem_values.specs.Stands.{Flushed, ShowsBucket, file_links, IsTrimmedFor, StandsPart, StandsPending, StandsFor}
+use Rattle.mem_values.specs.Stands.{Flushed, ShowsBucket, file_links, IsTrimmedFor, StandsPart, StandsPending, StandsForCell}
 use Rattle.mem_values.specs.Facts.{IsLawfulLog}
 use Rattle.mem_values.specs.Telling.{commit_by}
 
 -- The lock goes home with the stamp of a call that moved a directory to another one.
 abbrev pub MovedLocksStand : Type 0
 MovedLocksStand = (given : ℕ → Option OldKept) (first : TreeState) (log : List (Event Fact)) (entry : Entry) (lock : TreeLock)
-    → needs_lock (tree_after first (calls_in log)) entry.core.0 entry.call ≡ true → lock.moved ≡ Some entry.stamp → StandsFor given first (account_of (log ++ Called entry ∷ [])) id.Lock (cell.Lock lock)
+    → needs_lock (tree_after first (calls_in log)) entry.core.0 entry.call ≡ true → lock.moved ≡ Some entry.stamp → StandsForCell given first (account_of (log ++ Called entry ∷ [])) id.Lock (cell.Lock lock)
 
 -- A log goes home with what the core's entry logs behind what it had.
 abbrev pub PartsTakeEntries : Type 0
@@ -78,4 +78,4 @@ BeginsAs given first _ _ = ⊥
 
 -- Such a value stands for what no event leaves of its cell.
 abbrev pub CellsBegin : Type 0
-CellsBegin = (given : ℕ → Option OldKept) (first : TreeState) (which : CellId) (value : Cell) → BeginsAs given first which value → StandsFor given first (account_of []) which value
+CellsBegin = (given : ℕ → Option OldKept) (first : TreeState) (which : CellId) (value : Cell) → BeginsAs given first which value → StandsForCell given first (account_of []) which value

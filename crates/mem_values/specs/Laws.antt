@@ -21,10 +21,10 @@ use Rattle.mem_values.specs.declared.cell.Cell.TheVariants as cell
 use Rattle.mem_values.specs.declared.cell_id.CellId.{CellId}
 use Rattle.mem_values.specs.declared.cell_id.CellId.TheVariants as id
 use Rattle.mem_values.specs.declared.fact.Fact.{Fact}
-use Rattle.mem_values.specs.Places.{node_count, place_of, IsCell}
+use Rattle.mem_values.specs.Places.{node_count, cell_place, IsCell}
 use Rattle.mem_values.specs.Account.{account_of}
 use Rattle.mem_values.specs.Logs.{last_move}
-use Rattle.mem_values.specs.Stands.{ShowsBucket, file_links, StandsFor, StandsAt}
+use Rattle.mem_values.specs.Stands.{ShowsBucket, file_links, StandsForCell, StandsAt}
 use Rattle.mem_values.specs.Facts.{IsLawfulLog}
 use Rattle.mem_values.specs.Touches.{KeepsCell}
 
@@ -32,7 +32,7 @@ use Rattle.mem_values.specs.Touches.{KeepsCell}
 abbrev pub CallsKeepCells : Type 0
 CallsKeepCells = (given : ℕ → Option OldKept) (first : TreeState) (log : List (Event Fact)) (entry : Entry) (cell : CellId) (value : Cell)
     → IsSoundTree first → IsLegal first (calls_in (log ++ Called entry ∷ [])) → KeepsCell (tree_after first (calls_in log)) entry.core.0 entry.call cell
-    → StandsFor given first (account_of log) cell value → StandsFor given first (account_of (log ++ Called entry ∷ [])) cell value
+    → StandsForCell given first (account_of log) cell value → StandsForCell given first (account_of (log ++ Called entry ∷ [])) cell value
 
 -- Where no call since moved a directory to another one, holders that were read are still so.
 abbrev pub ToldWaysStay : Type 0
@@ -60,13 +60,13 @@ KnowsCells given view (known ∷ cells) = KnowsCell given view known × KnowsCel
 abbrev pub ShowCells : TreeState → TreeState → List (HeldCell Cell) → Type 0
 ShowCells first tree [] = Unit {0}
 ShowCells first tree (known ∷ cells) =
-    ((cell : CellId) → IsCell (node_count first) (length first.made) cell → place_of (node_count first) cell ≡ known.place → ShowsCell tree cell known.value) × ShowCells first tree cells
+    ((cell : CellId) → IsCell (node_count first) (length first.made) cell → cell_place (node_count first) cell ≡ known.place → ShowsCell tree cell known.value) × ShowCells first tree cells
 
 -- A call may come in a tree with a reply: it is due there, an fsync is not answered Ok yet, and each cell that the call does not keep is held.
-pub record FitsTree (view : View TreeState (Event Fact)) (tree : TreeState) (c : Call) (reply : Reply) : Type 0 where
+pub record CallFits (view : View TreeState (Event Fact)) (tree : TreeState) (c : Call) (reply : Reply) : Type 0 where
   pub due : IsDue (flushes tree c) (verdict tree view.core c).reply reply
   pub unanswered : (flushes tree c && is_ok_reply reply) ≡ false
-  pub keeps : (cell : CellId) → IsCell (node_count view.first) (length view.first.made) cell → KeepsCell tree view.core c cell ⊎ Has view.held (place_of (node_count view.first) cell)
+  pub keeps : (cell : CellId) → IsCell (node_count view.first) (length view.first.made) cell → KeepsCell tree view.core c cell ⊎ Has view.held (cell_place (node_count view.first) cell)
 
 -- A tree that a core may meet: it is sound, its numbers are those of the first tree, and the values that the core knows show it.
 pub record MayMeet (view : View TreeState (Event Fact)) (cells : List (HeldCell Cell)) (tree : TreeState) : Type 0 where
@@ -79,5 +79,5 @@ pub record MayMeet (view : View TreeState (Event Fact)) (cells : List (HeldCell 
 -- A call may be stamped with a reply where it fits each tree that the values show which its core knows.
 abbrev pub CallsMayCome : Type 0
 CallsMayCome = (given : ℕ → Option OldKept) (view : View TreeState (Event Fact)) (cells : List (HeldCell Cell)) (c : Call) (reply : Reply)
-    → IsSoundTree view.first → view.core < length view.first.made → KnowsCells given view cells → ((tree : TreeState) → MayMeet view cells tree → FitsTree view tree c reply)
+    → IsSoundTree view.first → view.core < length view.first.made → KnowsCells given view cells → ((tree : TreeState) → MayMeet view cells tree → CallFits view tree c reply)
     → MayCall (IsLawfulLog given) (StandsAt given) view c reply

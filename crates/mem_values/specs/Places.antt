@@ -10,12 +10,12 @@ abbrev pub node_count : TreeState → ℕ
 node_count first = first.first + first.share * length first.made
 
 -- the place of a cell, where there may be so many nodes
-abbrev pub place_of : ℕ → CellId → ℕ
-place_of nodes Lock = 0
-place_of nodes (Bucket node bucket) = 16 + 9 * node.0 + bucket
-place_of nodes (File node) = 24 + 9 * node.0
-place_of nodes (Pending node) = 16 + 9 * nodes + node.0
-place_of nodes (Part core) = 32 + 10 * nodes + 16 * core.0
+abbrev pub cell_place : ℕ → CellId → ℕ
+cell_place nodes Lock = 0
+cell_place nodes (Bucket node bucket) = 16 + 9 * node.0 + bucket
+cell_place nodes (File node) = 24 + 9 * node.0
+cell_place nodes (Pending node) = 16 + 9 * nodes + node.0
+cell_place nodes (Part core) = 32 + 10 * nodes + 16 * core.0
 
 -- a cell of a table of so many nodes and cores
 abbrev pub IsCell : ℕ → ℕ → CellId → Type 0
@@ -34,13 +34,13 @@ cell_order (Pending node) = (2, (node.0, 0))
 cell_order (Part core) = (3, (core.0, 0))
 
 -- one of these comes before the other: by the first number in which they differ
-abbrev pub ComesBefore : ℕ × (ℕ × ℕ) → ℕ × (ℕ × ℕ) → Type 0
-ComesBefore a b = (a.0 < b.0) ⊎ ((a.0 ≡ b.0) × ((a.1.0 < b.1.0) ⊎ ((a.1.0 ≡ b.1.0) × (a.1.1 < b.1.1))))
+abbrev pub LiesBefore : ℕ × (ℕ × ℕ) → ℕ × (ℕ × ℕ) → Type 0
+LiesBefore a b = (a.0 < b.0) ⊎ ((a.0 ≡ b.0) × ((a.1.0 < b.1.0) ⊎ ((a.1.0 ≡ b.1.0) × (a.1.1 < b.1.1))))
 
 -- two cells at one place are one
 abbrev pub PlacesApart : Type 0
-PlacesApart = (nodes cores : ℕ) (cell other : CellId) → IsCell nodes cores cell → IsCell nodes cores other → place_of nodes cell ≡ place_of nodes other → cell ≡ other
+PlacesApart = (nodes cores : ℕ) (cell other : CellId) → IsCell nodes cores cell → IsCell nodes cores other → cell_place nodes cell ≡ cell_place nodes other → cell ≡ other
 
 -- Places ascend in the order of the cells.
 abbrev pub PlacesAscend : Type 0
-PlacesAscend = (nodes cores : ℕ) (cell other : CellId) → IsCell nodes cores cell → IsCell nodes cores other → ComesBefore (cell_order cell) (cell_order other) → place_of nodes cell < place_of nodes other
+PlacesAscend = (nodes cores : ℕ) (cell other : CellId) → IsCell nodes cores cell → IsCell nodes cores other → LiesBefore (cell_order cell) (cell_order other) → cell_place nodes cell < cell_place nodes other

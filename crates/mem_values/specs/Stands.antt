@@ -23,7 +23,7 @@ use Rattle.mem_values.specs.declared.cell.PartCell.{PartCell}
 use Rattle.mem_values.specs.declared.cell_id.CellId.{CellId}
 use Rattle.mem_values.specs.declared.cell_id.CellId.TheVariants as id
 use Rattle.mem_values.specs.declared.bucket.Bucket.{Bucket}
-use Rattle.mem_values.specs.Places.{node_count, place_of, IsCell}
+use Rattle.mem_values.specs.Places.{node_count, cell_place, IsCell}
 use Rattle.mem_values.specs.Account.{Account, Commitment, account_of, held_by, last_writer}
 use Rattle.mem_values.specs.Logs.{own_logged, last_move, last_touch, birthplace}
 
@@ -90,14 +90,14 @@ pub record StandsPart (first : TreeState) (account : Account) (core : ℕ) (part
   pub marks : AreMarksOf account core (mark_kept part.log)
 
 -- A value stands for what a log leaves of a cell.
-abbrev pub StandsFor : (ℕ → Option OldKept) → TreeState → Account → CellId → Cell → Type 0
-StandsFor given first account id.Lock (cell.Lock lock) = option_map (λ stamp. stamp.0) lock.moved ≡ last_move first None account.calls
-StandsFor given first account (id.Bucket node number) (cell.Bucket bucket) = ShowsBucket (tree_after first account.calls) node.0 number bucket.value
-StandsFor given first account (id.File node) (cell.File file) = StandsFile first account.calls node.0 file.value
-StandsFor given first account (id.Pending node) (cell.Pending pending) = StandsPending given first account node.0 pending.value
-StandsFor given first account (id.Part core) (cell.Part part) = StandsPart first account core.0 part.value
-StandsFor given first account _ _ = ⊥
+abbrev pub StandsForCell : (ℕ → Option OldKept) → TreeState → Account → CellId → Cell → Type 0
+StandsForCell given first account id.Lock (cell.Lock lock) = option_map (λ stamp. stamp.0) lock.moved ≡ last_move first None account.calls
+StandsForCell given first account (id.Bucket node number) (cell.Bucket bucket) = ShowsBucket (tree_after first account.calls) node.0 number bucket.value
+StandsForCell given first account (id.File node) (cell.File file) = StandsFile first account.calls node.0 file.value
+StandsForCell given first account (id.Pending node) (cell.Pending pending) = StandsPending given first account node.0 pending.value
+StandsForCell given first account (id.Part core) (cell.Part part) = StandsPart first account core.0 part.value
+StandsForCell given first account _ _ = ⊥
 
 -- a value stands for what a log leaves of the cell that lies at a place; where none does it is any value
 abbrev pub StandsAt : (ℕ → Option OldKept) → TreeState → List (Event Fact) → ℕ → Cell → Type 0
-StandsAt given first log place value = (id : CellId) → IsCell (node_count first) (length first.made) id → place_of (node_count first) id ≡ place → StandsFor given first (account_of log) id value
+StandsAt given first log place value = (id : CellId) → IsCell (node_count first) (length first.made) id → cell_place (node_count first) id ≡ place → StandsForCell given first (account_of log) id value

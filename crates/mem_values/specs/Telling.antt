@@ -23,7 +23,7 @@ use Rattle.mem_values.specs.declared.cell_id.CellId.TheVariants as id
 use Rattle.mem_values.specs.declared.fact.Fact.{Fact}
 use Rattle.mem_values.specs.declared.fact.Fact.TheVariants.{Saw, Noted, Committed, Trimmed}
 use Rattle.mem_values.specs.declared.fact.HeldNode.{HeldNode}
-use Rattle.mem_values.specs.Places.{node_count, place_of, IsCell}
+use Rattle.mem_values.specs.Places.{node_count, cell_place, IsCell}
 use Rattle.mem_values.specs.Account.{Commitment, commit_told, account_of, held_by, last_writer}
 use Rattle.mem_values.specs.Stands.{Flushed, StandsAt, IsTrimmedFor}
 use Rattle.mem_values.specs.Facts.{HasFsync, mark_in, RaisesMember, IsLawfulLog}
@@ -34,7 +34,7 @@ pub record KnowsOf (given : ℕ → Option OldKept) (view : View TreeState (Even
   pub known : HeldCell Cell
   pub knows : KnowsCell given view known
   pub is_cell : IsCell (node_count view.first) (length view.first.made) which
-  pub there : place_of (node_count view.first) which ≡ known.place
+  pub there : cell_place (node_count view.first) which ≡ known.place
   pub has : Has known.value
 
 -- by a bucket a directory stands in another one
@@ -94,7 +94,7 @@ CommitsMayBeTold = (given : ℕ → Option OldKept) (view : View TreeState (Even
 -- A core that holds a log may tell that it is trimmed for a commit of its own.
 abbrev pub TrimsMayBeTold : Type 0
 TrimsMayBeTold = (given : ℕ → Option OldKept) (view : View TreeState (Event Fact)) (commit : Commitment) (number : ℕ) (part : CoreId)
-    → IsOneOf (filter_map commit_told view.mine) commit → commit.core ≡ view.core → commit.number ≡ number → Has view.held (place_of (node_count view.first) (id.Part part))
+    → IsOneOf (filter_map commit_told view.mine) commit → commit.core ≡ view.core → commit.number ≡ number → Has view.held (cell_place (node_count view.first) (id.Part part))
     → MayTell (IsLawfulLog given) (StandsAt given) view (Trimmed number part)
 
 -- As long as a part is not trimmed for a commit, the commit is the last one that holds each of its nodes.

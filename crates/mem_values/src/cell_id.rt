@@ -1,6 +1,6 @@
 // Which cells there are, and where they lie.
 ghost use Rattle.std.specs.Prelude.{◌≡◌, ◌≤◌, ◌^◌};
-ghost use Rattle.mem_values.specs.Places.{place_of, IsCell};
+ghost use Rattle.mem_values.specs.Places.{cell_place, IsCell};
 
 use sfs_base::{CoreId, NodeId};
 
@@ -17,7 +17,7 @@ pub enum CellId {
 impl CellId {
     /// The place of the cell at a table of so many nodes.
     pub fn place(self, nodes: u32) -> usize
-        ensures { result ≡ place_of nodes self }
+        ensures { result ≡ cell_place nodes self }
     {
         let nodes = nodes as usize;
         match self {

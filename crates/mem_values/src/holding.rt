@@ -2,7 +2,7 @@
 ghost use Rattle.std.specs.Prelude.{◌≡◌, ◌≤◌, Some, IsSome, length, map, option_map};
 ghost use Rattle.stamp_table.specs.Ascending.{AreBelow, RiseAbove};
 ghost use Rattle.stamp_table.specs.Table.{HoldsAll, cell_at, with_value};
-ghost use Rattle.mem_values.specs.Places.{place_of};
+ghost use Rattle.mem_values.specs.Places.{cell_place};
 ghost use Rattle.mem_values.specs.Stands.{StandsAt};
 ghost use Rattle.mem_values.specs.Facts.{IsLawfulLog};
 
@@ -27,10 +27,10 @@ pub fn hold_cells<R: Wait, G: Given>(
     cells: &[CellId],
 )
     requires table { core.old.table ≡ shared.now.table }
-    requires within { AreBelow shared.now.table.slots (map (place_of nodes) cells.now) }
-    requires above { RiseAbove core.old.view.held (map (place_of nodes) cells.now) }
+    requires within { AreBelow shared.now.table.slots (map (cell_place nodes) cells.now) }
+    requires above { RiseAbove core.old.view.held (map (cell_place nodes) cells.now) }
     requires room { length cells.now ≤ core.old.room }
-    ensures { HoldsAll (IsLawfulLog G.given) (StandsAt G.given) (map (place_of nodes) cells.now) core.old core.new }
+    ensures { HoldsAll (IsLawfulLog G.given) (StandsAt G.given) (map (cell_place nodes) cells.now) core.old core.new }
 {
     for cell in cells {
         core.hold_one(rt, shared, cell.place(nodes));
@@ -39,17 +39,17 @@ pub fn hold_cells<R: Wait, G: Given>(
 
 /// The value of a cell that the core holds.
 pub fn value_of(core: &FileCore, nodes: u32, cell: CellId) -> &Cell
-    requires { IsSome (cell_at (place_of nodes cell) core.now.held) }
-    ensures { option_map (λ held. held.value) (cell_at (place_of nodes cell) core.now.held) ≡ Some result.now }
+    requires { IsSome (cell_at (cell_place nodes cell) core.now.held) }
+    ensures { option_map (λ held. held.value) (cell_at (cell_place nodes cell) core.now.held) ≡ Some result.now }
 {
     core.cell(cell.place(nodes))
 }
 
 /// Gives a cell that the core holds another value, and answers the one that it had.
 pub fn replace_value(core: &mut FileCore, nodes: u32, cell: CellId, value: Cell) -> Cell
-    requires { IsSome (cell_at (place_of nodes cell) core.old.held) }
-    ensures old { option_map (λ held. held.value) (cell_at (place_of nodes cell) core.old.held) ≡ Some result }
-    ensures new { core.new ≡ record core.old { held = with_value (place_of nodes cell) value core.old.held } }
+    requires { IsSome (cell_at (cell_place nodes cell) core.old.held) }
+    ensures old { option_map (λ held. held.value) (cell_at (cell_place nodes cell) core.old.held) ≡ Some result }
+    ensures new { core.new ≡ record core.old { held = with_value (cell_place nodes cell) value core.old.held } }
 {
     core.replace(cell.place(nodes), value)
 }
@@ -77,10 +77,10 @@ pub fn has_inode<R: Wait, G: Given>(
     node: NodeId,
 ) -> bool
     requires table { core.old.table ≡ shared.now.table }
-    requires cell { place_of nodes (Pending node) < shared.now.table.slots }
+    requires cell { cell_place nodes (Pending node) < shared.now.table.slots }
     requires idle { (core.old.held ≡ []) × (core.old.view.held ≡ []) }
     requires room { 0 < core.old.room }
-    ensures { SawInode G.given (place_of nodes (Pending node)) core.old result core.new }
+    ensures { SawInode G.given (cell_place nodes (Pending node)) core.old result core.new }
 {
     let place = CellId::Pending { node }.place(nodes);
     core.hold_one(rt, shared, place);
