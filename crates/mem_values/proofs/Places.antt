@@ -3,7 +3,7 @@ use Rattle.std.proofs.Common.{◌≡◌, ℕ, ◌<◌, refl, ap, arith, ⊎_elim
 use Rattle.sfs_base.specs.declared.numbers.NodeId.{NodeId}
 use Rattle.sfs_base.specs.declared.numbers.CoreId.{CoreId}
 use Rattle.mem_values.specs.declared.cell_id.CellId.TheVariants.{Lock, Bucket, File, Pending, Part}
-use Rattle.mem_values.specs.Places.{IsCellBefore, PlacesApart, PlacesAscend}
+use Rattle.mem_values.specs.Places.{LiesBefore, PlacesApart, PlacesAscend}
 
 node_again : (a b : NodeId) → a.0 ≡ b.0 → a ≡ b
 node_again a b same = λ i. record { 0 = same i }
@@ -40,7 +40,7 @@ places_apart nodes cores (Part i) (Pending m) one two same = absurd (omega (arit
 places_apart nodes cores (Part i) (Part j) one two same = let core : i.0 ≡ j.0 = omega (arith, same) in ap Part (core_again i j core)
 
 -- places of two of these orders, one before the other
-by_numbers : (a b : ℕ × (ℕ × ℕ)) (P : Type 0) → IsCellBefore a b → (a.0 < b.0 → P) → (a.0 ≡ b.0 → a.1.0 < b.1.0 → P) → (a.0 ≡ b.0 → a.1.0 ≡ b.1.0 → a.1.1 < b.1.1 → P) → P
+by_numbers : (a b : ℕ × (ℕ × ℕ)) (P : Type 0) → LiesBefore a b → (a.0 < b.0 → P) → (a.0 ≡ b.0 → a.1.0 < b.1.0 → P) → (a.0 ≡ b.0 → a.1.0 ≡ b.1.0 → a.1.1 < b.1.1 → P) → P
 by_numbers a b P before high middle low = ⊎_elim high (λ same. ⊎_elim (middle same.0) (λ rest. low same.0 rest.0 rest.1) same.1) before
 
 pub places_ascend : PlacesAscend

@@ -27,7 +27,7 @@ use Rattle.mem_values.specs.declared.cell_id.CellId.TheVariants as id
 use Rattle.mem_values.specs.Account.{Account, account_of}
 use Rattle.mem_values.specs.Stands.{StandsForCell, StandsAt}
 use Rattle.mem_values.specs.Facts.{IsLawfulLog}
-use Rattle.mem_values.specs.Laws.{ShowsCell, ShowCells, KnowsCell, KnowsCells, FitsMetTree, MayMeet, CallsMayCome}
+use Rattle.mem_values.specs.Laws.{ShowsCell, ShowCells, KnowsCell, KnowsCells, CallFits, MayMeet, CallsMayCome}
 use Rattle.mem_values.proofs.Lawful.{lawful_push}
 use Rattle.mem_values.proofs.Moves.{sound_after}
 use Rattle.mem_values.proofs.Keeping.{calls_keep_cells}
@@ -94,7 +94,7 @@ module _ (given : ℕ → Option OldKept) (view : View TreeState (Event Fact)) (
     shows = all_show cells knows;
   }
 
-  module _ (c : Call) (reply : Reply) (sound : IsSoundTree view.first) (core : view.core < length view.first.made) (fits : FitsMetTree view (tree_after view.first (calls_in log)) c reply) where
+  module _ (c : Call) (reply : Reply) (sound : IsSoundTree view.first) (core : view.core < length view.first.made) (fits : CallFits view (tree_after view.first (calls_in log)) c reply) where
     abbrev entry : Entry
     entry = entry_numbered view.core c reply (length (calls_in log))
 

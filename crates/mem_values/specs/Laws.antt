@@ -63,7 +63,7 @@ ShowCells first tree (known ∷ cells) =
     ((cell : CellId) → IsCell (node_count first) (length first.made) cell → cell_place (node_count first) cell ≡ known.place → ShowsCell tree cell known.value) × ShowCells first tree cells
 
 -- A call may come in a tree with a reply: it is due there, an fsync is not answered Ok yet, and each cell that the call does not keep is held.
-pub record FitsMetTree (view : View TreeState (Event Fact)) (tree : TreeState) (c : Call) (reply : Reply) : Type 0 where
+pub record CallFits (view : View TreeState (Event Fact)) (tree : TreeState) (c : Call) (reply : Reply) : Type 0 where
   pub due : IsDue (flushes tree c) (verdict tree view.core c).reply reply
   pub unanswered : (flushes tree c && is_ok_reply reply) ≡ false
   pub keeps : (cell : CellId) → IsCell (node_count view.first) (length view.first.made) cell → KeepsCell tree view.core c cell ⊎ Has view.held (cell_place (node_count view.first) cell)
@@ -79,5 +79,5 @@ pub record MayMeet (view : View TreeState (Event Fact)) (cells : List (HeldCell 
 -- A call may be stamped with a reply where it fits each tree that the values show which its core knows.
 abbrev pub CallsMayCome : Type 0
 CallsMayCome = (given : ℕ → Option OldKept) (view : View TreeState (Event Fact)) (cells : List (HeldCell Cell)) (c : Call) (reply : Reply)
-    → IsSoundTree view.first → view.core < length view.first.made → KnowsCells given view cells → ((tree : TreeState) → MayMeet view cells tree → FitsMetTree view tree c reply)
+    → IsSoundTree view.first → view.core < length view.first.made → KnowsCells given view cells → ((tree : TreeState) → MayMeet view cells tree → CallFits view tree c reply)
     → MayCall (IsLawfulLog given) (StandsAt given) view c reply

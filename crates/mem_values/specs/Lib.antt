@@ -1,6 +1,7 @@
 pub mod Account
 pub mod Facts
 pub mod Home
+pub mod Inode
 pub mod Laws
 pub mod Logs
 pub mod Places

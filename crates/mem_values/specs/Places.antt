@@ -34,8 +34,8 @@ cell_order (Pending node) = (2, (node.0, 0))
 cell_order (Part core) = (3, (core.0, 0))
 
 -- one of these comes before the other: by the first number in which they differ
-abbrev pub IsCellBefore : ℕ × (ℕ × ℕ) → ℕ × (ℕ × ℕ) → Type 0
-IsCellBefore a b = (a.0 < b.0) ⊎ ((a.0 ≡ b.0) × ((a.1.0 < b.1.0) ⊎ ((a.1.0 ≡ b.1.0) × (a.1.1 < b.1.1))))
+abbrev pub LiesBefore : ℕ × (ℕ × ℕ) → ℕ × (ℕ × ℕ) → Type 0
+LiesBefore a b = (a.0 < b.0) ⊎ ((a.0 ≡ b.0) × ((a.1.0 < b.1.0) ⊎ ((a.1.0 ≡ b.1.0) × (a.1.1 < b.1.1))))
 
 -- two cells at one place are one
 abbrev pub PlacesApart : Type 0
@@ -43,4 +43,4 @@ PlacesApart = (nodes cores : ℕ) (cell other : CellId) → IsCell nodes cores c
 
 -- Places ascend in the order of the cells.
 abbrev pub PlacesAscend : Type 0
-PlacesAscend = (nodes cores : ℕ) (cell other : CellId) → IsCell nodes cores cell → IsCell nodes cores other → IsCellBefore (cell_order cell) (cell_order other) → cell_place nodes cell < cell_place nodes other
+PlacesAscend = (nodes cores : ℕ) (cell other : CellId) → IsCell nodes cores cell → IsCell nodes cores other → LiesBefore (cell_order cell) (cell_order other) → cell_place nodes cell < cell_place nodes other

@@ -6,6 +6,7 @@ mod cell;
 mod cell_id;
 mod fact;
 mod file_table;
+mod holding;
 pub mod laws;
 
 pub use bucket::Bucket;
@@ -13,3 +14,4 @@ pub use cell::{Cell, FileCell, PartCell, Pending, TreeLock};
 pub use cell_id::CellId;
 pub use fact::{Fact, HeldNode};
 pub use file_table::{FileTable, Given};
+pub use holding::{FileCore, FileShared, has_inode, hold_cells, replace_value, value_of};

@@ -21,7 +21,7 @@ use Rattle.stamp_table.specs.Rule.{Kept, entries_by}
 use Rattle.stamp_table.specs.Steps.{gathered, spent}
 use Rattle.stamp_table.specs.Events.{event_core, is_call, calls_in, IsLawful, stands_for, NO_TREE}
 use Rattle.stamp_table.specs.Answered.{unanswered, AreCallsOf}
-use Rattle.stamp_table.specs.Table.{mine_of, entries_of}
+use Rattle.stamp_table.specs.Table.{mine_of, answered_entries}
 use Rattle.stamp_table.specs.Hand.{Hand, IsCore, empty_slots, places_of}
 use Rattle.stamp_table.proofs.Answered.{legal_answered}
 use Rattle.stamp_table.proofs.Refilling.{AreOfCores, AreOwnOf, IsFilled, fills}
@@ -77,7 +77,7 @@ legal_cores : (tree : TreeState) (stamp : ℕ) (history : List Entry) → IsLega
 legal_cores tree stamp [] legal = tt
 legal_cores tree stamp (entry ∷ history) legal = (legal.0.core, subst (λ n. AreOfCores n history) (cores_after tree entry.core.0 entry.call) (legal_cores (tree_after_entry tree entry) (suc stamp) history legal.1))
 
-entries_there : {C X : Type 0} (hands : List (Hand C X)) (parts : List (Vec Entry Global)) (core : ℕ) (hand : Hand C X) → map (λ p. p.items) parts ≡ map entries_of hands → slice_get hands core ≡ Some hand → entries_at parts core ≡ hand.entries
+entries_there : {C X : Type 0} (hands : List (Hand C X)) (parts : List (Vec Entry Global)) (core : ℕ) (hand : Hand C X) → map (λ p. p.items) parts ≡ map answered_entries hands → slice_get hands core ≡ Some hand → entries_at parts core ≡ hand.entries
 entries_there [] parts core hand same at = absurd (cc)
 entries_there (h ∷ hands) [] core hand same at = absurd (cc)
 entries_there {C} {X} (h ∷ hands) (p ∷ parts) zero hand same at = let here : h ≡ hand = cc (at) in let first : p.items ≡ h.entries = cc (same) in first ∙ ap (λ (x : Hand C X). x.entries) here
@@ -106,7 +106,7 @@ module _ {C X : Type 0} (lawful : TreeState → List (Event X) → Type 0) (stan
   calls_few filled same = let w = calls_within log in let s = gathered_all.small in let l = length-map filled unanswered in let r = length-map (calls_in log) unanswered in let e = ap length same in omega (arith, w, s, l, r, e)
 
   -- the lists of all cores make the history
-  ends_filled : (hands : List (Hand C X)) (parts : List (Vec Entry Global)) (filled : List Entry) → map (λ p. p.items) parts ≡ map entries_of hands → length parts ≡ length first.made → length hands ≡ length first.made
+  ends_filled : (hands : List (Hand C X)) (parts : List (Vec Entry Global)) (filled : List Entry) → map (λ p. p.items) parts ≡ map answered_entries hands → length parts ≡ length first.made → length hands ≡ length first.made
       → IsFilled (length first.made) (entries_at parts) (calls_in log) filled → IsEnd first hands parts filled
   ends_filled hands parts filled same long all is =
       let legal : IsLegal first filled = legal_answered first 0 (calls_in log) filled is.same is.well gathered_all.legal_log.legal_calls in
@@ -121,10 +121,10 @@ module _ {C X : Type 0} (lawful : TreeState → List (Event X) → Type 0) (stan
   -- where all lists were gathered there is one
   pub closes : (words : List ℕ) (values : List (Option C)) (id : ℕ) (v : View TreeState (Event X)) (hands : List (Hand C X)) (parts : List (Vec Entry Global))
       → Final (Seen (Kept event_core is_call (IsLawful lawful) (stands_for stands) first) id v) words values → v.gathers ≡ true → v.lists ≡ map mine_of hands
-      → map (λ p. p.items) parts ≡ map entries_of hands → AllZip AreCallsOf (map mine_of hands) (map entries_of hands) → length hands ≡ length first.made → (history : List Entry) × IsEnd first hands parts history
+      → map (λ p. p.items) parts ≡ map answered_entries hands → AllZip AreCallsOf (map mine_of hands) (map answered_entries hands) → length hands ≡ length first.made → (history : List Entry) × IsEnd first hands parts history
   closes words values id v hands parts final does lists same are long =
       let all = ends event_core is_call (IsLawful lawful) (stands_for stands) first id v final.0 does final.1 in
-      let count : length parts ≡ length first.made = sym (length-map parts (λ p. p.items)) ∙ (ap length same ∙ (length-map hands entries_of ∙ long)) in
+      let count : length parts ≡ length first.made = sym (length-map parts (λ p. p.items)) ∙ (ap length same ∙ (length-map hands answered_entries ∙ long)) in
       let many : length v.lists ≡ length first.made = ap length lists ∙ (length-map hands mine_of ∙ long) in
       let calls : AllZip AreCallsOf v.lists (map (λ p. p.items) parts) = subst (λ (z : List (List (Event X)) × List (List Entry)). AllZip AreCallsOf z.0 z.1) (λ i. (sym lists i, sym same i)) are in
       let own = own_are lawful stands first v.lists v.cores all.0 all.1 parts calls many in

@@ -175,7 +175,7 @@ with_answer entry reply ack = record entry { reply = reply; ack = ack }
 
 module _ {C X : Type 0} where
   -- The core's last entry, which waited, has an answer. It is a fact of this core alone: the history that it has seen is as before.
-  pub record Answers (stamp : ℕ) (reply : Reply) (ack : Option ℕ) (before after : Hand C X) : Type 0 where
+  pub record GivesAnswer (stamp : ℕ) (reply : Reply) (ack : Option ℕ) (before after : Hand C X) : Type 0 where
     pub frame : record after { entries = before.entries; waiting = before.waiting } ≡ before
     pub waiting : after.waiting ≡ None
     pub answered : (front : List Entry) × (last : Entry) × (last.stamp.0 ≡ stamp) × (before.entries ≡ front ++ last ∷ []) × (after.entries ≡ front ++ with_answer last reply ack ∷ [])
@@ -224,8 +224,8 @@ module _ {C X : Type 0} where
   mine_of hand = hand.view.mine
 
   -- a core's entries, with their answers
-  abbrev pub entries_of : Hand C X → List Entry
-  entries_of hand = hand.entries
+  abbrev pub answered_entries : Hand C X → List Entry
+  answered_entries hand = hand.entries
 
   -- a core that has seen nothing yet and has no entries
   pub record IsNew (first : TreeState) (hand : Hand C X) : Type 0 where

@@ -9,7 +9,7 @@ ghost use Rattle.std.specs.List.{AllZip};
 ghost use Rattle.stamp_table.specs.Answered.{AreCallsOf};
 ghost use Rattle.stamp_table.specs.Steps.{gathered};
 ghost use Rattle.stamp_table.specs.Hand.{Hand, IsLead};
-ghost use Rattle.stamp_table.specs.Table.{AreAllCores, AreIdleFrom, first_leads, mine_of, entries_of, IsSameSeat};
+ghost use Rattle.stamp_table.specs.Table.{AreAllCores, AreIdleFrom, first_leads, mine_of, answered_entries, IsSameSeat};
 
 use crate::meaning::Gather;
 use crate::shared::CoreSeat;
@@ -65,7 +65,7 @@ fn first_lead<C: Drop, X>(cores: &mut Vec<Core<C, X>>) -> CoreSeat<C, X>
     requires { first_leads cores.old.items ≡ true }
     ensures ready { (table : TableId) (count : ℕ) → AreIdleFrom table count 0 cores.old.items → AreIdleFrom table count 0 cores.new.items × IsLead table count result }
     ensures mine { map mine_of cores.new.items ≡ map mine_of cores.old.items }
-    ensures entries { map entries_of cores.new.items ≡ map entries_of cores.old.items }
+    ensures entries { map answered_entries cores.new.items ≡ map answered_entries cores.old.items }
 {
     cores[0].take_lead()
 }
@@ -82,8 +82,8 @@ fn gather_all<C: Drop, X, M: Meaning<C, X>>(
     requires room { (parts.items ≡ []) × (length cores.items ≤ vec_capacity parts) }
     ensures lead { (result.0.table_id ≡ table.now.shared.table_id) × (result.0.me.0.gathers ≡ true) }
     ensures lists { result.0.me.0.lists ≡ map mine_of cores.items }
-    ensures parts { map (λ part. part.items) result.1.items ≡ map entries_of cores.items }
-    ensures calls { AllZip AreCallsOf (map mine_of cores.items) (map entries_of cores.items) }
+    ensures parts { map (λ part. part.items) result.1.items ≡ map answered_entries cores.items }
+    ensures calls { AllZip AreCallsOf (map mine_of cores.items) (map answered_entries cores.items) }
 {
     let mut lead = first_lead(&mut cores);
     for core in cores {

@@ -5,7 +5,7 @@ ghost use Rattle.stamp_table.specs.Answered.{waits_for_answer};
 ghost use Rattle.stamp_table.specs.declared.held.HeldCell.{HeldCell};
 ghost use Rattle.stamp_table.specs.Hand.{places_of};
 ghost use Rattle.stamp_table.specs.Ascending.{LiesAbove, AreBelow, RiseAbove};
-ghost use Rattle.stamp_table.specs.Table.{HoldsMore, HoldsAll, MayCall, MayTell, Stamps, TellsFact, Answers, LetsGo, Stands, OfLast, EachFrom, begins_from, left_below};
+ghost use Rattle.stamp_table.specs.Table.{HoldsMore, HoldsAll, MayCall, MayTell, Stamps, TellsFact, GivesAnswer, LetsGo, Stands, OfLast, EachFrom, begins_from, left_below};
 
 use crate::shared::CoreSeat;
 use crate::{HeldCell, Meaning, Shared};
@@ -160,7 +160,7 @@ impl<C: Drop, X> Core<C, X> {
         requires waits { self.old.waiting ≡ Some stamp.0 }
         requires reply { IsFsyncReply reply }
         requires acknowledged { IsSome ack ↔ IsTrue (is_ok_reply reply) }
-        ensures { Answers stamp.0 reply ack self.old self.new }
+        ensures { GivesAnswer stamp.0 reply ack self.old self.new }
     {
         let Some(
             Entry {
