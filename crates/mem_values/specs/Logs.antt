@@ -37,13 +37,13 @@ abbrev pub birthplace : TreeState → List Entry → ℕ → Option ℕ
 birthplace first history node = option_map (λ birth. birth.directory) (find (λ birth. birth.node == node) (births_of first history))
 
 -- the blocks that an edit touches in a file of so many bytes
-abbrev pub touched_by : Edit → ℕ → Touched
-touched_by (Puts at bytes) before = write_touches at (length bytes)
-touched_by (Resizes size) before = trunc_touches size before
+abbrev pub edit_touches : Edit → ℕ → Touched
+edit_touches (Puts at bytes) before = write_touches at (length bytes)
+edit_touches (Resizes size) before = trunc_touches size before
 
 -- whether an effect touches a block of a file of so many bytes
 abbrev pub touches_block : Effect → ℕ → ℕ → ℕ → Bool
-touches_block (Edits file edit) node block before = (file == node) && is_touched (touched_by edit before) block
+touches_block (Edits file edit) node block before = (file == node) && is_touched (edit_touches edit before) block
 touches_block _ node block before = false
 
 -- the stamp of the last entry that touches a block of a file, this one where no entry does

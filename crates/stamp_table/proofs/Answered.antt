@@ -12,7 +12,7 @@ use Rattle.sfs_tree.specs.declared.call.Call.TheVariants as call
 use Rattle.sfs_tree.specs.declared.reply.Reply.{Reply}
 use Rattle.sfs_tree.specs.declared.reply.Reply.TheVariants as reply
 use Rattle.sfs_tree.specs.declared.history.Entry.{Entry}
-use Rattle.stamp_table.specs.Answered.{is_fsync, is_refusal, is_want, is_served, without_answer, unanswered, IsWellAnswered, AreWellAnswered, waits_for_answer}
+use Rattle.stamp_table.specs.Answered.{asks_fsync, is_refusal, is_want, is_served, without_answer, unanswered, IsWellAnswered, AreWellAnswered, waits_for_answer}
 use Rattle.stamp_table.specs.Table.{with_answer}
 
 left_true : (a b : Bool) → (a && b) ≡ true → a ≡ true
@@ -29,7 +29,7 @@ pub record IsSameCall (r h : Entry) : Type 0 where
 
 -- what has want of memory in place of its answer is served where its call is an fsync
 masked_served : (e : Entry) → is_served e ≡ true → is_served (without_answer e) ≡ true
-masked_served e served = rw (left_true (is_fsync e.call) (not (is_refusal e.reply)) served) refl
+masked_served e served = rw (left_true (asks_fsync e.call) (not (is_refusal e.reply)) served) refl
 
 same_masked : (r h : Entry) → is_served r ≡ true → is_served h ≡ true → without_answer r ≡ without_answer h → IsSameCall r h
 same_masked r h mine other same = record {
@@ -60,7 +60,7 @@ pub same_call : (r h : Entry) → unanswered r ≡ unanswered h → IsSameCall r
 same_call r h same = same_by r h (is_served r) (is_served h) refl refl same
 
 -- an fsync that flushes nothing is refused
-refused_flush : (tree : TreeState) (core : ℕ) (c : Call) → is_fsync c ≡ true → flushes tree c ≡ false → is_refusal (verdict tree core c).reply ≡ true
+refused_flush : (tree : TreeState) (core : ℕ) (c : Call) → asks_fsync c ≡ true → flushes tree c ≡ false → is_refusal (verdict tree core c).reply ≡ true
 refused_flush tree core (call.Look directory name) is not = absurd (cc)
 refused_flush tree core (call.Make directory name kind) is not = absurd (cc)
 refused_flush tree core (call.Link file directory name) is not = absurd (cc)
@@ -81,8 +81,8 @@ right_true false b is = absurd (cc)
 -- where its node is not alive an entry that may come was refused
 refused : (tree : TreeState) (stamp : ℕ) (entry : Entry) → MayCome tree stamp entry → flushes tree entry.call ≡ false → is_served entry ≡ true → ⊥
 refused tree stamp entry may is served =
-    let asks : is_fsync entry.call ≡ true = left_true (is_fsync entry.call) (not (is_refusal entry.reply)) served in
-    let kept : not (is_refusal entry.reply) ≡ true = right_true (is_fsync entry.call) (not (is_refusal entry.reply)) served in
+    let asks : asks_fsync entry.call ≡ true = left_true (asks_fsync entry.call) (not (is_refusal entry.reply)) served in
+    let kept : not (is_refusal entry.reply) ≡ true = right_true (asks_fsync entry.call) (not (is_refusal entry.reply)) served in
     let due : entry.reply ≡ (verdict tree entry.core.0 entry.call).reply = subst (λ b. IsDue b (verdict tree entry.core.0 entry.call).reply entry.reply) is may.due in
     both_ways (is_refusal entry.reply) (not-true (is_refusal entry.reply) kept) (ap is_refusal due ∙ refused_flush tree entry.core.0 entry.call asks is)
 
@@ -100,7 +100,7 @@ last_comes_well tree stamp [] entry legal = comes_well tree stamp entry legal.0
 last_comes_well tree stamp (first ∷ history) entry legal = last_comes_well (tree_after_entry tree first) (suc stamp) history entry legal.1
 
 -- a call that flushes is an fsync
-flushes_fsync : (tree : TreeState) (c : Call) → flushes tree c ≡ true → is_fsync c ≡ true
+flushes_fsync : (tree : TreeState) (c : Call) → flushes tree c ≡ true → asks_fsync c ≡ true
 flushes_fsync tree (call.Look directory name) is = absurd (cc)
 flushes_fsync tree (call.Make directory name kind) is = absurd (cc)
 flushes_fsync tree (call.Link file directory name) is = absurd (cc)
@@ -188,8 +188,8 @@ pub record IsAnsweredAs (last : Entry) (answer : Entry) : Type 0 where
 
 pub answered_well : (last : Entry) (reply : Reply) (ack : Option ℕ) → waits_for_answer last.call last.reply ≡ true → IsFsyncReply reply → (IsSome ack ↔ IsTrue (is_ok_reply reply)) → IsAnsweredAs last (with_answer last reply ack)
 answered_well last reply ack waits may acknowledged =
-    let asks : is_fsync last.call ≡ true = left_true (is_fsync last.call) (is_want last.reply) waits in
-    let want : is_want last.reply ≡ true = right_true (is_fsync last.call) (is_want last.reply) waits in
+    let asks : asks_fsync last.call ≡ true = left_true (asks_fsync last.call) (is_want last.reply) waits in
+    let want : is_want last.reply ≡ true = right_true (asks_fsync last.call) (is_want last.reply) waits in
     let served : is_served last ≡ true = rw (asks, want_serves last.reply want) refl in
     let serves : is_served (with_answer last reply ack) ≡ true = rw (asks, fsync_reply_serves reply may) refl in
     record { same = rw (served, serves) refl; well = λ _. (may, acknowledged) }

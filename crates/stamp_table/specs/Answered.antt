@@ -10,9 +10,9 @@ use Rattle.stamp_table.specs.declared.event.Event.{Event}
 use Rattle.stamp_table.specs.Events.{calls_in}
 
 -- whether a call is an fsync
-abbrev pub is_fsync : Call → Bool
-is_fsync (call.Fsync node) = true
-is_fsync _ = false
+abbrev pub asks_fsync : Call → Bool
+asks_fsync (call.Fsync node) = true
+asks_fsync _ = false
 
 -- whether a reply is an error
 abbrev pub is_refusal : Reply → Bool
@@ -26,7 +26,7 @@ is_want _ = false
 
 -- whether an entry is an fsync that was not refused
 abbrev pub is_served : Entry → Bool
-is_served entry = is_fsync entry.call && not (is_refusal entry.reply)
+is_served entry = asks_fsync entry.call && not (is_refusal entry.reply)
 
 -- an entry with want of memory in place of its answer
 abbrev pub without_answer : Entry → Entry
@@ -53,4 +53,4 @@ pub record AreCallsOf {X : Type 0} (mine : List (Event X)) (entries : List Entry
 
 -- whether a call with this reply waits for its answer: it is an fsync with want of memory
 abbrev pub waits_for_answer : Call → Reply → Bool
-waits_for_answer call reply = is_fsync call && is_want reply
+waits_for_answer call reply = asks_fsync call && is_want reply
