@@ -16,6 +16,9 @@ use std::thread::{Threads, join};
 // How often a core looks for the other one while it is inside.
 const TURNS: u64 = 10_000_000;
 
+// How often each core counts.
+const CALLS: u32 = 200_000;
+
 // Each value stands for whatever the calls leave.
 struct Anything;
 
@@ -155,17 +158,65 @@ fn counted<R: Threads + Wait + Sync>(
     }
 }
 
+// Each call of each of so many cores is in the history once.
+fn are_all_counted<R: Threads + Wait + Sync>(
+    rt: &R,
+    alloc: Global,
+    cores: u8,
+    apart: bool,
+) -> Result<bool, Fail>
+    requires { (0 < cores) × (cores ≤ 8) }
+{
+    let done = counted(rt, alloc, cores, apart, CALLS).ok().ok_or("memory")?;
+    Ok(done == CALLS as u64 * cores as u64)
+}
+
 #[test]
-fn each_call_of_each_core_is_in_the_history_once(rt: HostRuntime) -> Result<(), Fail> {
-    let alloc = rt.alloc();
-    for cores in [1u8, 2, 4, 8] {
-        for apart in [true, false] {
-            let done = counted(&rt, alloc, cores, apart, 200_000)
-                .ok()
-                .ok_or("memory")?;
-            assert_eq!(rt; done, 200_000 * cores as u64);
-        }
-    }
+fn one_core_counts(rt: HostRuntime) -> Result<(), Fail> {
+    let counted = are_all_counted(&rt, rt.alloc(), 1, true)?;
+    assert!(rt; counted);
+    Ok(())
+}
+
+#[test]
+fn two_cores_count_apart(rt: HostRuntime) -> Result<(), Fail> {
+    let counted = are_all_counted(&rt, rt.alloc(), 2, true)?;
+    assert!(rt; counted);
+    Ok(())
+}
+
+#[test]
+fn two_cores_count_in_one_cell(rt: HostRuntime) -> Result<(), Fail> {
+    let counted = are_all_counted(&rt, rt.alloc(), 2, false)?;
+    assert!(rt; counted);
+    Ok(())
+}
+
+#[test]
+fn four_cores_count_apart(rt: HostRuntime) -> Result<(), Fail> {
+    let counted = are_all_counted(&rt, rt.alloc(), 4, true)?;
+    assert!(rt; counted);
+    Ok(())
+}
+
+#[test]
+fn four_cores_count_in_one_cell(rt: HostRuntime) -> Result<(), Fail> {
+    let counted = are_all_counted(&rt, rt.alloc(), 4, false)?;
+    assert!(rt; counted);
+    Ok(())
+}
+
+#[test]
+fn eight_cores_count_apart(rt: HostRuntime) -> Result<(), Fail> {
+    let counted = are_all_counted(&rt, rt.alloc(), 8, true)?;
+    assert!(rt; counted);
+    Ok(())
+}
+
+#[test]
+fn eight_cores_count_in_one_cell(rt: HostRuntime) -> Result<(), Fail> {
+    let counted = are_all_counted(&rt, rt.alloc(), 8, false)?;
+    assert!(rt; counted);
     Ok(())
 }
 
