@@ -16,8 +16,8 @@ use std::thread::{Threads, join};
 // How often a core looks for the other one while it is inside.
 const TURNS: u64 = 10_000_000;
 
-// How often each core counts.
-const CALLS: u32 = 200_000;
+// How often all cores together count.
+const CALLS: u64 = 200_000;
 
 // Each value stands for whatever the calls leave.
 struct Anything;
@@ -158,64 +158,65 @@ fn counted<R: Threads + Wait + Sync>(
     }
 }
 
-// Each call of each of so many cores is in the history once.
+// Whether each call of each of so many cores is in the history once, where each counts so often.
 fn are_all_counted<R: Threads + Wait + Sync>(
     rt: &R,
     alloc: Global,
     cores: u8,
     apart: bool,
+    rounds: u32,
 ) -> Result<bool, Fail>
     requires { (0 < cores) × (cores ≤ 8) }
 {
-    let done = counted(rt, alloc, cores, apart, CALLS).ok().ok_or("memory")?;
-    Ok(done == CALLS as u64 * cores as u64)
+    let done = counted(rt, alloc, cores, apart, rounds).ok().ok_or("memory")?;
+    Ok(done == CALLS)
 }
 
 #[test]
 fn one_core_counts(rt: HostRuntime) -> Result<(), Fail> {
-    let counted = are_all_counted(&rt, rt.alloc(), 1, true)?;
+    let counted = are_all_counted(&rt, rt.alloc(), 1, true, 200_000)?;
     assert!(rt; counted);
     Ok(())
 }
 
 #[test]
 fn two_cores_count_apart(rt: HostRuntime) -> Result<(), Fail> {
-    let counted = are_all_counted(&rt, rt.alloc(), 2, true)?;
+    let counted = are_all_counted(&rt, rt.alloc(), 2, true, 100_000)?;
     assert!(rt; counted);
     Ok(())
 }
 
 #[test]
 fn two_cores_count_in_one_cell(rt: HostRuntime) -> Result<(), Fail> {
-    let counted = are_all_counted(&rt, rt.alloc(), 2, false)?;
+    let counted = are_all_counted(&rt, rt.alloc(), 2, false, 100_000)?;
     assert!(rt; counted);
     Ok(())
 }
 
 #[test]
 fn four_cores_count_apart(rt: HostRuntime) -> Result<(), Fail> {
-    let counted = are_all_counted(&rt, rt.alloc(), 4, true)?;
+    let counted = are_all_counted(&rt, rt.alloc(), 4, true, 50_000)?;
     assert!(rt; counted);
     Ok(())
 }
 
 #[test]
 fn four_cores_count_in_one_cell(rt: HostRuntime) -> Result<(), Fail> {
-    let counted = are_all_counted(&rt, rt.alloc(), 4, false)?;
+    let counted = are_all_counted(&rt, rt.alloc(), 4, false, 50_000)?;
     assert!(rt; counted);
     Ok(())
 }
 
 #[test]
 fn eight_cores_count_apart(rt: HostRuntime) -> Result<(), Fail> {
-    let counted = are_all_counted(&rt, rt.alloc(), 8, true)?;
+    let counted = are_all_counted(&rt, rt.alloc(), 8, true, 25_000)?;
     assert!(rt; counted);
     Ok(())
 }
 
 #[test]
 fn eight_cores_count_in_one_cell(rt: HostRuntime) -> Result<(), Fail> {
-    let counted = are_all_counted(&rt, rt.alloc(), 8, false)?;
+    let counted = are_all_counted(&rt, rt.alloc(), 8, false, 25_000)?;
     assert!(rt; counted);
     Ok(())
 }
