@@ -168,7 +168,9 @@ fn are_all_counted<R: Threads + Wait + Sync>(
 ) -> Result<bool, Fail>
     requires { (0 < cores) × (cores ≤ 8) }
 {
-    let done = counted(rt, alloc, cores, apart, rounds).ok().ok_or("memory")?;
+    let done = counted(rt, alloc, cores, apart, rounds)
+        .ok()
+        .ok_or("memory")?;
     Ok(done == CALLS)
 }
 
