@@ -25,16 +25,14 @@ fn cut(gathered: &Gathered, node: u32) -> u64 {
 }
 
 #[test]
-fn nodes_are_known_by_cut_birth_and_inode(rt: HostRuntime) -> Result<(), Fail> {
+fn nodes_are_known_by_cut_and_inode(rt: HostRuntime) -> Result<(), Fail> {
     let alloc = rt.alloc();
     let mut nodes = known(alloc)?;
-    nodes.reserve_birth()?;
-    nodes.add_birth(NodeId(64), NodeId(0));
     nodes.reserve(2)?;
     nodes.raise(&[NodeId(0), NodeId(64)], Stamp(3));
     nodes.set_inode(NodeId(64), true);
     let gathered = nodes.lend(alloc, LogList::new(alloc));
-    assert_eq!(rt; gathered.births.len(), 1);
+    assert_eq!(rt; gathered.births.len(), 0);
     assert_eq!(rt; cut(&gathered, 0), 3);
     assert_eq!(rt; cut(&gathered, 64), 3);
     assert_eq!(rt; cut(&gathered, 65), 0);
