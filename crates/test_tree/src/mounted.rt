@@ -1,4 +1,6 @@
 // What a mount keeps in memory: what it knows of its nodes, and their files.
+ghost use Rattle.std.specs.Prelude.{◌≡◌, [], IfOk};
+
 use dep_closure::{Gathered, LogList};
 use file_table::FileTable;
 use mem_files::FileBytes;
@@ -8,7 +10,9 @@ use std::alloc::Global;
 use std::test::Fail;
 
 // Nodes with these inodes, which ascend.
-fn known(alloc: Global) -> Result<KnownNodes, Fail> {
+fn known(alloc: Global) -> Result<KnownNodes, Fail>
+    ensures { IfOk result (λ nodes. nodes.births ≡ []) }
+{
     let mut inodes = Vec::new(alloc);
     inodes.push(NodeId(0))?;
     Ok(KnownNodes::new(alloc, inodes))
@@ -25,14 +29,16 @@ fn cut(gathered: &Gathered, node: u32) -> u64 {
 }
 
 #[test]
-fn nodes_are_known_by_cut_and_inode(rt: HostRuntime) -> Result<(), Fail> {
+fn nodes_are_known_by_cut_birth_and_inode(rt: HostRuntime) -> Result<(), Fail> {
     let alloc = rt.alloc();
     let mut nodes = known(alloc)?;
+    nodes.reserve_birth()?;
+    nodes.add_birth(NodeId(64), NodeId(0));
     nodes.reserve(2)?;
     nodes.raise(&[NodeId(0), NodeId(64)], Stamp(3));
     nodes.set_inode(NodeId(64), true);
     let gathered = nodes.lend(alloc, LogList::new(alloc));
-    assert_eq!(rt; gathered.births.len(), 0);
+    assert_eq!(rt; gathered.births.len(), 1);
     assert_eq!(rt; cut(&gathered, 0), 3);
     assert_eq!(rt; cut(&gathered, 64), 3);
     assert_eq!(rt; cut(&gathered, 65), 0);
