@@ -1,10 +1,8 @@
 -- What a reply tells of what a call logs.
 use Prim.Native.Nat.{zero}
-use Rattle.std.proofs.Common.{◌≡◌, ℕ, suc, ◌+◌, ◌<◌, ◌==◌, not, nat_lt, true, false, Bool, List, [], ◌∷◌, ◌++◌, length, map, take, drop, set, get_or, Option, Some, None, if◌then◌else◌, refl, sym, ap, ◌∙◌, subst, arith, eq-eqb}
-use Rattle.sfs_base.specs.declared.numbers.NodeId.{NodeId}
+use Rattle.std.proofs.Common.{◌≡◌, ℕ, suc, ◌+◌, ◌<◌, ◌==◌, not, nat_lt, true, false, Bool, List, [], ◌∷◌, ◌++◌, length, map, take, drop, set, get_or, Option, Some, None, if◌then◌else◌, refl, sym, ap, ◌∙◌, arith, eq-eqb}
 use Rattle.sfs_base.specs.declared.numbers.Kind.{Kind}
 use Rattle.std.specs.Option.{option_or}
-use Rattle.sfs_tree.specs.declared.call.Call.{Call}
 use Rattle.sfs_tree.specs.declared.call.Call.TheVariants as call
 use Rattle.sfs_tree.specs.declared.changes.Change.{Change}
 use Rattle.sfs_tree.specs.declared.changes.Act.TheVariants.{Add}
@@ -12,11 +10,11 @@ use Rattle.sfs_tree.specs.declared.reply.Code.{Code}
 use Rattle.sfs_tree.specs.declared.reply.Code.TheVariants.{NoEntry, NotDir, NotEmpty, NotPermitted, FileTooBig}
 use Rattle.sfs_tree.specs.declared.reply.Reply.TheVariants as reply
 use Rattle.sfs_tree.specs.Tree.{TreeState, row_of, kind_of, is_directory, is_alive, next_number, row_count}
-use Rattle.sfs_tree.specs.Effect.{Effect, Stays, Adds, Removes, Moves, Edits, Puts, Resizes}
-use Rattle.sfs_tree.specs.Verdict.{Verdict, LARGEST_FILE, verdict, or_else, refused, directory_fault, file_fault, node_fault, make_fault, make_node, link_fault, unlink_row, rmdir_row, move_row, move_fault, names_child, done, answered, look_row, read_bytes, write_bytes, trunc_file}
+use Rattle.sfs_tree.specs.Effect.{Adds, Removes, Moves, Edits, Puts, Resizes}
+use Rattle.sfs_tree.specs.Verdict.{Verdict, LARGEST_FILE, or_else, refused, directory_fault, file_fault, node_fault, make_fault, make_node, link_fault, unlink_row, rmdir_row, move_row, move_fault, names_child, done, answered, look_row, read_bytes, write_bytes, trunc_file}
 use Rattle.sfs_tree.specs.Logged.{log_entry, logged_by}
 use Rattle.sfs_tree.proofs.Fitting.{neither}
-use Rattle.call_log.specs.Foreseen.{IsForeseen, logged_after, change_of_node, removal_foreseen, move_foreseen}
+use Rattle.call_log.specs.Foreseen.{logged_after, change_of_node, removal_foreseen, move_foreseen}
 use Rattle.call_log.specs.Laws.{ForeseenIsLogged}
 
 -- changing the next one of a list in its place
@@ -93,7 +91,8 @@ foreseen_is_logged tree core stamp (call.Rmdir directory name) changes is =
 foreseen_is_logged tree core stamp (call.Rename directory name to_directory to_name) changes is =
     refused_or tree core stamp changes (option_or (directory_fault tree directory.0) (directory_fault tree to_directory.0)) (move_row tree directory.0 name to_directory.0 to_name (row_of tree directory.0 name))
     (λ none. moved tree core stamp changes directory.0 name to_directory.0 to_name (row_of tree directory.0 name)
-    (is (no_fault (is_alive tree to_directory.0) (is_directory tree to_directory.0) (neither (directory_fault tree directory.0) (directory_fault tree to_directory.0) none).1)))
+    (is ∙ ap (λ b. if b then move_foreseen tree stamp directory.0 name to_directory.0 to_name (row_of tree directory.0 name) else [])
+    (no_fault (is_alive tree to_directory.0) (is_directory tree to_directory.0) (neither (directory_fault tree directory.0) (directory_fault tree to_directory.0) none).1)))
 foreseen_is_logged tree core stamp (call.Write file at bytes) changes is =
     refused_or tree core stamp changes (file_fault tree file.0) (write_bytes file.0 at bytes) (λ none. one_of_two tree core stamp changes (length bytes == 0) (answered reply.Ok) (if nat_lt LARGEST_FILE (at + length bytes) then refused FileTooBig else done (Edits file.0 (Puts at bytes))) is
     (one_of_two tree core stamp changes (nat_lt LARGEST_FILE (at + length bytes)) (refused FileTooBig) (done (Edits file.0 (Puts at bytes))) refl is))

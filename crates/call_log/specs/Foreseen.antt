@@ -1,7 +1,5 @@
 -- The changes of rows that a call logs where nothing refuses it, as far as they are known before it is made.
-use Rattle.std.specs.Prelude.{◌≡◌, ℕ, true, List, [], ◌∷◌, Option, Some, None, map, if◌then◌else◌}
-use Rattle.sfs_base.specs.declared.numbers.Kind.{Kind}
-use Rattle.sfs_base.specs.declared.numbers.Kind.TheVariants.{File}
+use Rattle.std.specs.Prelude.{◌≡◌, ℕ, List, [], ◌∷◌, Option, Some, None, map, if◌then◌else◌}
 use Rattle.sfs_base.specs.declared.numbers.NodeId.{NodeId}
 use Rattle.sfs_tree.specs.declared.call.Call.{Call}
 use Rattle.sfs_tree.specs.declared.call.Call.TheVariants as call
@@ -11,7 +9,7 @@ use Rattle.sfs_tree.specs.declared.changes.Act.TheVariants.{Add}
 use Rattle.sfs_tree.specs.declared.changes.Change.{Change}
 use Rattle.sfs_tree.specs.Tree.{TreeState, row_of, kind_of, is_directory}
 use Rattle.sfs_tree.specs.Effect.{Removes, Moves}
-use Rattle.sfs_tree.specs.Verdict.{verdict, names_child}
+use Rattle.sfs_tree.specs.Verdict.{names_child}
 use Rattle.sfs_tree.specs.Logged.{log_entry, logged_by}
 
 -- the row that a removal takes away, where there is one
@@ -26,14 +24,14 @@ move_foreseen tree stamp directory name to_directory to_name (Some child) =
     if names_child (row_of tree to_directory to_name) child then [] else
     logged_by tree 0 stamp (Moves directory name to_directory to_name child) None
 
--- What a call will log at a stamp: a node that it makes has the number 0 as yet. Of a rename into what is no directory nothing is said.
+-- What a call will log at a stamp: a node that it makes has the number 0 as yet. A rename into what is no directory will log nothing.
 abbrev pub IsForeseen : TreeState → ℕ → Call → List Change → Type 0
 IsForeseen tree stamp (call.Make directory name kind) changes = changes ≡ log_entry stamp directory.0 name 0 kind Add None [] ∷ []
 IsForeseen tree stamp (call.Link file directory name) changes = changes ≡ log_entry stamp directory.0 name file.0 (kind_of tree file.0) Add None [] ∷ []
 IsForeseen tree stamp (call.Unlink directory name) changes = changes ≡ removal_foreseen tree stamp directory.0 name (row_of tree directory.0 name)
 IsForeseen tree stamp (call.Rmdir directory name) changes = changes ≡ removal_foreseen tree stamp directory.0 name (row_of tree directory.0 name)
 IsForeseen tree stamp (call.Rename directory name to_directory to_name) changes =
-    is_directory tree to_directory.0 ≡ true → changes ≡ move_foreseen tree stamp directory.0 name to_directory.0 to_name (row_of tree directory.0 name)
+    changes ≡ (if is_directory tree to_directory.0 then move_foreseen tree stamp directory.0 name to_directory.0 to_name (row_of tree directory.0 name) else [])
 IsForeseen tree stamp _ changes = changes ≡ []
 
 -- a change of the node that a reply tells

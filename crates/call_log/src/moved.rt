@@ -1,5 +1,5 @@
 // The rows that a rename changes.
-ghost use Rattle.std.specs.Prelude.{◌≡◌, [], ◌≤◌, None, true, IfOk, option_map};
+ghost use Rattle.std.specs.Prelude.{◌≡◌, [], ◌≤◌, None, true, IfOk, option_map, if◌then◌else◌};
 ghost use Rattle.sfs_tree.specs.Sound.{IsSound};
 ghost use Rattle.sfs_tree.specs.Tree.{row_of, kind_of, is_directory};
 ghost use Rattle.sfs_tree.specs.Changes.{other_side};
@@ -13,8 +13,8 @@ use sfs_base::{Kind, Name, NoMemory, NodeId, RoomyList, Stamp};
 use sfs_tree::{Act, Ancestors, Change, Changes, Tree};
 use std::alloc::Global;
 
-/// The rows that a rename from one place to another changes, where the latter's directory is one: what it
-/// replaces goes, the old row goes, and the new row comes.
+/// The rows that a rename from one place to another changes: what it replaces goes, the old row goes, and
+/// the new row comes. There are none where the latter's directory is no directory.
 pub(crate) fn moved_rows(
     alloc: Global,
     tree: &Tree,
@@ -23,8 +23,9 @@ pub(crate) fn moved_rows(
     to: (NodeId, &Name),
 ) -> Result<Changes, NoMemory>
     requires { IsSound tree.now }
-    ensures { IfOk result (λ changes. is_directory tree.now to.entry.0.0 ≡ true
-        → changes.items ≡ move_foreseen tree.now stamp.0 from.entry.0.0 from.entry.1.now to.entry.0.0 to.entry.1.now (row_of tree.now from.entry.0.0 from.entry.1.now)) }
+    ensures { IfOk result (λ changes. changes.items ≡ (if is_directory tree.now to.entry.0.0
+        then move_foreseen tree.now stamp.0 from.entry.0.0 from.entry.1.now to.entry.0.0 to.entry.1.now (row_of tree.now from.entry.0.0 from.entry.1.now)
+        else [])) }
 {
     let Some(child) = tree.child(from.0, from.1) else {
         return Ok(Changes::new(alloc));

@@ -49,9 +49,10 @@ pub record IsMomentOf (job : Job) (parts : ℕ → Part) (new : List InodePart) 
   pub opening : k ≤ durable_at began job → IsBefore job parts image ⊎ IsByItsSlot job parts new image
   pub durable : durable_at began job < k → IsByItsSlot job parts new image ⊎ IsAfter job parts new image
 
--- A commit is carried: what a crash leaves at each moment of it, whether it ends or fails; and once it has ended, a crash at the moment at
--- which it was durable leaves the new parts, and one from then on leaves them in the table.
+-- A commit is carried: what a read gives is told where it was; what a crash leaves at each moment of it, whether it ends or fails; and once it
+-- has ended, a crash at the moment at which it was durable leaves the new parts, and one from then on leaves them in the table.
 pub record Carries {V E : Type 0} (job : Job) (parts : ℕ → Part) (new : List InodePart) (old now : View) (result : Result V E) : Type 0 where
+  pub told : GoesOnTelling old now
   pub each_moment : (content : List ℕ) → old.content ≡ Some content → CountsOn now → EachMoment old now (IsMomentOf job parts new old.now)
   pub acknowledged : OnOk result ((content : List ℕ) → old.content ≡ Some content → CountsOn now
       → (image : List ℕ) → now.crash_images (durable_at old.now job) image → IsByItsSlot job parts new image)

@@ -11,6 +11,7 @@ use Rattle.sfs_image.specs.Super.{Layout}
 use Rattle.disk_tree.specs.First.{IsFirst, NonePasses}
 use Rattle.disk_tree.specs.Inodes.{inode_at, breaks_size_by, SoundRecords, IsMalformed, HaveRecords, KeepRecordRules}
 use Rattle.disk_tree.specs.Judged.{AreReadParts, Refused, IsRefusal}
+use Rattle.disk_tree.specs.Whole.{IsWholeRecord, WholeRecords}
 use Rattle.disk_tree.specs.declared.fault.TreeFault.{TreeFault}
 use Rattle.disk_tree.specs.declared.fault.TreeFault.TheVariants.{DiskFailed, BadImage, NoMemory}
 use Rattle.disk_tree.proofs.Refusals.{store_of, unread_is_read, refused_at, byte_rule, breaks_of}
@@ -109,15 +110,27 @@ malformed_refusal layout records (BadImage inode rule) count is = λ told. malfo
 malformed_refusal layout records NoMemory count is = tt
 malformed_refusal layout records DiskFailed count is = is
 
-pub record_rules_kept : (layout : Layout) (records : List (List ℕ)) → SoundRecords layout.inodes records → (inode_of (slice_index_or records 0 [])).kind ≡ 2 →
+pub record_rules_kept : (layout : Layout) (records : List (List ℕ)) → WholeRecords layout.inodes records → SoundRecords layout.inodes records
+    → (inode_of (slice_index_or records 0 [])).kind ≡ 2 →
     NonePasses layout.inodes (λ i. breaks_size_by (inode_of (slice_index_or records i []))) → KeepRecordRules layout records
-record_rules_kept layout records sound root sizes = record { sound = sound; keep = λ parts have. keep_three layout records parts have sound root sizes }
+record_rules_kept layout records whole sound root sizes = record {
+  whole = whole;
+  sound = sound;
+  keep = λ parts have. keep_three layout records parts have sound root sizes;
+}
 
 -- one more record that is not malformed
 pub sound_more : (n : ℕ) (records : List (List ℕ)) → SoundRecords n records → inode_fault (slice_index_or records n []) ≡ None → SoundRecords (n + 1) records
 sound_more n records before here i less = elim (cases_lt i n) [
   | inl below ↦ before i below
   | inr last ↦ (let same : n ≡ i = omega arith in subst (λ (k : ℕ). inode_fault (slice_index_or records k []) ≡ None) same here)
+]
+
+-- one more record that is whole
+pub whole_more : (n : ℕ) (records : List (List ℕ)) → WholeRecords n records → IsWholeRecord (slice_index_or records n []) → WholeRecords (n + 1) records
+whole_more n records before here i less = elim (cases_lt i n) [
+  | inl below ↦ before i below
+  | inr last ↦ (let same : n ≡ i = omega arith in subst (λ (k : ℕ). IsWholeRecord (slice_index_or records k [])) same here)
 ]
 
 -- what the inodes say of the records from which they were decoded
@@ -146,10 +159,16 @@ module _ (layout : Layout) (records : List (List ℕ)) (inodes : List Inode) (co
   pub sound_all : SoundRecords (length records) records → SoundRecords layout.inodes records
   sound_all sound i within = sound i (omega arith)
 
+  pub whole_all : WholeRecords (length records) records → WholeRecords layout.inodes records
+  whole_all whole i within = whole i (omega arith)
+
 -- one more record that is decoded
 module _ (records seen : List (List ℕ)) (same : seen ≡ records) (n : ℕ) (d : List ℕ) (within : n < length seen) where
   pub fault_read : inode_fault (get_or seen n d) ≡ None → inode_fault (slice_index_or records n []) ≡ None
   fault_read none = ap (λ (xs : List (List ℕ)). inode_fault (slice_index_or xs n [])) (sym same) ∙ ap inode_fault (sym (get_or_default seen n d [] within)) ∙ none
+
+  pub whole_read : IsWholeRecord (get_or seen n d) → IsWholeRecord (slice_index_or records n [])
+  whole_read whole = subst (λ (xs : List (List ℕ)). IsWholeRecord (slice_index_or xs n [])) same (subst IsWholeRecord (get_or_default seen n d [] within) whole)
 
   module _ (inode : Inode) (old new : List Inode) (put : new ≡ old ++ inode ∷ []) where
     pub decoded_more : old ≡ map inode_of (take n records) → inode ≡ inode_of (get_or seen n d) → new ≡ map inode_of (take (n + 1) records)

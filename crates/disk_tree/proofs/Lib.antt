@@ -15,6 +15,7 @@ pub mod PartsMade
 pub mod PartsRead
 pub mod PartsShown
 pub mod PartsSound
+pub mod PartsWhole
 pub mod PointersJudged
 pub mod Putting
 pub mod ReachedShown

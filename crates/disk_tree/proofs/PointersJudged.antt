@@ -16,6 +16,7 @@ use Rattle.std.proofs.lemmas.List.{get_or-replicate, get_or_past, get_or-map, le
 use Rattle.disk_tree.specs.Reading.{IsReadBlock}
 use Rattle.disk_tree.proofs.Refusals.{store_of, store_reads}
 use Rattle.sfs_image.proofs.Basics.{any_below-from, any_below-none, any_below-at, any_below-some}
+use Rattle.sfs_image.proofs.BytesLaws.{length-zeros}
 use Rattle.sfs_image.proofs.PartLaws.{pointer_of_block, pointer_of_table, hole_is_read}
 use Rattle.sfs_image.proofs.PiecesLaws.{length-u32s_at}
 use Rattle.image_tree.proofs.Parts.{HasEmptyHoles}
@@ -159,7 +160,11 @@ free_tables told inode free = record {
   blocks = replicate 16 (zeros 4096);
   read = record {
     count = refl;
-    each = λ k small. record { hole = λ _. zeros_there k small; gives = λ content _. zeros_there k small ∙ sym (hole_is_read (image_block content) (slice_index inode.indirect k) (free_indirect inode free k)) };
+    each = λ k small. record {
+      hole = λ _. zeros_there k small;
+      gives = λ content _. zeros_there k small ∙ sym (hole_is_read (image_block content) (slice_index inode.indirect k) (free_indirect inode free k));
+      long = λ _. ap length (zeros_there k small) ∙ length-zeros 4096;
+    };
   };
   kept = sym (filter_map_same (table_kept inode (replicate 16 (zeros 4096))) (λ _. None) 0 16 (λ k low high. cond-true (eqb (slice_index inode.indirect k) 0) _ _ (eq-eqb _ _ (free_indirect inode free k))));
 }

@@ -1,8 +1,9 @@
 -- How the first fault of parts is found: rule by rule.
-use Rattle.std.proofs.Common.{arith, ◌⊎◌, ◌≡◌, ℕ, ◌<◌, ◌≤◌, Bool, false, ltb, List, Option, None, Some, refl, sym, ap, subst, ◌∙◌, inl, inr}
+use Rattle.std.proofs.Common.{arith, ◌⊎◌, ◌≡◌, ℕ, ◌+◌, ◌*◌, ◌<◌, ◌≤◌, Bool, false, length, ltb, List, Option, None, Some, refl, sym, ap, subst, ◌∙◌, inl, inr}
 use Rattle.std.specs.Prelude.{slice_index}
-use Rattle.std.proofs.lemmas.Bool.{cases_order, cond-true, cond-false, lt-ltb, le-ltb}
+use Rattle.std.proofs.lemmas.Bool.{cases_eq, cases_order, cond-true, cond-false, lt-ltb, le-ltb}
 use Rattle.sfs_base.proofs.BasicTruth.{not_both_of}
+use Rattle.sfs_dev.specs.Steps.{IfTold}
 use Rattle.sfs_image.specs.Bytes.{zeros}
 use Rattle.sfs_image.specs.Inode.{inode_of}
 use Rattle.sfs_image.specs.Part.{Part, part_of, block_pointer, read_block}
@@ -11,7 +12,8 @@ use Rattle.sfs_image.specs.Settled.{image_block}
 use Rattle.sfs_image.specs.Seen.{FILE_BLOCKS}
 use Rattle.sfs_image.specs.Super.{Layout}
 use Rattle.sfs_image.proofs.Basics.{length-tabulate}
-use Rattle.sfs_image.proofs.PartLaws.{block_is_read, table_is_read, pointer_of_block, pointer_of_table, hole_is_read}
+use Rattle.sfs_image.proofs.BytesLaws.{length-part, length-zeros}
+use Rattle.sfs_image.proofs.PartLaws.{block_behind, block_is_read, table_is_read, pointer_of_block, pointer_of_table, hole_is_read}
 use Rattle.sfs_image.proofs.PiecesLaws.{length-u32s_at}
 use Rattle.std.proofs.lemmas.List.{length-map}
 use Rattle.image_tree.specs.Image.{inodes_shown}
@@ -103,10 +105,19 @@ abbrev pub store_of : Option (List ℕ) → ℕ → List ℕ
 store_of None = λ _. zeros 4096
 store_of (Some content) = image_block content
 
+-- a block of such a disk, or of one whose content goes on behind it, has 4,096 bytes
+stored_long : (told : Option (List ℕ)) (pointer : ℕ) → IfTold told (λ content. 4096 * (pointer + 1) ≤ length content) → length (store_of told pointer) ≡ 4096
+stored_long None pointer lies = length-zeros 4096
+stored_long (Some content) pointer lies = let within = lies content refl in length-part (4096 * pointer) 4096 content (omega arith)
+
 pub store_reads : (told : Option (List ℕ)) (pointer : ℕ) → IsReadBlock told pointer (read_block (store_of told) pointer)
 store_reads told pointer = record {
   hole = λ none. hole_is_read (store_of told) pointer none;
   gives = λ content same. ap (λ (t : Option (List ℕ)). read_block (store_of t) pointer) same;
+  long = λ lies. elim (cases_eq pointer 0) [
+    | inl none ↦ ap length (hole_is_read (store_of told) pointer none) ∙ length-zeros 4096
+    | inr there ↦ ap length (block_behind (store_of told) pointer there) ∙ stored_long told pointer lies
+  ];
 }
 
 -- the part of a record of which nothing was read

@@ -9,6 +9,7 @@ use Rattle.std.proofs.lemmas.List.Elements.{filter_map-append, All-nil, All-cons
 use Rattle.sfs_dev.specs.Disk.{Gives}
 use Rattle.sfs_image.specs.Bytes.{part, zeros}
 use Rattle.sfs_image.specs.Settled.{image_block}
+use Rattle.sfs_image.proofs.BytesLaws.{length-zeros}
 use Rattle.sfs_image.proofs.PartLaws.{hole_is_read, block_behind}
 use Rattle.block_map.proofs.KeptPointers.{kept_at_place}
 use Rattle.sfs_image.specs.Inode.{Inode, Table, pointers_of}
@@ -90,7 +91,11 @@ all_below told inode k tables so = subst (All (λ (t : Table). t.place < k)) (sy
 pub next_hole : (told : Option (List ℕ)) (inode : Inode) (place : ℕ) (tables : List Table) → slice_index inode.indirect place ≡ 0 → IsNextTable told inode place tables tables
 next_hole told inode place tables hole = record {
   block = zeros 4096;
-  read = record { hole = λ _. refl; gives = λ content _. sym (hole_is_read (image_block content) (slice_index inode.indirect place) hole) };
+  read = record {
+    hole = λ _. refl;
+    gives = λ content _. sym (hole_is_read (image_block content) (slice_index inode.indirect place) hole);
+    long = λ _. length-zeros 4096;
+  };
   kept = sym (append-nil tables) ∙ ap (λ o. tables ++ option_to_list o) (sym (cond-true (eqb (slice_index inode.indirect place) 0) _ _ (eq-eqb _ _ hole)));
 }
 
@@ -110,6 +115,7 @@ block_given told pointer at block is long there gives = record {
   gives = λ content same.
       let given : Gives (Some content) at block = subst (λ (t : Option (List ℕ)). Gives t at block) same gives in
       given ∙ ap (λ (n : ℕ). part at n content) long ∙ ap (λ (n : ℕ). part n 4096 content) is ∙ sym (block_behind (image_block content) pointer there);
+  long = λ _. long;
 }
 
 -- what was read where a disk tells the same

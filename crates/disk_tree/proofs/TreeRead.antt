@@ -13,6 +13,7 @@ use Rattle.disk_tree.specs.declared.fault.TreeFault.{TreeFault}
 use Rattle.disk_tree.specs.declared.found.Found.{Found}
 use Rattle.disk_tree.specs.declared.read.ReadInodes.{ReadInodes}
 use Rattle.disk_tree.proofs.InodesRead.{length_inodes}
+use Rattle.disk_tree.proofs.PartsWhole.{LiesOnDisk, parts_whole}
 use Rattle.disk_tree.proofs.RulesJudged.{are_few, tree_refusal}
 use Rattle.disk_tree.proofs.TreeShown.{may_build, found_is}
 
@@ -35,6 +36,11 @@ module _ (told : Option (List ℕ)) (layout : Layout) (records : List (List ℕ)
     may = may_build told layout records count read.inodes.items ok.inodes ok.fit ok.first read.tables.items ok.pointers read.contents.items read.slots.items ok.well rows lists some kept named naming
         (ok.well.content_count ∙ sym inode_count)
 
-    pub is_found : (found : Found) → found.tree ≡ tree_of_entries layout (node_entries read.inodes.items named read.contents.items (length read.inodes.items)) (row_entries rows (length rows)) →
+    pub is_found : LiesOnDisk told layout → (found : Found) →
+        found.tree ≡ tree_of_entries layout (node_entries read.inodes.items named read.contents.items (length read.inodes.items))
+        (row_entries rows (length rows)) →
         found.parts.items ≡ gathered_in_use read.inodes.items read.tables.items read.slots.items (length read.inodes.items) → IsFoundIn told layout records found
-    is_found = found_is told layout records count read.inodes.items ok.inodes ok.fit ok.first read.tables.items ok.pointers read.contents.items read.slots.items ok.well rows lists some kept named naming
+    is_found lies =
+        found_is told layout records count read.inodes.items ok.inodes ok.fit ok.first read.tables.items ok.pointers read.contents.items read.slots.items
+        ok.well rows lists some kept named naming
+        (parts_whole told layout records count read ok lies)

@@ -40,6 +40,7 @@ use Rattle.disk_tree.specs.Found.{IsFoundIn, making_when_read}
 use Rattle.disk_tree.specs.Gathered.{KeepPointerRules}
 use Rattle.disk_tree.specs.Inodes.{KeepRecordRules, inode_at}
 use Rattle.disk_tree.specs.KeptParts.{gathered_if_used, gathered_in_use, kept_if_used, kept_in_use}
+use Rattle.disk_tree.specs.Whole.{IsReadWhole}
 use Rattle.disk_tree.specs.Ordered.{KeepTreeRules}
 use Rattle.disk_tree.specs.Reached.{row_at}
 use Rattle.disk_tree.specs.Rows.{NO_ROW, AreNamingCounts, AreRowLists, is_misplaced_by, naming, naming_below, rows_in_bucket, rows_of_inode}
@@ -264,11 +265,13 @@ module _ (told : Option (List ℕ)) (layout : Layout) (records : List (List ℕ)
             let own_slots = sym (slots_kept i within) in
             λ j. cond (eqb (inode j).kind 0) None (Some (record { number = i; kept = record { inode = inode j; tables = own_tables j; slots = own_slots j } }))
 
-    pub found_is : (found : Found) → found.tree ≡ tree_of_entries layout (node_entries inodes named contents (length inodes)) (row_entries rows (length rows)) →
+    pub found_is : ((i : ℕ) → i < layout.inodes → IsReadWhole (well.parts i)) → (found : Found) →
+        found.tree ≡ tree_of_entries layout (node_entries inodes named contents (length inodes)) (row_entries rows (length rows)) →
         found.parts.items ≡ gathered_in_use inodes tables slots (length inodes) → IsFoundIn told layout records found
-    found_is found tree parts = record {
+    found_is whole found tree parts = record {
       parts = well.parts;
       read = well.hold.read;
+      whole = whole;
       faultless = no_fault;
       tree = tree ∙ tree_is;
       sound = subst IsSoundTree (sym (tree ∙ tree_is)) (record { sound = sound_shown image (making_when_read layout) rules; numbered = numbered image 0 layout.cores });

@@ -1,5 +1,5 @@
 -- What reading a tree gives.
-use Rattle.std.specs.Prelude.{◌≡◌, ℕ, List, length, map, All, Option, None, replicate}
+use Rattle.std.specs.Prelude.{◌≡◌, ℕ, ◌<◌, List, length, map, All, Option, None, replicate}
 use Rattle.sfs_image.specs.Inode.{IsInode, inode_of}
 use Rattle.sfs_image.specs.Part.{Part}
 use Rattle.sfs_image.specs.Super.{Layout}
@@ -12,6 +12,7 @@ use Rattle.disk_tree.specs.Gathered.{KeepPointerRules}
 use Rattle.disk_tree.specs.Inodes.{KeepRecordRules}
 use Rattle.disk_tree.specs.Judged.{AreReadParts, fault_of_parts}
 use Rattle.disk_tree.specs.KeptParts.{kept_in_use}
+use Rattle.disk_tree.specs.Whole.{IsReadWhole}
 use Rattle.disk_tree.specs.declared.found.Found.{Found}
 use Rattle.disk_tree.specs.declared.read.ReadInodes.{ReadInodes}
 
@@ -28,11 +29,12 @@ pub record WereReadWell (told : Option (List ℕ)) (layout : Layout) (records : 
 abbrev pub making_when_read : Layout → Making
 making_when_read layout = record { first = layout.inodes; share = 0; made = replicate layout.cores 0 }
 
--- What was found is what the image shows: there are parts that reads gave and that have no fault, the tree is theirs, each node under
--- its inode's number, it is sound and within its limits, and what is kept is that of the parts in use.
+-- What was found is what the image shows: there are parts that reads gave whole and that have no fault, the tree is theirs, each node
+-- under its inode's number, it is sound and within its limits, and what is kept is that of the parts in use.
 pub record IsFoundIn (told : Option (List ℕ)) (layout : Layout) (records : List (List ℕ)) (found : Found) : Type 0 where
   pub parts : ℕ → Part
   pub read : AreReadParts told layout records parts
+  pub whole : (i : ℕ) → i < layout.inodes → IsReadWhole (parts i)
   pub faultless : fault_of_parts layout parts ≡ None
   pub tree : found.tree ≡ image_tree (inodes_shown layout parts) (making_when_read layout)
   pub sound : IsSoundTree found.tree

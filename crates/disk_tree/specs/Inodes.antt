@@ -5,6 +5,7 @@ use Rattle.sfs_image.specs.Part.{Part}
 use Rattle.sfs_image.specs.Rules.{DIRECTORY_BLOCKS, breaks_bytes_rule}
 use Rattle.sfs_image.specs.Seen.{FILE_BLOCKS}
 use Rattle.sfs_image.specs.Super.{Layout}
+use Rattle.disk_tree.specs.Whole.{WholeRecords}
 
 -- the inode of a number, and past the last one that of a record without bytes
 abbrev pub inode_at : List Inode → ℕ → Inode
@@ -35,8 +36,9 @@ pub record IsMalformed (records : List (List ℕ)) (inode rule : ℕ) : Type 0 w
 abbrev pub HaveRecords : Layout → List (List ℕ) → (ℕ → Part) → Type 0
 HaveRecords layout records parts = (i : ℕ) → i < layout.inodes → (parts i).raw ≡ slice_index_or records i []
 
--- No inode breaks one of the first three rules, whatever its pointers reach.
+-- All records are whole, and no inode breaks one of the first three rules, whatever its pointers reach.
 pub record KeepRecordRules (layout : Layout) (records : List (List ℕ)) : Type 0 where
+  pub whole : WholeRecords layout.inodes records
   pub sound : SoundRecords layout.inodes records
   pub keep : (parts : ℕ → Part) → HaveRecords layout records parts → (rule i : ℕ) → 1 ≤ rule → rule ≤ 3 → i < layout.inodes
       → breaks_bytes_rule rule layout parts i ≡ false

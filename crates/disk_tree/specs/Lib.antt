@@ -18,3 +18,4 @@ pub mod Rows
 pub mod Shown
 pub mod Tests
 pub mod Told
+pub mod Whole

@@ -1,16 +1,19 @@
 -- What reads gave of the blocks of an inode.
-use Rattle.std.specs.Prelude.{◌≡◌, ℕ, ◌*◌, ◌<◌, ◌==◌, List, [], ◌++◌, length, slice_index, slice_index_or, Option, None, Some, if◌then◌else◌}
+use Rattle.std.specs.Prelude.{◌≡◌, ℕ, ◌+◌, ◌*◌, ◌<◌, ◌≤◌, ◌==◌, List, [], ◌++◌, length, slice_index, slice_index_or, Option, None, Some, if◌then◌else◌}
 use Rattle.std.specs.Option.{option_to_list}
+use Rattle.sfs_dev.specs.Steps.{IfTold}
 use Rattle.sfs_image.specs.Bytes.{part, zeros}
 use Rattle.sfs_image.specs.Inode.{Inode, Table, pointers_of}
 use Rattle.sfs_image.specs.Part.{read_block}
 use Rattle.sfs_image.specs.Settled.{image_block}
 use Rattle.block_map.specs.Kept.{tables_kept, block_kept}
 
--- What a read gave of the block that a pointer names: zeros for a pointer 0, and where the disk tells its content that block of it.
+-- What a read gave of the block that a pointer names: zeros for a pointer 0, and where the disk tells its content that block of it. It is a
+-- whole block, unless that content ends before it.
 pub record IsReadBlock (told : Option (List ℕ)) (pointer : ℕ) (block : List ℕ) : Type 0 where
   pub hole : pointer ≡ 0 → block ≡ zeros 4096
   pub gives : (content : List ℕ) → told ≡ Some content → block ≡ read_block (image_block content) pointer
+  pub long : IfTold told (λ content. 4096 * (pointer + 1) ≤ length content) → length block ≡ 4096
 
 -- These are the 16 indirect blocks of an inode as reads gave them.
 pub record AreReadTables (told : Option (List ℕ)) (inode : Inode) (blocks : List (List ℕ)) : Type 0 where

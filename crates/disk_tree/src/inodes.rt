@@ -1,13 +1,14 @@
 // The inodes in the records: rules 1 to 3, which speak of one record each.
-ghost use Rattle.std.specs.Prelude.{◌≡◌, ◌≢◌, ℕ, ◌<◌, ◌≤◌, ◌+◌, ◌*◌, ◌==◌, length, map, None, All, IfOk, IfErr, Option, List};
+ghost use Rattle.std.specs.Prelude.{◌≡◌, ◌≢◌, ℕ, ◌<◌, ◌≤◌, ◌+◌, ◌*◌, ◌==◌, length, map, None, Some, All, IfOk, IfErr, Option, List};
 ghost use Rattle.std.specs.List.{position};
-ghost use Rattle.sfs_image.specs.Inode.{IsInode, inode_of};
+ghost use Rattle.sfs_image.specs.Inode.{IsInode, inode_of, inode_fault};
 ghost use Rattle.disk_tree.specs.Judged.{IsRefusal, Refused};
 ghost use Rattle.disk_tree.specs.First.{FindsFirst};
 ghost use Rattle.disk_tree.specs.Inodes.{inode_at, breaks_size_by, KeepRecordRules, IsMalformed, SoundRecords};
+ghost use Rattle.disk_tree.specs.Whole.{IsWholeRecord, WholeRecords};
 
 use crate::TreeFault;
-use fmt_inode::{Inode, LARGEST, Records, decode};
+use fmt_inode::{Bad, Inode, LARGEST, Records, decode};
 use fmt_super::Layout;
 use std::alloc::Global;
 
@@ -57,11 +58,12 @@ fn decoded(alloc: Global, records: &Records) -> Result<Vec<Inode>, TreeFault>
     ensures inodes { IfOk result (λ inodes. inodes.items ≡ map inode_of records.now.items) }
     ensures fit { IfOk result (λ inodes. All IsInode inodes.items) }
     ensures sound { IfOk result (λ _. SoundRecords (length records.now.items) records.now.items) }
+    ensures whole { IfOk result (λ _. WholeRecords (length records.now.items) records.now.items) }
     ensures bad { IfErr result (IsRefusal (IsMalformed records.now.items)) }
 {
     let mut inodes = Vec::new(alloc);
     for (place, record) in records.as_slice().iter().enumerate() {
-        match decode(record) {
+        match inode_in(record) {
             Ok(inode) => inodes.push(inode)?,
             Err(_) => {
                 return Err(TreeFault::BadImage {
@@ -72,6 +74,16 @@ fn decoded(alloc: Global, records: &Records) -> Result<Vec<Inode>, TreeFault>
         }
     }
     Ok(inodes)
+}
+
+// The inode in a record, which is whole.
+fn inode_in(bytes: &[u8; 512]) -> Result<Inode, Bad>
+    ensures ok { IfOk result (λ inode. (inode_fault bytes.now ≡ None) × (inode ≡ inode_of bytes.now)) }
+    ensures fits { IfOk result IsInode }
+    ensures err { IfErr result (λ bad. inode_fault bytes.now ≡ Some bad.at) }
+    ensures whole { IsWholeRecord bytes.now }
+{
+    decode(bytes)
 }
 
 // A size that its kind can't have: rule 3.

@@ -1,3 +1,4 @@
+pub mod GoodNames
 pub mod MemberNets
 pub mod Moving
 pub mod Naming

@@ -2,6 +2,7 @@
 use Rattle.std.specs.Prelude.{◌≡◌, ◌≢◌, ℕ, List, Option, Some, None, map, bytes_eq, All, Contains}
 use Rattle.std.specs.List.{find}
 use Rattle.std.specs.List.Sorted.{IsStrictlySortedBy}
+use Rattle.sfs_base.specs.Name.{name_fault}
 use Rattle.sfs_base.specs.declared.numbers.NodeId.{NodeId}
 use Rattle.sfs_tree.specs.Order.{name_cmp}
 use Rattle.sfs_tree.specs.NameRow.{number_of}
@@ -50,3 +51,7 @@ pub record IsNetBy (changes : List Change) (net : List NetRow) : Type 0 where
   pub ascending : IsStrictlySortedBy name_cmp (map net_name net)
   pub each : All (IsRowBy changes) net
   pub complete : (name : List ℕ) → before_by changes name ≢ after_by changes name → Contains (map net_name net) name
+
+-- the rows of a net have names
+abbrev pub HasGoodNames : List NetRow → Type 0
+HasGoodNames net = (row : NetRow) → Contains net row → name_fault row.name ≡ None

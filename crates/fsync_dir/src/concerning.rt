@@ -5,7 +5,9 @@ ghost use Rattle.sfs_tree.specs.NameRow.{node_number};
 ghost use Rattle.flush_core.specs.Engine.{OfSome};
 ghost use Rattle.dep_closure.specs.Brought.{AddsTo};
 ghost use Rattle.dep_closure.specs.Gathered.{IsOrderly};
-ghost use Rattle.fsync_dir.specs.Concerned.{IsConcernOf, AreNodes, AreNetsOf, IsTouchedBy};
+ghost use Rattle.disk_change.specs.Lists.{AscendBy};
+ghost use Rattle.disk_change.specs.Nodes.{net_node};
+ghost use Rattle.fsync_dir.specs.Concerned.{HaveGoodNames, IsConcernOf, AreNodes, AreNetsOf, IsTouchedBy};
 
 use crate::concern::Concern;
 use crate::nets::net_by;
@@ -79,7 +81,9 @@ fn member_nets(
 ) -> Result<NetList, NoMemory>
     requires logs { IsOrderly logs.now }
     requires members { IsStrictlyIncreasing (map node_number members.now.items) }
-    ensures { IfOk result (λ nets. AreNetsOf logs.now below members.now.items nets.items) }
+    ensures nets { IfOk result (λ nets. AreNetsOf logs.now below members.now.items nets.items) }
+    ensures ascend { IfOk result (λ nets. AscendBy net_node nets.items) }
+    ensures names { IfOk result (λ nets. HaveGoodNames nets.items) }
 {
     let mut nets = NetList::new(alloc);
     let nodes = members.as_slice();

@@ -1,9 +1,10 @@
 // The net of a directory's changes by the changes alone: the first and the last change of each name tell it.
-ghost use Rattle.std.specs.Prelude.{◌≡◌, ◌++◌, reverse, filter_map, option_to_list, IfOk, OnOk};
+ghost use Rattle.std.specs.Prelude.{◌≡◌, ◌++◌, None, reverse, filter_map, option_to_list, IfOk, OnOk};
+ghost use Rattle.sfs_base.specs.Name.{name_fault};
 ghost use Rattle.absorb.specs.Last.{lent, AreLast, net_row};
 ghost use Rattle.absorb.specs.Net.{child_after};
 ghost use Rattle.fsync_dir.specs.Ends.{lent_between, child_lent};
-ghost use Rattle.fsync_dir.specs.Net.{IsNetBy, child_before};
+ghost use Rattle.fsync_dir.specs.Net.{HasGoodNames, IsNetBy, child_before};
 
 use absorb::{Net, NetRow};
 use sfs_base::{NoMemory, NodeId, RoomyList};
@@ -16,7 +17,8 @@ type ByName<'a> = BTreeMap<&'a [u8], &'a Change>;
 
 // The net of some changes of a directory, which stand in their order.
 pub(crate) fn net_by(alloc: Global, changes: &[Change]) -> Result<Net, NoMemory>
-    ensures { IfOk result (λ net. IsNetBy changes.now net.items) }
+    ensures net { IfOk result (λ net. IsNetBy changes.now net.items) }
+    ensures names { IfOk result (λ net. HasGoodNames net.items) }
 {
     let first = first_changes(alloc, changes)?;
     let last = last_changes(alloc, changes)?;
@@ -55,7 +57,8 @@ fn rows_between(
     first: &ByName<'_>,
     last: &ByName<'_>,
 ) -> Result<Vec<NetRow>, NoMemory>
-    ensures { IfOk result (λ net. net.items ≡ filter_map (lent_between first.now) last.now.entries) }
+    ensures rows { IfOk result (λ net. net.items ≡ filter_map (lent_between first.now) last.now.entries) }
+    ensures names { IfOk result (λ net. HasGoodNames net.items) }
 {
     let mut net = Vec::new(alloc);
     for (_, change) in last {
@@ -66,7 +69,8 @@ fn rows_between(
 
 // The child that a change's name has before all changes.
 fn child_stood(first: &ByName<'_>, change: &Change) -> Option<NodeId>
-    ensures { result ≡ child_lent first.now change.now.name }
+    ensures child { result ≡ child_lent first.now change.now.name }
+    ensures grammar { name_fault change.now.name ≡ None }
 {
     match first.get(change.name.bytes()) {
         Some(first) => child_taken(first),

@@ -169,7 +169,7 @@ module _ (first : TreeState) (history : List Entry) (flushes : List Flush) (cut 
   named_there : (node : ℕ) → node ≢ 0 → Touches look node
       → (is_named_after old concern.nets.items node ≡ true) ↔ IsNamedIn (rows_at_cut first history raised) node
   named_there node apart touches =
-      named_by_nets first history flushes cut inodes num layout store parts entries is.ready is.keeps nodes old is.old_is later concern.nets.items same_kinds is.nets_ascend
+      named_by_nets first history flushes cut inodes num layout store parts entries is.ready is.keeps nodes old is.old_is later concern.nets.items same_kinds is.concern_is.ascend
       (each_net first history cut gathered below concern.members.items concern.nets.items sound legal member_spans is.concern_is.nets) node apart ((is.concern_is.nodes.each node).1 touches)
 
   -- so what is found is right, with the root apart
@@ -221,7 +221,7 @@ module _ (first : TreeState) (history : List Entry) (flushes : List Flush) (cut 
   stored_before = cut_trees_are_storable first history flushes cut inodes num is.ready.history_is is.ready.flushed is.ready.numbers
 
   nets : HasNets before later concern.nets.items
-  nets = nets_lead first history cut gathered below concern.members.items concern.nets.items sound legal member_spans is.concern_is.nets is.nets_ascend stored_before.sound stored_later.sound same_kinds
+  nets = nets_lead first history cut gathered below concern.members.items concern.nets.items sound legal member_spans is.concern_is.nets is.concern_is.ascend stored_before.sound stored_later.sound same_kinds
 
   abbrev commit : CommitPlan
   commit = record { old = old; nets = concern.nets.items; files = is.plans.files; enter = is.plans.enter; leave = plan.leave.items }
@@ -312,6 +312,7 @@ module _ (first : TreeState) (history : List Entry) (flushes : List Flush) (cut 
     inodes_after = inodes_after;
     made = is.plans.made;
     leads = subst (λ (l : List NodeId). IsPlanAt first history cut inodes flush raised after (map node_number l) entries commit) (sym is.plans.nodes) (leads in_time);
+    names = is.concern_is.names;
   }
 
   -- Where the node is alive at the fsync's stamp and no cut is above that, it is not dead at the raised cut: a row there names it, or a naming is not flushed.

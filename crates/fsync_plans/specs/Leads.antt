@@ -8,10 +8,11 @@ use Rattle.commit_laws.specs.CommitOfPlan.{CommitPlan, change_planned}
 use Rattle.flush_core.specs.Closure.{every_entry, Flush, IsRaised, AreInodesAfter}
 use Rattle.flush_core.specs.Cut.{Cut}
 use Rattle.flush_commits.specs.Planned.{IsPlanAt}
+use Rattle.fsync_dir.specs.Concerned.{HaveGoodNames}
 use Rattle.fsync_dir.specs.declared.plans.FsyncPlan.{FsyncPlan}
 
 -- The plan of an fsync leads to the cut that the fsync raises and to the nodes with an inode after it: its change of the disk is that of a
--- commit's plan, which leads there.
+-- commit's plan, which leads there and whose nets have rows with names.
 pub record LeadsToCut (first : TreeState) (history : List Entry) (cut : Cut) (inodes : ℕ → Bool) (flush : Flush) (entries : List OldEntry) (plan : FsyncPlan) : Type 0 where
   pub raised : Cut
   pub after : ℕ → Bool
@@ -20,3 +21,4 @@ pub record LeadsToCut (first : TreeState) (history : List Entry) (cut : Cut) (in
   pub inodes_after : AreInodesAfter first history every_entry cut inodes flush raised after
   pub made : plan.change ≡ change_planned commit
   pub leads : IsPlanAt first history cut inodes flush raised after (map node_number plan.nodes.items) entries commit
+  pub names : HaveGoodNames commit.nets

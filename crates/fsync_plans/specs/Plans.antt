@@ -18,8 +18,6 @@ use Rattle.dep_closure.specs.declared.gathered.DirectoryChanges.{DirectoryChange
 use Rattle.dep_closure.specs.declared.gathered.Gathered.{Gathered}
 use Rattle.dep_closure.specs.Gathered.{look_of, IsOrderly}
 use Rattle.dep_closure.specs.History.{IsLogOf, HasUnflushed}
-use Rattle.disk_change.specs.Lists.{AscendBy}
-use Rattle.disk_change.specs.Nodes.{net_node}
 use Rattle.disk_change.specs.declared.old.OldEntry.{OldEntry}
 use Rattle.flush_commits.specs.Planned.{HasOldEntries}
 use Rattle.flush_commits.specs.Ready.{IsBetweenCommits, KeepsEntries}
@@ -67,7 +65,6 @@ pub record PlansFsync (first : TreeState) (history : List Entry) (flushes : List
   pub orderly : IsOrderly gathered
   pub gathers : GathersEnough first history cut inodes start below gathered
   pub concern_is : IsConcernOf start below gathered concern
-  pub nets_ascend : AscendBy net_node concern.nets.items
   pub old_is : HasOldEntries (map node_number concern.nodes.items) entries old
   pub file_is : HasFileOf first history start below file
   pub plans : IsPlanOf start below gathered concern old file plan

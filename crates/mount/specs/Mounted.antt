@@ -1,5 +1,5 @@
 -- What a mount begins with.
-use Rattle.std.specs.Prelude.{◌≡◌, ◌↔◌, ℕ, ◌/◌, List, map, None, Some, Contains}
+use Rattle.std.specs.Prelude.{◌≡◌, ◌↔◌, ℕ, ◌<◌, ◌/◌, List, map, None, Some, Contains}
 use Rattle.sfs_image.specs.Part.{Part}
 use Rattle.sfs_image.specs.Settled.{layout_of, parts_of}
 use Rattle.sfs_image.specs.Super.{Layout, IsLayout, data_start}
@@ -15,6 +15,7 @@ use Rattle.disk_change.specs.declared.old.OldEntry.{OldEntry}
 use Rattle.disk_tree.specs.Found.{making_when_read}
 use Rattle.disk_tree.specs.Judged.{fault_of_parts}
 use Rattle.disk_tree.specs.KeptParts.{NumberedKept, kept_in_use}
+use Rattle.disk_tree.specs.Whole.{IsReadWhole, AreWholeRecords}
 use Rattle.recovery.specs.Freed.{without_unlinked}
 use Rattle.mount.specs.declared.begin.Mounted.{Mounted}
 
@@ -42,19 +43,22 @@ share_of_nodes nodes layout = nodes / layout.cores
 abbrev pub making_with : ℕ → Layout → Making
 making_with nodes layout = record (making_when_read layout) { share = share_of_nodes nodes layout }
 
--- What is mounted of an image: its layout, its tree with this share of new nodes for each core, and what its parts have without orphans.
+-- What is mounted of an image, whose settled records are whole: its layout, its tree with this share of new nodes for each core, and what
+-- its parts have without orphans.
 pub record IsMountOf (nodes : ℕ) (image : List ℕ) (mounted : Mounted) : Type 0 where
   pub layout_is : mounted.layout ≡ layout_of image
+  pub whole : AreWholeRecords mounted.layout image
   pub tree : tree_of image (share_of_nodes nodes mounted.layout) ≡ Some mounted.tree
   pub entries : mounted.old.items ≡ entries_mounted mounted.layout (without_unlinked (parts_of mounted.layout image))
 
--- What is mounted of any disk: a layout that the disk can have, and a sound tree within its limits. There are parts without fault that show
--- this tree; the disk has of each node what they have without orphans, and that is what is not free.
+-- What is mounted of any disk: a layout that the disk can have, and a sound tree within its limits. There are parts without fault, which
+-- were read whole, that show this tree; the disk has of each node what they have without orphans, and that is what is not free.
 pub record IsSoundMount (nodes size : ℕ) (mounted : Mounted) : Type 0 where
   pub fits : IsLayout size mounted.layout
   pub sound : IsSoundTree mounted.tree
   pub limits : IsWithinLimits mounted.tree
   pub parts : ℕ → Part
+  pub whole : (i : ℕ) → i < mounted.layout.inodes → IsReadWhole (parts i)
   pub faultless : fault_of_parts mounted.layout parts ≡ None
   pub shown : mounted.tree ≡ image_tree (inodes_shown mounted.layout parts) (making_with nodes mounted.layout)
   pub entries : mounted.old.items ≡ entries_mounted mounted.layout (without_unlinked parts)

@@ -81,14 +81,14 @@ impl KnownNodes {
     }
 
     /// Makes room for so many more cuts and nodes with an inode.
-    pub fn reserve(&mut self, count: u32) -> Result<(), NoMemory>
+    pub fn reserve(&mut self, count: usize) -> Result<(), NoMemory>
         ensures cuts { OnOk result (count ≤ self.new.room_for_cuts) }
         ensures inodes { OnOk result (count ≤ self.new.room_for_inodes) }
         ensures same { HasSameNodes self.old self.new }
         ensures never_lowers { KeepsRoom self.old self.new }
     {
-        self.cuts.reserve(count as usize)?;
-        self.inodes.reserve(count as usize)?;
+        self.cuts.reserve(count)?;
+        self.inodes.reserve(count)?;
         Ok(())
     }
 

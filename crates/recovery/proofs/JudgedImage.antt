@@ -15,12 +15,15 @@ use Rattle.image_tree.specs.Image.{ImageFault, first_of_faults, fault_of, tree_o
 use Rattle.image_tree.specs.ImageTree.{image_tree}
 use Rattle.image_tree.specs.Rules.{TreeFault}
 use Rattle.disk_tree.specs.Judged.{AreReadParts, IsReadPart, Refused, fault_of_parts}
+use Rattle.disk_tree.specs.Found.{IsFoundIn}
 use Rattle.disk_tree.specs.Told.{SettlesRecords}
+use Rattle.disk_tree.specs.Whole.{IsWholeRecord, AreWholeRecords}
 use Rattle.disk_tree.proofs.PartsSound.{byte_rules_kept, faultless_parts_are_ruled}
 use Rattle.disk_tree.proofs.Refusals.{unread_is_read}
 use Rattle.disk_tree.proofs.ToldRead.{faults_are_the_images}
 use Rattle.recovery.specs.Judging.{IsFaultOf, IsTreeRefusal}
 use Rattle.recovery.specs.declared.fault.RecoverFault.{RecoverFault}
+use Rattle.recovery.specs.declared.judged.Judged.{Judged}
 use Rattle.recovery.specs.declared.fault.RecoverFault.TheVariants.{DiskFailed, BadSuper, BadJournal, BadImage, NoMemory}
 use Rattle.recovery.proofs.FreedShown.{AreFaultless}
 use Rattle.recovery.proofs.ShownAlike.{IsReadable, readable_by, fault_by_parts}
@@ -54,16 +57,18 @@ module _ (image : List ℕ) (layout : Layout) (records : List (List ℕ)) (settl
       no_tree_fault None is = refl
       no_tree_fault (Some fault) is = cc
 
-  read : AreReadParts (Some image) layout records (parts_of layout image)
-  read i low = subst (IsReadPart (Some image) (slice_index_or records i [])) (ap (part_of (image_block image)) (settles.each i low)) (unread_is_read (Some image) (slice_index_or records i []))
+  pub parts_read : AreReadParts (Some image) layout records (parts_of layout image)
+  parts_read i low =
+      subst (IsReadPart (Some image) (slice_index_or records i [])) (ap (part_of (image_block image)) (settles.each i low))
+      (unread_is_read (Some image) (slice_index_or records i []))
 
   pub are_faultless : AreFaultless layout (parts_of layout image)
   are_faultless = record {
-    ruled = faultless_parts_are_ruled (Some image) layout records (parts_of layout image) some read parts_faultless;
+    ruled = faultless_parts_are_ruled (Some image) layout records (parts_of layout image) some parts_read parts_faultless;
     none = parts_faultless;
   }
 
-  points_well : (i : ℕ) → i < layout.inodes → PointsToData layout (parts_of layout image i)
+  pub points_well : (i : ℕ) → i < layout.inodes → PointsToData layout (parts_of layout image i)
   points_well i low place there = elim (cases_lt place PLACES) [
     | inr past ↦ absurd (there (none_past_places (image_block image) (settled layout image i) place past))
     | inl within ↦ elim (cases_Bool (is_free_part (parts_of layout image i))) [
@@ -74,3 +79,10 @@ module _ (image : List ℕ) (layout : Layout) (records : List (List ℕ)) (settl
 
   pub image_stands : IsImageOf layout (transaction_in layout image) (table_parts layout image) image
   image_stands = accepted_stands layout image (record { super = settles.super; divided = sym settles.layout_is; journals = settles.journals; pointers = points_well })
+
+-- records that were read whole, and that an image settles, are whole
+pub settled_whole : {told : Option (List ℕ)} (image : List ℕ) (judged : Judged) → IsFoundIn told judged.layout judged.records.items judged.found
+    → SettlesRecords image judged.layout judged.records.items → AreWholeRecords judged.layout image
+settled_whole image judged found settles i low =
+    subst IsWholeRecord ((found.read i low).raw_is ∙ settles.each i low)
+    (record { long = (found.whole i low).record_long; bytes = (found.whole i low).record_bytes })

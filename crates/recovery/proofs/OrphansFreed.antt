@@ -75,6 +75,7 @@ module _ (layout : Layout) (n : ℕ) (test : ℕ → Bool) (parts : ℕ → Part
       → Carries job parts new old now result → (OnOk result (EachLeft now (IsAfter job parts new)) → OnOk answer (EachLeft now (IsAfter job parts new)))
       → FreesUnlinked layout parts (freed_by layout test n parts) old now answer
   carried_frees old now result answer carries ends = record {
+    told = carries.told;
     later = λ content told counts k image from up left. moment_settles old.now k image (carries.each_moment content told counts k image (omega (arith, from)) up left);
     ended = ends carries.ended;
   }

@@ -16,7 +16,7 @@ use Rattle.sfs_dev.specs.Disk.{View}
 use Rattle.sfs_dev.specs.Run.{Advances}
 use Rattle.sfs_dev.proofs.ReadRuns.{answered}
 use Rattle.journal_one.specs.Packed.{Contents}
-use Rattle.commit_one.proofs.Moments.{later_trans, later_more}
+use Rattle.commit_one.proofs.Moments.{telling_trans, later_trans, later_more}
 use Rattle.recovery.specs.Freed.{is_unlinked, unlinked_below, free_part, free_entry, freeing, without_unlinked, AreUnlinkedFree, freed_by, FreesUnlinked, RecoversTo}
 use Rattle.recovery.specs.Recovering.{SettlesAs, ClosesAll}
 use Rattle.recovery.proofs.BegunFrom.{passing_is_there}
@@ -75,6 +75,7 @@ module _ (layout : Layout) (parts : ℕ → Part) (records : List (List ℕ)) (c
     settling_failed result answer some failed closes = record {
       freed = freed_for layout records parts;
       without = freed_without some;
+      told = closes.told;
       later = later_more (λ _ now. SettlesAs layout parts now) (λ _ now. SettlesAs layout parts now ⊎ SettlesAs layout (freed_for layout records parts) now) old mid (λ k now from up settles. inl settles) closes.later;
       ended = no_answer _ answer failed;
     }
@@ -84,6 +85,7 @@ module _ (layout : Layout) (parts : ℕ → Part) (records : List (List ℕ)) (c
     nothing_to_free value none closes = record {
       freed = parts;
       without = none_freed none;
+      told = closes.told;
       later = later_more (λ _ now. SettlesAs layout parts now) (λ _ now. SettlesAs layout parts now ⊎ SettlesAs layout parts now) old mid (λ k now from up settles. inl settles) closes.later;
       ended = closes.closed;
     }
@@ -94,6 +96,7 @@ module _ (layout : Layout) (parts : ℕ → Part) (records : List (List ℕ)) (c
     then_freed value new answer some goes closes frees = record {
       freed = freed_for layout records parts;
       without = freed_without some;
+      told = telling_trans old mid new closes.told frees.told;
       later = later_trans (λ _ now. SettlesAs layout parts now ⊎ SettlesAs layout (freed_for layout records parts) now) old mid new closes.told goes
           (later_more (λ _ now. SettlesAs layout parts now) (λ _ now. SettlesAs layout parts now ⊎ SettlesAs layout (freed_for layout records parts) now) old mid (λ k now from up settles. inl settles) closes.later) frees.later;
       ended = frees.ended;

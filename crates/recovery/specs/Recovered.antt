@@ -1,5 +1,5 @@
 -- What a recovery answers, and what each crash during it leaves.
-use Rattle.std.specs.Prelude.{◌≡◌, ℕ, List, length, None, Some, Result}
+use Rattle.std.specs.Prelude.{◌≡◌, ℕ, ◌<◌, List, length, None, Some, Result}
 use Rattle.sfs_image.specs.ImageOf.{IsImageOf}
 use Rattle.sfs_image.specs.Part.{Part}
 use Rattle.sfs_image.specs.Settled.{layout_of, parts_of}
@@ -14,6 +14,7 @@ use Rattle.image_tree.specs.ImageTree.{image_tree}
 use Rattle.disk_tree.specs.Found.{making_when_read}
 use Rattle.disk_tree.specs.Judged.{fault_of_parts}
 use Rattle.disk_tree.specs.KeptParts.{kept_in_use}
+use Rattle.disk_tree.specs.Whole.{IsReadWhole, AreWholeRecords}
 use Rattle.recovery.specs.Cause.{is_recover_disk_fault}
 use Rattle.recovery.specs.Freed.{without_unlinked, orphans_of, AreUnlinkedFree}
 use Rattle.recovery.specs.Open.{open_slots_of}
@@ -34,22 +35,24 @@ LeavesRefused old new (BadImage inode rule) = Unwritten old new
 LeavesRefused old new DiskFailed = Unit {0}
 LeavesRefused old new NoMemory = Unit {0}
 
--- What a recovery reports of an image: its layout and its tree, what is kept of its inodes in use without orphans, how many slots were
--- open, and how many orphans there were.
+-- What a recovery reports of an image, whose settled records are whole: its layout and its tree, what is kept of its inodes in use without
+-- orphans, how many slots were open, and how many orphans there were.
 pub record IsReportOf (image : List ℕ) (report : Report) : Type 0 where
   pub layout_is : report.layout ≡ layout_of image
+  pub whole : AreWholeRecords report.layout image
   pub tree : tree_of image 0 ≡ Some report.tree
   pub kept : report.parts.items ≡ kept_in_use report.layout.inodes (without_unlinked (parts_of report.layout image))
   pub closed : report.closed ≡ length (open_slots_of report.layout image)
   pub freed : report.freed ≡ length (orphans_of report.layout image)
 
--- What a recovery reports of any disk: a layout that the disk can have, and a sound tree within its limits. There are parts without fault
--- that show this tree, and of those in use, without orphans, there is what is kept.
+-- What a recovery reports of any disk: a layout that the disk can have, and a sound tree within its limits. There are parts without fault,
+-- which were read whole, that show this tree, and of those in use, without orphans, there is what is kept.
 pub record IsSoundReport (size : ℕ) (report : Report) : Type 0 where
   pub fits : IsLayout size report.layout
   pub sound : IsSoundTree report.tree
   pub limits : IsWithinLimits report.tree
   pub parts : ℕ → Part
+  pub whole : (i : ℕ) → i < report.layout.inodes → IsReadWhole (parts i)
   pub faultless : fault_of_parts report.layout parts ≡ None
   pub shown : report.tree ≡ image_tree (inodes_shown report.layout parts) (making_when_read report.layout)
   pub kept : report.parts.items ≡ kept_in_use report.layout.inodes (without_unlinked parts)

@@ -6,6 +6,7 @@ pub mod FreshBlocks
 pub mod Linked
 pub mod Longer
 pub mod MoreNodes
+pub mod MountedVolumes
 pub mod Mounts
 pub mod ReadParts
 pub mod Stores

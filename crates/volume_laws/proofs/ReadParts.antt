@@ -16,11 +16,12 @@ use Rattle.image_tree.specs.Image.{inodes_shown}
 use Rattle.image_tree.specs.Stands.{HoldsApart}
 use Rattle.image_tree.proofs.Parts.{IsWholePart, holds_apart}
 use Rattle.disk_tree.specs.Judged.{fault_of_parts}
+use Rattle.disk_tree.specs.Whole.{IsReadWhole}
 use Rattle.disk_tree.proofs.PartsSound.{byte_rules_kept}
 use Rattle.recovery.specs.Freed.{free_part}
 use Rattle.recovery.proofs.FreePart.{free_is_gathered}
 use Rattle.volume_laws.specs.Begun.{StandInBlocks}
-use Rattle.volume_laws.specs.Read.{IsReadWhole, ReadPartsStand}
+use Rattle.volume_laws.specs.Read.{ReadPartsStand}
 use Rattle.volume_laws.proofs.BlocksHeld.{block_at, all_blocks, store_of, in_all, all_stand, all_long}
 
 -- what stands at the place of an indirect block is that

@@ -1,10 +1,12 @@
 -- A mount of a disk that told an image begins a volume with the image's own parts.
-use Rattle.std.proofs.Common.{◌≡◌, ℕ, ◌*◌, ◌<◌, false, cond, List, [], length, replicate, Option, Some, None, is_some, refl, sym, ap, subst, ◌∙◌, arith}
-use Rattle.std.specs.Prelude.{is_none}
+use Rattle.std.proofs.Common.{◌≡◌, ℕ, ◌*◌, ◌<◌, false, cond, List, [], length, replicate, Option, Some, None, is_some, inl, inr}
+use Rattle.std.proofs.Common.{refl, sym, ap, subst, ◌∙◌, arith}
+use Rattle.std.specs.Prelude.{is_none, slice_index_or}
+use Rattle.std.proofs.lemmas.Bool.{cases_eq}
 use Rattle.sfs_base.proofs.BasicOptions.{none_some, some_same}
 use Rattle.sfs_base.proofs.BasicTruth.{true_not_false}
 use Rattle.sfs_image.specs.Inode.{inode_of, inode_bytes, inode_fault}
-use Rattle.sfs_image.specs.Part.{Part, part_of, inode_in, tabulate}
+use Rattle.sfs_image.specs.Part.{Part, part_of, inode_in, pointer_at, tabulate}
 use Rattle.sfs_image.specs.Settled.{SlotFault, image_block, settled, layout_of, parts_of, super_fault_of, journal_fault_of}
 use Rattle.sfs_image.specs.Super.{Layout}
 use Rattle.sfs_image.proofs.AcceptedLaws.{raw_of}
@@ -16,12 +18,14 @@ use Rattle.image_tree.specs.ImageTree.{image_tree}
 use Rattle.image_tree.specs.Rules.{TreeFault, tree_fault}
 use Rattle.disk_tree.specs.Judged.{fault_of_parts}
 use Rattle.disk_tree.specs.Told.{SettlesRecords}
+use Rattle.disk_tree.specs.Whole.{IsReadWhole, IsWholeRecord}
 use Rattle.disk_tree.proofs.PartsSound.{byte_rules_kept}
+use Rattle.disk_tree.proofs.PartsWhole.{part_whole}
 use Rattle.recovery.specs.Freed.{without_unlinked}
-use Rattle.recovery.proofs.JudgedImage.{has_no_fault, are_faultless}
+use Rattle.recovery.proofs.JudgedImage.{has_no_fault, are_faultless, parts_read, points_well}
 use Rattle.mount.specs.Mounted.{making_with, share_of_nodes, IsSoundMount}
 use Rattle.mount.specs.declared.begin.Mounted.{Mounted}
-use Rattle.volume_laws.specs.Begun.{StandInBlocks, BeginsVolume, HasToldRecords, ToldMountsBegin}
+use Rattle.volume_laws.specs.Begun.{StandInBlocks, BeginsVolume, WasMountedOf, ToldMountsBegin}
 use Rattle.volume_laws.proofs.Mounts.{mounts_begin}
 
 -- Nothing is wrong in an image's superblock and journals.
@@ -38,7 +42,7 @@ start_of image = by (super_fault_of image) (journal_fault_of (layout_of image) i
     by (Some at) journal tree a b e = absurd (none_some (sym e))
     by None (Some slot) tree a b e = absurd (none_some (sym e))
 
-module _ (nodes size : ℕ) (image : List ℕ) (mounted : Mounted) (told : HasToldRecords nodes size image mounted) where
+module _ (nodes size : ℕ) (image : List ℕ) (mounted : Mounted) (told : WasMountedOf nodes size image mounted) where
   abbrev layout : Layout
   layout = mounted.layout
 
@@ -54,7 +58,10 @@ module _ (nodes size : ℕ) (image : List ℕ) (mounted : Mounted) (told : HasTo
   some : 0 < layout.inodes
   some = let low = told.sound.fits.ranges.inodes_low in omega (arith, low)
 
-  settles : SettlesRecords image layout (tabulate layout.inodes (settled layout image))
+  abbrev records : List (List ℕ)
+  records = tabulate layout.inodes (settled layout image)
+
+  settles : SettlesRecords image layout records
   settles = record {
     super = (start_of image no_fault).super;
     layout_is = told.is.layout_is;
@@ -63,7 +70,7 @@ module _ (nodes size : ℕ) (image : List ℕ) (mounted : Mounted) (told : HasTo
   }
 
   faultless : fault_of_parts layout parts ≡ None
-  faultless = (are_faultless image layout (tabulate layout.inodes (settled layout image)) settles some no_fault).none
+  faultless = (are_faultless image layout records settles some no_fault).none
 
   shown : mounted.tree ≡ image_tree (inodes_shown layout parts) (making_with nodes layout)
   shown =
@@ -72,12 +79,28 @@ module _ (nodes size : ℕ) (image : List ℕ) (mounted : Mounted) (told : HasTo
       ∙ sym (ap (λ (l : Layout). image_tree (inodes_shown l (parts_of l image))
       (record { first = l.inodes; share = share; made = replicate l.cores 0 })) told.is.layout_is)
 
+  -- each pointer names a block of the disk
+  pointer_low : (i place : ℕ) → i < layout.inodes → pointer_at (parts i) place < layout.blocks
+  pointer_low i place low = elim (cases_eq (pointer_at (parts i) place) 0) [
+    | inl hole ↦ (let room = told.sound.fits.room in omega (arith, hole, room))
+    | inr there ↦ (points_well image layout records settles some no_fault i low place there).1
+  ]
+
+  -- so the image has each part whole
+  whole : (i : ℕ) → i < layout.inodes → IsReadWhole (parts i)
+  whole i low =
+      part_whole (Some image) (slice_index_or records i []) (parts i) (parts_read image layout records settles some no_fault i low)
+      (subst IsWholeRecord (sym (settles.each i low)) (told.is.whole i low)) layout
+      (record { size = size; fits = told.sound.fits; sized = λ content is. sym (ap length (some_same is)) ∙ told.sized })
+      (λ place within. pointer_low i place low)
+
   sound_of_image : IsSoundMount nodes size mounted
   sound_of_image = record {
     fits = told.sound.fits;
     sound = told.sound.sound;
     limits = told.sound.limits;
     parts = parts;
+    whole = whole;
     faultless = faultless;
     shown = shown;
     entries = told.is.entries;
@@ -88,7 +111,8 @@ module _ (nodes size : ℕ) (image : List ℕ) (mounted : Mounted) (told : HasTo
   spelled_at : (i : ℕ) → i < layout.inodes → inode_bytes (inode_in (parts i)) ≡ (parts i).raw
   spelled_at i low =
       subst (λ (raw : List ℕ). inode_bytes (inode_of raw) ≡ raw) (sym (raw_of (image_block image) (settled layout image i)))
-      (inode_bytes-inode_of (settled layout image i) (told.long i low) (told.bytes i low) (none_of (inode_fault (settled layout image i)) kept))
+      (inode_bytes-inode_of (settled layout image i) (told.is.whole i low).long (told.is.whole i low).bytes
+      (none_of (inode_fault (settled layout image i)) kept))
     where
       kept : is_some (inode_fault (settled layout image i)) ≡ false
       kept = ap (λ (raw : List ℕ). is_some (inode_fault raw)) (sym (raw_of (image_block image) (settled layout image i)))
@@ -101,7 +125,7 @@ module _ (nodes size : ℕ) (image : List ℕ) (mounted : Mounted) (told : HasTo
   stand : StandInBlocks (image_block image) layout parts
   stand = record {
     gathered = λ i low. ap (part_of (image_block image)) (raw_of (image_block image) (settled layout image i));
-    records = λ i low. ap length (raw_of (image_block image) (settled layout image i)) ∙ told.long i low;
+    records = λ i low. ap length (raw_of (image_block image) (settled layout image i)) ∙ (told.is.whole i low).long;
     spelled = spelled_at;
     whole = λ block low high.
         let within = told.sound.fits.within in

@@ -4,10 +4,9 @@ use Rattle.std.specs.FinMap.{get, empty}
 use Rattle.sfs_dev.specs.Disk.{View, images}
 use Rattle.sfs_dev.specs.Run.{EachMoment}
 use Rattle.sfs_dev.specs.Steps.{IfTold}
-use Rattle.sfs_image.specs.Bytes.{AreBytes}
 use Rattle.sfs_image.specs.ImageOf.{IsImageOf}
 use Rattle.sfs_image.specs.Part.{Part, IsGathered}
-use Rattle.sfs_image.specs.Settled.{image_block, settled, parts_of}
+use Rattle.sfs_image.specs.Settled.{image_block, parts_of}
 use Rattle.sfs_image.specs.Super.{Layout, data_start}
 use Rattle.sfs_tree.specs.Tree.{TreeState}
 use Rattle.journal_one.specs.Known.{EachLeft}
@@ -81,15 +80,13 @@ abbrev pub ToldMountsLeave : View → View → Type 0
 ToldMountsLeave old new = (nodes : ℕ) (image : List ℕ) (mounted : Mounted) → WasTold nodes image mounted old new
     → LeavesMounted nodes image mounted old new
 
--- What was mounted of a told image, whose settled records are bytes.
-pub record HasToldRecords (nodes size : ℕ) (image : List ℕ) (mounted : Mounted) : Type 0 where
+-- What was mounted of a told image, which has its disk's size.
+pub record WasMountedOf (nodes size : ℕ) (image : List ℕ) (mounted : Mounted) : Type 0 where
   pub is : IsMountOf nodes image mounted
   pub sound : IsSoundMount nodes size mounted
   pub sized : length image ≡ 4096 * size
-  pub long : (i : ℕ) → i < mounted.layout.inodes → length (settled mounted.layout image i) ≡ 512
-  pub bytes : (i : ℕ) → i < mounted.layout.inodes → AreBytes (settled mounted.layout image i)
 
 -- So it is of the image's own parts, in the image's own blocks.
 abbrev pub ToldMountsBegin : Type 0
-ToldMountsBegin = (nodes size : ℕ) (image : List ℕ) (mounted : Mounted) → HasToldRecords nodes size image mounted
+ToldMountsBegin = (nodes size : ℕ) (image : List ℕ) (mounted : Mounted) → WasMountedOf nodes size image mounted
     → BeginsVolume mounted (image_block image) (without_unlinked (parts_of mounted.layout image))

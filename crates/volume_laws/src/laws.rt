@@ -2,6 +2,7 @@
 ghost use Rattle.volume_laws.specs.Begun.{MountsBegin, ToldMountsBegin, ToldMountsLeave};
 ghost use Rattle.volume_laws.specs.Commits.{OkCommitsGoOn, EmptyCommitsWrite, BuiltJobsWritePlans};
 ghost use Rattle.volume_laws.specs.Laws.{LongerHistoriesStayBetween};
+ghost use Rattle.volume_laws.specs.Mounting.{MountsAreVolumes};
 ghost use Rattle.volume_laws.specs.Read.{ReadPartsStand};
 ghost use Rattle.volume_laws.specs.Stores.{StoresGoOn, CommitsStayStanding};
 
@@ -47,7 +48,7 @@ pub fn told_mounts_leave<D: Disk>(disk: &D, later: &D)
     ensures { ToldMountsLeave (D.view disk.now) (D.view later.now) }
 {}
 
-/// So does one of a disk that told an image, whose records are bytes, with the image's own parts.
+/// So does one of a disk that told an image, with the image's own parts.
 pub fn told_mounts_begin()
     ensures { ToldMountsBegin }
 {}
@@ -55,4 +56,9 @@ pub fn told_mounts_begin()
 /// Parts without a fault that were read whole stand in blocks.
 pub fn read_parts_stand()
     ensures { ReadPartsStand }
+{}
+
+/// Each mount that ended with an Ok begins a volume, whether its disk told its content or not.
+pub fn mounts_are_volumes<D: Disk>(disk: &D, later: &D)
+    ensures { MountsAreVolumes (D.view disk.now) (D.view later.now) }
 {}

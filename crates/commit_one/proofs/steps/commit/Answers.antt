@@ -11,7 +11,8 @@ use Rattle.journal_one.specs.Known.{EachLeft, IsFilling, IsFilled, IsDurable, Ar
 use Rattle.journal_one.specs.Stage.{Stage, left_to_fill, left_to_place}
 use Rattle.commit_one.specs.Carried.{Keeps, Opens, Shuts, Carries, TakesCalls, device_calls}
 use Rattle.commit_one.specs.Change.{IsBefore, IsByItsSlot, IsAfter, AreFree, IsChangeOf, job_for}
-use Rattle.commit_one.proofs.Whole.{filling_before, each_moment, fill_moments, open_moments, place_moments, shut_moments, acknowledged}
+use Rattle.commit_one.proofs.Moments.{telling_trans}
+use Rattle.commit_one.proofs.Whole.{filling_before, each_moment, fill_moments, open_moments, open_tells, place_moments, place_tells, shut_moments, acknowledged}
 use Rattle.commit_one.proofs.steps.commit.Goals as goal
 
 pub returns-in_err-filled-clause-carried : goal.returns-in_err-filled-clause-carried
@@ -29,6 +30,7 @@ returns-in_err-filled-clause-carried g c parts new change before =
     let err = err_from_is_err_and c.from_residual.result c.from_residual.ensures.1 in
     subst (λ r. Carries job parts new old first r) (sym err.1)
     (record {
+      told = kept.told;
       each_moment = each_moment job sound parts new change old before first (fill_moments job sound parts new change old before first kept most_filled) c.fill.ensures.goes;
       acknowledged = tt;
       ended = tt;
@@ -99,6 +101,7 @@ returns-in_err-durable-clause-carried g c parts new change before =
     let err = err_from_is_err_and c.from_residual-in_err-durable.result c.from_residual-in_err-durable.ensures.1 in
     subst (λ r. Carries job parts new old second r) (sym err.1)
     (record {
+      told = open_tells job sound parts new change old before first kept most_filled second goes_second all_filled opens.told opens.later most_opened;
       each_moment = each_moment job sound parts new change old before second (open_moments job sound parts new change old before first kept most_filled second goes_second all_filled opens.told opens.later most_opened) (GoesOn-trans old first second goes_first goes_second);
       acknowledged = tt;
       ended = tt;
@@ -194,6 +197,7 @@ returns-in_err-placed-clause-carried g c parts new change before =
     let err = err_from_is_err_and c.from_residual-in_err-placed.result c.from_residual-in_err-placed.ensures.1 in
     subst (λ r. Carries job parts new old third r) (sym err.1)
     (record {
+      told = place_tells job sound parts new change old before first kept most_filled second goes_second all_filled opens.told opens.later most_opened third goes_third all_opened placed_keeps;
       each_moment = each_moment job sound parts new change old before third (place_moments job sound parts new change old before first kept most_filled second goes_second all_filled opens.told opens.later most_opened third goes_third all_opened placed_keeps) (GoesOn-trans old second third (GoesOn-trans old first second goes_first goes_second) goes_third);
       acknowledged = tt;
       ended = tt;
@@ -311,6 +315,7 @@ returns-in_err-idle-clause-carried g c parts new change before =
     let err = err_from_is_err_and c.from_residual-in_err-idle.result c.from_residual-in_err-idle.ensures.1 in
     subst (λ r. Carries job parts new old now r) (sym err.1)
     (record {
+      told = telling_trans old third now (place_tells job sound parts new change old before first kept most_filled second goes_second all_filled opens.told opens.later most_opened third goes_third all_opened placed_keeps) shuts.told;
       each_moment = each_moment job sound parts new change old before now (shut_moments job sound parts new change old before first kept most_filled second goes_second all_filled opens.told opens.later most_opened third goes_third all_opened placed_keeps now goes_now shuts.later) (GoesOn-trans old third now (GoesOn-trans old second third (GoesOn-trans old first second goes_first goes_second) goes_third) goes_now);
       acknowledged = tt;
       ended = tt;
@@ -429,6 +434,7 @@ returns-clause-carried g c parts new change before =
     placed c.shut.ensures.shuts parts new sound change is_placed placed_keeps.now in
     let ended : EachLeft now (IsAfter job parts new) = subst (λ r. OnOk r (EachLeft now (IsAfter job parts new))) c.in_ok-idle.was shuts.ended in
     record {
+      told = telling_trans old third now (place_tells job sound parts new change old before first kept most_filled second goes_second all_filled opens.told opens.later most_opened third goes_third all_opened placed_keeps) shuts.told;
       each_moment = each_moment job sound parts new change old before now (shut_moments job sound parts new change old before first kept most_filled second goes_second all_filled opens.told opens.later most_opened third goes_third all_opened placed_keeps now goes_now shuts.later) (GoesOn-trans old third now (GoesOn-trans old second third (GoesOn-trans old first second goes_first goes_second) goes_third) goes_now);
       acknowledged = acknowledged job sound parts new change old before first kept most_filled second goes_second all_filled opens.told opens.later most_opened third goes_third all_opened placed_keeps now goes_now shuts.later opened;
       ended = ended;

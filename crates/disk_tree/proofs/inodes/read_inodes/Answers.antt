@@ -3,7 +3,8 @@ use Rattle.sfs_image.specs.Inode.{Inode}
 use Rattle.std.proofs.lemmas.Bool.{eqb-true, eqb-false}
 use Rattle.disk_tree.specs.Inodes.{inode_at, breaks_size_by}
 use Rattle.disk_tree.specs.First.{IsFirst, NonePasses}
-use Rattle.disk_tree.proofs.InodesRead.{malformed_refusal, root_is_refused, size_is_refused, record_rules_kept, kind_in_record, sizes_none, sizes_first, sound_all}
+use Rattle.disk_tree.proofs.InodesRead.{malformed_refusal, root_is_refused, size_is_refused, record_rules_kept, kind_in_record}
+use Rattle.disk_tree.proofs.InodesRead.{sizes_none, sizes_first, sound_all, whole_all}
 use Rattle.disk_tree.proofs.inodes.read_inodes.Goals as goal
 
 pub returns-in-Err-clause-bad : goal.returns-in-Err-clause-bad
@@ -29,5 +30,7 @@ returns-clause-keep c =
     let is = c.in-Ok.ensures.inodes in
     let two : eqb (inode_at c.in-Ok.inodes.items 0).kind 2 ≡ true = subst (λ (xs : List Inode). eqb (inode_at xs 0).kind 2 ≡ true) c.deref.ensures.value (sym c.if-not-has_root.ensures) in
     let same = kind_in_record c.args.layout.now c.args.records.now.items c.in-Ok.inodes.items c.requires.count is 0 c.requires.some in
-    record_rules_kept c.args.layout.now c.args.records.now.items (sound_all c.args.layout.now c.args.records.now.items c.in-Ok.inodes.items c.requires.count is c.in-Ok.ensures.sound) (sym same ∙ eqb-true _ _ two)
+    record_rules_kept c.args.layout.now c.args.records.now.items
+    (whole_all c.args.layout.now c.args.records.now.items c.in-Ok.inodes.items c.requires.count is c.in-Ok.ensures.whole)
+    (sound_all c.args.layout.now c.args.records.now.items c.in-Ok.inodes.items c.requires.count is c.in-Ok.ensures.sound) (sym same ∙ eqb-true _ _ two)
     (sizes_none c.args.layout.now c.args.records.now.items c.in-Ok.inodes.items c.requires.count is (subst (λ (xs : List Inode). NonePasses (length xs) (λ i. breaks_size_by (inode_at xs i))) c.deref-2.ensures.value c.in_default.ensures))

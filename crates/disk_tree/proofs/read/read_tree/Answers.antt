@@ -11,6 +11,7 @@ use Rattle.disk_tree.specs.KeptParts.{gathered_in_use}
 use Rattle.disk_tree.specs.Rows.{AreNamingCounts}
 use Rattle.disk_tree.specs.declared.fault.TreeFault.{TreeFault}
 use Rattle.disk_tree.specs.declared.found.Found.{Found}
+use Rattle.disk_tree.proofs.PartsWhole.{LiesOnDisk}
 use Rattle.disk_tree.proofs.TreeRead.{rows_few, refusal, may, is_found}
 use Rattle.disk_tree.proofs.read.read_tree.Goals as goal
 
@@ -53,6 +54,9 @@ built_tree-requires-clause-may g c =
 
 pub returns-clause-ok : goal.returns-clause-ok
 returns-clause-ok g c =
+    let laws = g.met.D.Disk g.world.𝓛 g.world.𝓜 g.world.𝓡 ((λ s x. x), (λ x. x), (λ x. x), λ x. x) in
+    let lies : LiesOnDisk (g.D.Disk.view c.args.disk.now).content c.args.layout.now =
+    record { size = (g.D.Disk.view c.args.disk.now).size; fits = c.requires.layout; sized = laws.whole c.args.disk.now } in
     let low = c.requires.layout.ranges.inodes_low in
     let read = c.in_ok-read.read in
     let rows = c.in_ok-rows.rows.items in
@@ -62,7 +66,7 @@ returns-clause-ok g c =
     subst (λ (rows : List (Roomy Row)). AreNamingCounts rows (length read.inodes.items) (length read.inodes.items) c.in_ok-named.named.items) c.deref-3.ensures.value
     (subst (λ (inodes : List Inode). AreNamingCounts c.deref-3.result.now (length inodes) (length inodes) c.in_ok-named.named.items) c.deref-2.ensures.value c.in_ok-named.ensures.named) in
     is_found (g.D.Disk.view c.args.disk.now).content c.args.layout.now c.args.records.now.items c.requires.count (omega arith) read c.in_ok-read.ensures.ok
-    c.deref.result.now c.deref.ensures.value rows c.in_ok-rows.ensures kept c.in_ok-named.named.items naming _
+    c.deref.result.now c.deref.ensures.value rows c.in_ok-rows.ensures kept c.in_ok-named.named.items naming lies _
     (c.in_ok-tree.ensures
     ∙ ap (λ (named : List ℕ). tree_of_entries c.args.layout.now (node_entries read.inodes.items named read.contents.items (length read.inodes.items)) (row_entries c.deref-5.result.now (length c.deref-5.result.now))) c.deref-4.ensures.value
     ∙ ap (λ (rows : List (Roomy Row)). tree_of_entries c.args.layout.now (node_entries read.inodes.items c.in_ok-named.named.items read.contents.items (length read.inodes.items)) (row_entries rows (length rows))) c.deref-5.ensures.value)

@@ -15,5 +15,7 @@ returns c =
           λ touches. (touched.each node).1 (touches_back c.args.logs.now c.requires c.args.start c.args.below members are node touches),
         );
       };
-      nets = c.in_ok-nets.ensures;
+      nets = c.in_ok-nets.ensures.nets;
+      ascend = c.in_ok-nets.ensures.ascend;
+      names = c.in_ok-nets.ensures.names;
     }

@@ -9,10 +9,12 @@ use Rattle.sfs_tree.specs.NameRow.{node_number}
 use Rattle.sfs_tree.specs.declared.changes.Change.{Change}
 use Rattle.dep_closure.specs.Gathered.{span_in}
 use Rattle.disk_change.specs.declared.directory_net.DirectoryNet.{DirectoryNet}
+use Rattle.disk_change.specs.Lists.{AscendBy}
 use Rattle.disk_change.specs.Nodes.{net_node}
 use Rattle.disk_change.proofs.Names.{net_ascends}
-use Rattle.fsync_dir.specs.Concerned.{AreNetsOf}
+use Rattle.fsync_dir.specs.Concerned.{AreNetsOf, HaveGoodNames}
 use Rattle.fsync_dir.specs.Net.{IsNetBy}
+use Rattle.fsync_dir.proofs.GoodNames.{no_nets_named, net_more, pushed_ascends}
 use Rattle.fsync_dir.proofs.MemberNets.{no_nets, none_more, pushed_net, pushed_below}
 use Rattle.fsync_dir.proofs.Picked.{below_next, unlisted_next, apart_from_last, nothing, something}
 use Rattle.fsync_dir.proofs.concerning.member_nets.Goals as goal
@@ -22,10 +24,12 @@ pub loop-member-init : goal.loop-member-init
 loop-member-init c = record {
   are = subst (AreNetsOf c.args.logs.now c.args.below []) (sym c.new-nets.ensures) (no_nets c.args.logs.now c.args.below);
   under = λ b _. subst (All (λ one. net_node one < b)) (sym c.new-nets.ensures) (λ k d within. absurd (omega arith));
+  ascend = subst (AscendBy net_node) (sym c.new-nets.ensures) (λ i j d lt within. absurd (omega arith));
+  names = subst HaveGoodNames (sym c.new-nets.ensures) no_nets_named;
 }
 
 pub invariant_of-push : goal.invariant_of-push
-invariant_of-push c = record { ascending = net_ascends c.in_ok-net.net.items c.in_ok-net.ensures.ascending }
+invariant_of-push c = record { ascending = net_ascends c.in_ok-net.net.items c.in_ok-net.ensures.net.ascending }
 
 pub push-requires-clause-above : goal.push-requires-clause-above
 push-requires-clause-above c =
@@ -44,7 +48,7 @@ loop-member-preserved c =
     let up = subst (λ (l : List NodeId). IsStrictlyIncreasing (map node_number l)) (sym c.as_slice-nodes.ensures) c.requires.members in
     let more : take (i + 1) nodes ≡ take i nodes ++ member ∷ [] = take_more nodes i no_node c.loop-member-test.true in
     let apart : is_listed (map node_number (take i nodes)) member.0 ≡ false = unlisted_next nodes up i no_node c.loop-member-test.true in
-    let net = subst (λ (l : List Change). IsNetBy l c.in_ok-net.net.items) c.span.ensures c.in_ok-net.ensures in
+    let net = subst (λ (l : List Change). IsNetBy l c.in_ok-net.net.items) c.span.ensures c.in_ok-net.ensures.net in
     elim c.if-not-is_empty.branch [
       | then-not-is_empty+in_ok-reserve w ↦
           let some_row : c.in_ok-net.net.items ≢ [] = λ none. something c.in_ok-net.net.items (sym c.is_empty.ensures ∙ w.if-not-is_empty.true) none in
@@ -57,6 +61,13 @@ loop-member-preserved c =
                 let each = apart_from_last (λ (one : NodeId). one.0 < b) (take i nodes) member (subst (All (λ (one : NodeId). one.0 < b)) more below) in
                 subst (All (λ one. net_node one < b)) (sym is)
                 (pushed_below _ c.loop-member.nets.items w.reserve.new.self.items w.push.new.self.items w.push.ensures.items w.in_ok-reserve.ensures.items b (c.loop-member.invariant.under b each.0) each.1);
+            ascend = subst (AscendBy net_node) (sym is)
+                (pushed_ascends _ c.loop-member.nets.items w.reserve.new.self.items w.push.new.self.items w.push.ensures.items
+                w.in_ok-reserve.ensures.items c.loop-member.invariant.ascend
+                (c.loop-member.invariant.under member.0 (below_next nodes up i no_node c.loop-member-test.true)));
+            names = subst HaveGoodNames (sym is)
+                (net_more _ c.loop-member.nets.items w.reserve.new.self.items w.push.new.self.items w.push.ensures.items
+                w.in_ok-reserve.ensures.items c.loop-member.invariant.names c.in_ok-net.ensures.names);
           }
       | else-not-is_empty w ↦
           let empty : c.in_ok-net.net.items ≡ [] = nothing c.in_ok-net.net.items (sym c.is_empty.ensures ∙ w.if-not-is_empty.false) in
@@ -68,10 +79,12 @@ loop-member-preserved c =
             under = λ b below.
                 let each = apart_from_last (λ (one : NodeId). one.0 < b) (take i nodes) member (subst (All (λ (one : NodeId). one.0 < b)) more below) in
                 subst (All (λ one. net_node one < b)) (sym same) (c.loop-member.invariant.under b each.0);
+            ascend = subst (AscendBy net_node) (sym same) c.loop-member.invariant.ascend;
+            names = subst HaveGoodNames (sym same) c.loop-member.invariant.names;
           }
     ]
 
-pub returns : goal.returns
-returns c =
+pub returns-clause-nets : goal.returns-clause-nets
+returns-clause-nets c =
     subst (λ (l : List NodeId). AreNetsOf c.args.logs.now c.args.below l c.loop-member.nets.items)
     (take_all c.loop-member.member-index c.as_slice-nodes.result.now c.loop-member-test.false ∙ c.as_slice-nodes.ensures) c.loop-member.invariant.are

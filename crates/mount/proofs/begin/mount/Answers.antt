@@ -32,6 +32,7 @@ returns-clause-ok g c image told =
     let shared : c.allow.new.self ≡ record report.tree { share = share_of_nodes c.args.nodes report.layout } = c.allow.ensures.share ∙ ap (λ share. record report.tree { share = share }) c.share_of.ensures in
     record {
       layout_is = own.layout_is;
+      whole = own.whole;
       tree = shared_tree_of image (share_of_nodes c.args.nodes report.layout) report.tree own.tree ∙ ap Some (sym shared);
       entries = c.in_ok-old.ensures ∙ ap (map entry_mounted) own.kept;
     }
@@ -47,6 +48,7 @@ returns-clause-sound g c =
       sound = record { sound = subst IsSound (sym shared) (sound_shared report.tree share own.sound.sound); numbered = c.allow.ensures.numbered };
       limits = subst IsWithinLimits (sym shared) (limits_shared report.tree share own.limits);
       parts = own.parts;
+      whole = own.whole;
       faultless = own.faultless;
       shown = shared ∙ ap (λ (tree : TreeState). record tree { share = share }) own.shown;
       entries = c.in_ok-old.ensures ∙ ap (map entry_mounted) own.kept;

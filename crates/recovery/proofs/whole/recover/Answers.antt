@@ -4,7 +4,7 @@ use Rattle.std.specs.List.Sorted.{IsStrictlyIncreasing}
 use Rattle.sfs_base.specs.Ends.{HasRisen}
 use Rattle.sfs_dev.proofs.Runs.{GoesOn-trans}
 use Rattle.recovery.proofs.BegunFrom.{as_many}
-use Rattle.recovery.proofs.JudgedImage.{image_stands}
+use Rattle.recovery.proofs.JudgedImage.{image_stands, settled_whole}
 use Rattle.recovery.proofs.KeptLinked.{kept_linked, orphans_are_those, unlinked_few, slots_few}
 use Rattle.recovery.proofs.RecoverMoments.{calm_stays, read_moments, all_moments, all_ended, ready_by, failed_for}
 use Rattle.recovery.proofs.Unlinked.{unlinked_ascend}
@@ -67,6 +67,7 @@ returns-clause-ok g c image told =
     let judged = c.in_ok-layout.field-0 in
     record {
       layout_is = own.settles.layout_is;
+      whole = settled_whole image judged c.in_ok-layout.ensures.found own.settles;
       tree = own.found.tree;
       kept = c.in_ok-parts.ensures ∙ ap (filter is_linked_kept) own.found.kept ∙ kept_linked judged.layout.inodes (parts_of judged.layout image);
       closed = c.count_of.ensures ∙ ap length c.deref-4.ensures.value ∙ as_many judged.layout image judged.open_slots.items own.open_slots;
@@ -83,6 +84,7 @@ returns-clause-sound g c =
       sound = found.sound;
       limits = found.limits;
       parts = found.parts;
+      whole = found.whole;
       faultless = found.faultless;
       shown = found.tree;
       kept = c.in_ok-parts.ensures ∙ ap (filter is_linked_kept) found.kept ∙ kept_linked judged.layout.inodes found.parts;
@@ -132,6 +134,19 @@ returns-clause-ended g c image told calm =
     c.deref-2.ensures.value c.deref-3.ensures.value c.as_slice-2.ensures stands own.open_slots (own.newest stands) in
     all_ended image judged.layout judged.records.items own.settles some own.faultless (view c.judge.new.disk) (view c.settle_disk.new.disk) _
     (c.in_ok-settle_disk.ensures.settles image mid_told calm_mid ready)
+
+pub returns-clause-tells : goal.returns-clause-tells
+returns-clause-tells g c image told calm content is =
+    let view = g.D.Disk.view in
+    let judged = c.in_ok-layout.field-0 in
+    let own = c.in_ok-layout.ensures.ok image told in
+    let some = some_inode judged.layout.inodes c.in_ok-layout.ensures.fits.ranges.inodes_low in
+    let stands = image_stands image judged.layout judged.records.items own.settles some own.faultless in
+    let mid_told = c.in_ok-layout.ensures.reads.unwritten.content ∙ told in
+    let calm_mid = calm_stays (view c.args.disk.now) (view c.judge.new.disk) c.in_ok-layout.ensures.reads.unwritten calm in
+    let ready = ready_by image judged.layout judged.open_slots.items c.deref-2.result.now judged.stamps.items c.deref-3.result.now judged.records.items c.as_slice-2.result.now
+    c.deref-2.ensures.value c.deref-3.ensures.value c.as_slice-2.ensures stands own.open_slots (own.newest stands) in
+    (c.in_ok-settle_disk.ensures.settles image mid_told calm_mid ready).told content (c.in_ok-layout.ensures.reads.unwritten.content ∙ is)
 
 pub returns-clause-calm : goal.returns-clause-calm
 returns-clause-calm g c calm =

@@ -1,0 +1,15 @@
+pub mod Between
+pub mod FewNew
+pub mod Directories
+pub mod Rewrites
+pub mod Seats
+pub mod Planned
+pub mod Made
+pub mod Needs
+pub mod Least
+pub mod Fits
+pub mod Images
+pub mod Leaves
+pub mod Touched
+pub mod OwnFiles
+pub mod Led

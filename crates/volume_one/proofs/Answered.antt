@@ -1,0 +1,196 @@
+-- However an fsync ends, what it makes of an open volume and of its disk.
+use Rattle.std.proofs.Common.{◌≡◌, ℕ, Bool, true, false, List, length, map, Option, Some, None, refl, sym, ap, subst, ◌∙◌}
+use Rattle.std.specs.Prelude.{Result, Ok, Err}
+use Rattle.std.specs.Prelude.{◌↔◌}
+use Rattle.sfs_base.specs.Listed.{is_listed}
+use Rattle.sfs_base.specs.declared.numbers.NodeId.{NodeId}
+use Rattle.sfs_base.specs.declared.numbers.Stamp.{Stamp}
+use Rattle.sfs_dev.specs.Disk.{View, images}
+use Rattle.sfs_dev.specs.Run.{Advances, CountsOn}
+use Rattle.sfs_dev.specs.Steps.{IfTold}
+use Rattle.sfs_image.specs.Super.{Layout}
+use Rattle.sfs_base.specs.Ends.{HasRisen}
+use Rattle.sfs_tree.specs.declared.reply.Reply.{Reply}
+use Rattle.sfs_tree.specs.declared.reply.Reply.TheVariants as reply
+use Rattle.sfs_tree.specs.NameRow.{node_number}
+use Rattle.sfs_tree.specs.Tree.{is_alive}
+use Rattle.journal_one.specs.Packed.{Contents}
+use Rattle.journal_one.specs.declared.doubt.Doubt.{Doubt}
+use Rattle.space_map.specs.Space.{Space, GrantedNumbers}
+use Rattle.crash_laws.specs.Wrote.{Wrote}
+use Rattle.flush_core.specs.Closure.{Closure, every_entry}
+use Rattle.fsync_dir.specs.declared.plans.FsyncPlan.{FsyncPlan}
+use Rattle.fsync_plans.specs.Plans.{planned_flush}
+use Rattle.volume_laws.specs.Stores.{volume_left}
+use Rattle.volume_laws.specs.Volume.{Volume, OneFsync, tree_held, tree_raised}
+use Rattle.volume_laws.proofs.Stores.{stores_go_on}
+use Rattle.volume_one.specs.Carry.{CarriesPacked}
+use Rattle.volume_one.specs.Ends.{FlushEnds, PlanEnds, GrantEnds, ReadyEnds, dead, stopped, unplanned, planned, short, unreserved, reserved, unready, readied, carried, doubted, with_space}
+use Rattle.volume_one.specs.Fsync.{FsyncMakes, FsyncStays, HoldsVolume, flush_of}
+use Rattle.volume_one.specs.Planned.{WasPlanned}
+use Rattle.volume_one.specs.Ready.{IsReadyFor, IsPackedOf, IsSameButRoom}
+use Rattle.volume_one.specs.Stands.{Remembers}
+use Rattle.volume_one.specs.declared.flushed.Flushed.{Flushed}
+use Rattle.volume_one.specs.declared.preparing.Ready.{Ready}
+use Rattle.volume_one.specs.declared.volume.OpenVolume.{OpenVolume}
+use Rattle.volume_one.proofs.Committing.{IsGranted, own_fsync, planned_for, is_one}
+use Rattle.volume_one.proofs.Flushes.{none_holds, none_wrote, some_holds, some_wrote, doubt_wrote}
+use Rattle.volume_one.proofs.Granting.{granted, was_known}
+use Rattle.volume_one.proofs.Leading.{members_flushed}
+use Rattle.volume_one.proofs.Remembering.{IsLeft, left_remembers, known_remembers, back_left, back_remembers}
+use Rattle.volume_one.proofs.Settling.{remembers_after}
+
+-- the value of an Ok
+abbrev ok_value : Result ℕ Doubt → ℕ
+ok_value (Ok value) = value
+ok_value (Err doubt) = 0
+
+abbrev is_doubt : Result ℕ Doubt → Bool
+is_doubt (Ok value) = false
+is_doubt (Err doubt) = true
+
+never_doubt : (doubt : Doubt) (value : ℕ) → ◌≡◌ {A = Result ℕ Doubt} (Err doubt) (Ok value) → ⊥
+never_doubt doubt value e = let never : true ≡ false = ap is_doubt e in cc
+
+module _ (Same : Type 0) (before after : View) (same_view : Same → after ≡ before) (goes : Advances before after) (leaves : IfTold after.content (images after))
+    (kept : Volume) (node : NodeId) (stamp : Stamp) where
+  -- once it is granted
+  module _ (volume : OpenVolume) (plan : FsyncPlan) (grant : GrantedNumbers) (space : Space) (is : IsGranted kept volume node stamp plan grant space)
+      (members : (other : ℕ) → (is_listed (map node_number plan.members.items) other ≡ true) ↔ Closure kept.first kept.history every_entry kept.cut kept.inodes (planned_flush node stamp) other) where
+    abbrev one : OneFsync
+    one = own_fsync kept volume node stamp plan grant space is
+
+    module _ (ready : Ready) (built : IsReadyFor plan grant ready) (number : ℕ) where
+      -- what was carried and ended is on the disk
+      ended_wrote : (moment : ℕ) (packed : Option Contents) → IsPackedOf built.tx packed → CarriesPacked Same kept.layout number packed before after (Ok moment)
+          → CountsOn after → HoldsVolume kept before → (share : ℕ) → Wrote share (tree_held kept) (tree_raised kept one) before after (Some moment)
+      ended_wrote moment None none (still, ended) counts holds share =
+          subst (λ (m : ℕ). Wrote share (tree_held kept) (tree_raised kept one) before after (Some m)) (sym (ap ok_value ended))
+          (none_wrote kept volume node stamp plan grant space is ready built Same before after same_view goes leaves number none still holds share)
+      ended_wrote moment (Some contents) are gone counts holds share =
+          some_wrote kept volume node stamp plan grant space is ready built Same before after same_view goes leaves number contents are.0 counts holds moment gone share
+
+      ended_holds : (moment : ℕ) (packed : Option Contents) → IsPackedOf built.tx packed → CarriesPacked Same kept.layout number packed before after (Ok moment)
+          → (later : ℕ → List ℕ) → CountsOn after → HoldsVolume kept before → HoldsVolume (volume_left kept one later) after
+      ended_holds moment None none (still, ended) later counts holds =
+          none_holds kept volume node stamp plan grant space is ready built Same before after same_view goes leaves number none still holds later
+      ended_holds moment (Some contents) are gone later counts holds =
+          some_holds kept volume node stamp plan grant space is ready built Same before after same_view goes leaves number contents are.0 counts holds moment gone later
+
+      -- what is in doubt may be
+      doubt_may : (doubt : Doubt) (packed : Option Contents) → IsPackedOf built.tx packed → CarriesPacked Same kept.layout number packed before after (Err doubt)
+          → CountsOn after → HoldsVolume kept before → (share : ℕ) → Wrote share (tree_held kept) (tree_raised kept one) before after None
+      doubt_may doubt None none (still, ended) counts holds share = absurd (never_doubt doubt before.now ended)
+      doubt_may doubt (Some contents) are gone counts holds share =
+          doubt_wrote kept volume node stamp plan grant space is ready built Same before after same_view goes leaves number contents are.0 counts holds doubt gone share
+
+      doubt_faults : (doubt : Doubt) (packed : Option Contents) → CarriesPacked Same kept.layout number packed before after (Err doubt) → doubt.faults ≡ after.faults
+      doubt_faults doubt None (still, ended) = absurd (never_doubt doubt before.now ended)
+      doubt_faults doubt (Some contents) gone = gone.doubt.faults
+
+      doubt_rises : (doubt : Doubt) (packed : Option Contents) → CarriesPacked Same kept.layout number packed before after (Err doubt) → HasRisen before.faults after.faults
+      doubt_rises doubt None (still, ended) = absurd (never_doubt doubt before.now ended)
+      doubt_rises doubt (Some contents) gone = gone.doubt.cause.risen
+
+    module _ (working : volume.failed ≡ None) (ready : Ready) (built : IsReadyFor plan grant ready) (room : OpenVolume) (same : IsSameButRoom (with_space volume space) room) where
+      room_layout : room.layout ≡ kept.layout
+      room_layout = ap (λ (v : OpenVolume). v.layout) same.others ∙ is.remembers.disk.layout
+
+      ready_makes : (new : OpenVolume) (flushed : Flushed) → ReadyEnds Same stamp ready grant before after room new flushed
+          → FsyncMakes Same (λ k. k) kept (flush_of node stamp) before after volume new flushed flushed.reply
+      ready_makes new _ (carried moment packed done) =
+          let stores = stores_go_on kept one (planned_for kept volume node stamp plan grant space is) in
+          let there = subst (λ (l : Layout). CarriesPacked Same l room.commits ready.packed before after (Ok moment)) room_layout packed in
+          record {
+            one = one;
+            later = stores.0;
+            moment = moment;
+            is = is_one kept volume node stamp plan grant space is;
+            store = stores.1;
+            remembers = remembers_after kept volume node stamp plan grant space is ready built room new same done stores.0 stores.1 members;
+            failed = (working, ap (λ (v : OpenVolume). v.failed) done.others ∙ ap (λ (v : OpenVolume). v.failed) same.others ∙ working);
+            acknowledged = refl;
+            holds = ended_holds ready built room.commits moment ready.packed built.packed there stores.0;
+            wrote = ended_wrote ready built room.commits moment ready.packed built.packed there;
+          }
+      ready_makes new _ (doubted doubt other packed back new_is) =
+          let there = subst (λ (l : Layout). CarriesPacked Same l room.commits ready.packed before after (Err doubt)) room_layout packed in
+          let left = back_left kept volume node stamp plan grant space is room (with_space room other) same back in
+          let in_doubt : OpenVolume = record room { space = other; failed = Some doubt.faults } in
+          let is_left : IsLeft kept volume in_doubt =
+          record { tree = left.tree; files = left.files; logs = left.logs; layout = left.layout; known = left.known; entries = left.entries; space = left.space; granted = left.granted } in
+          record {
+            one = one;
+            is = is_one kept volume node stamp plan grant space is;
+            remembers = subst (Remembers kept) (sym new_is) (left_remembers kept volume in_doubt is.remembers is_left);
+            failed = (working, ap (λ (v : OpenVolume). v.failed) new_is ∙ ap Some (doubt_faults ready built room.commits doubt ready.packed there));
+            refused = refl;
+            risen = doubt_rises ready built room.commits doubt ready.packed there;
+            wrote = doubt_may ready built room.commits doubt ready.packed built.packed there;
+          }
+
+    grant_makes : volume.failed ≡ None → (new : OpenVolume) (flushed : Flushed) → GrantEnds Same stamp plan grant before after (with_space volume space) new flushed
+        → FsyncMakes Same (λ k. k) kept (flush_of node stamp) before after volume new flushed flushed.reply
+    grant_makes working new _ (unready still room same back) = record {
+      same = still;
+      remembers = back_remembers kept volume node stamp plan grant space is room new same back;
+      failed = ap (λ (v : OpenVolume). v.failed) back.others ∙ ap (λ (v : OpenVolume). v.failed) same.others;
+      refused = refl;
+    }
+    grant_makes working new flushed (readied _ ready room built same ends) = ready_makes working ready built room same new flushed ends
+
+  -- from the plan on
+  module _ (volume : OpenVolume) (remembers : Remembers kept volume) (counted : length kept.history ≡ stamp.0) (alive : is_alive volume.tree node.0 ≡ true)
+      (plan : FsyncPlan) (was : WasPlanned volume node stamp plan) where
+    plan_makes : volume.failed ≡ None → (new : OpenVolume) (flushed : Flushed) → PlanEnds Same stamp plan before after volume new flushed
+        → FsyncMakes Same (λ k. k) kept (flush_of node stamp) before after volume new flushed flushed.reply
+    plan_makes working new _ (short still new_is kind need free lacks) =
+        record { same = still; remembers = subst (Remembers kept) (sym new_is) remembers; failed = ap (λ (v : OpenVolume). v.failed) new_is; refused = refl }
+    plan_makes working new _ (unreserved still new_is fits) =
+        record { same = still; remembers = subst (Remembers kept) (sym new_is) remembers; failed = ap (λ (v : OpenVolume). v.failed) new_is; refused = refl }
+    plan_makes working new flushed (reserved _ grant space fits inodes blocks ends) =
+        grant_makes volume plan grant space (granted kept node stamp volume remembers counted alive plan was grant space inodes blocks) (members_flushed kept volume remembers stamp counted node alive plan was) working new flushed ends
+
+  -- the whole fsync
+  module _ (old : OpenVolume) (remembers : Remembers kept old) (counted : length kept.history ≡ stamp.0) where
+    pub flush_makes : (new : OpenVolume) (flushed : Flushed) → FlushEnds Same stamp node before after old new flushed
+        → FsyncMakes Same (λ k. k) kept (flush_of node stamp) before after old new flushed flushed.reply
+    flush_makes new _ (dead still new_is gone) =
+        record { same = still; remembers = subst (Remembers kept) (sym new_is) remembers; failed = ap (λ (v : OpenVolume). v.failed) new_is; refused = refl }
+    flush_makes new _ (stopped still new_is alive faults failed) =
+        record { same = still; remembers = subst (Remembers kept) (sym new_is) remembers; failed = ap (λ (v : OpenVolume). v.failed) new_is; refused = refl }
+    flush_makes new _ (unplanned still alive working known) =
+        record { same = still; remembers = known_remembers kept old new remembers known; failed = ap (λ (v : OpenVolume). v.failed) known.others; refused = refl }
+    flush_makes new flushed (planned _ alive working plan known was same ends) =
+        with_failed (sym (ap (λ (v : OpenVolume). v.failed) same.others)) flushed.reply
+        (plan_makes known (known_remembers kept old known remembers same) counted (subst (λ (v : OpenVolume). is_alive v.tree node.0 ≡ true) (sym same.others) alive)
+        plan (was_known node stamp old known same plan was) (ap (λ (v : OpenVolume). v.failed) same.others ∙ working) new flushed ends)
+      where
+        stays : old.failed ≡ known.failed → FsyncStays Same (λ k. k) kept known new flushed → FsyncStays Same (λ k. k) kept old new flushed
+        stays e is = record { same = is.same; remembers = is.remembers; failed = is.failed ∙ sym e; refused = is.refused }
+
+        -- only the count of faults before is told of the volume before
+        with_failed : old.failed ≡ known.failed → (given : Reply) → FsyncMakes Same (λ k. k) kept (flush_of node stamp) before after known new flushed given
+            → FsyncMakes Same (λ k. k) kept (flush_of node stamp) before after old new flushed given
+        with_failed e reply.Ok is = record {
+          one = is.one;
+          later = is.later;
+          moment = is.moment;
+          is = is.is;
+          store = is.store;
+          remembers = is.remembers;
+          failed = (e ∙ is.failed.0, is.failed.1);
+          acknowledged = is.acknowledged;
+          holds = is.holds;
+          wrote = is.wrote;
+        }
+        with_failed e reply.DiskFailed is =
+            record { one = is.one; is = is.is; remembers = is.remembers; failed = (e ∙ is.failed.0, is.failed.1); refused = is.refused; risen = is.risen; wrote = is.wrote }
+        with_failed e (reply.Node n k) is = stays e is
+        with_failed e (reply.Bytes b) is = stays e is
+        with_failed e (reply.Stat k l s) is = stays e is
+        with_failed e (reply.Names r) is = stays e is
+        with_failed e (reply.Error c) is = stays e is
+        with_failed e (reply.NoSpace k n f) is = stays e is
+        with_failed e (reply.Stopped f) is = stays e is
+        with_failed e reply.NoMemory is = stays e is

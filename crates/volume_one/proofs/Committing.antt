@@ -1,0 +1,106 @@
+-- The commit of a planned fsync of an open volume.
+use Rattle.std.proofs.Common.{◌≡◌, ℕ, List, length, map, Some, refl, subst, arith}
+use Rattle.sfs_base.specs.declared.numbers.NodeId.{NodeId}
+use Rattle.sfs_base.specs.declared.numbers.Stamp.{Stamp}
+use Rattle.sfs_tree.specs.NameRow.{node_number}
+use Rattle.fmt_journal.specs.declared.tx.Tx.{Tx}
+use Rattle.journal_one.specs.Packed.{contents_of}
+use Rattle.space_map.specs.Pool.{Grants}
+use Rattle.space_map.specs.Space.{Space, GrantedNumbers}
+use Rattle.disk_change.specs.Planned.{Planned}
+use Rattle.disk_change.specs.Written.{IsTransactionOf}
+use Rattle.disk_change.specs.declared.old.OldEntry.{OldEntry}
+use Rattle.commit_laws.specs.CommitOfPlan.{CommitPlan, change_planned}
+use Rattle.flush_core.specs.Closure.{HasLiveNode}
+use Rattle.flush_commits.specs.Planned.{GrantsPlan}
+use Rattle.fsync_plans.specs.Leads.{LeadsToCut}
+use Rattle.fsync_plans.specs.Plans.{planned_flush}
+use Rattle.fsync_dir.specs.declared.plans.FsyncPlan.{FsyncPlan}
+use Rattle.space_laws.specs.Laws.{BringsNames}
+use Rattle.space_laws.specs.Map.{WasGranted}
+use Rattle.space_laws.proofs.Filled.{grants_serve_plans}
+use Rattle.volume_laws.specs.Commits.{WasBuilt, CanCommit}
+use Rattle.volume_laws.specs.Stores.{ComesNow}
+use Rattle.volume_laws.specs.Volume.{Volume, OneFsync, IsPlannedFor}
+use Rattle.volume_laws.proofs.Commits.{built_jobs_write_plans}
+use Rattle.volume_one.specs.Carry.{first_slot, MayCarry}
+use Rattle.volume_one.specs.Ends.{need_of_change}
+use Rattle.volume_one.specs.Entries.{entries_in}
+use Rattle.volume_one.specs.Fsync.{IsOneOf, flush_of}
+use Rattle.volume_one.specs.Stands.{Remembers}
+use Rattle.volume_one.specs.declared.volume.OpenVolume.{OpenVolume}
+
+-- A volume at the commit of a planned fsync: its plan leads to the raised cut, its nets have names, and what it needs was granted.
+pub record IsGranted (kept : Volume) (volume : OpenVolume) (node : NodeId) (stamp : Stamp) (plan : FsyncPlan) (grant : GrantedNumbers) (space : Space) : Type 0 where
+  pub remembers : Remembers kept volume
+  pub counted : length kept.history ≡ stamp.0
+  pub live : HasLiveNode kept.first kept.history (planned_flush node stamp)
+  pub leads : LeadsToCut kept.first kept.history kept.cut kept.inodes (planned_flush node stamp) (entries_in volume.stored) plan
+  pub names : BringsNames leads.commit.nets
+  pub inodes : Grants volume.space.inodes (need_of_change plan.change).inodes grant.inodes space.inodes
+  pub blocks : Grants volume.space.blocks (need_of_change plan.change).blocks grant.blocks space.blocks
+
+module _ (kept : Volume) (volume : OpenVolume) (node : NodeId) (stamp : Stamp) (plan : FsyncPlan) (grant : GrantedNumbers) (space : Space)
+    (is : IsGranted kept volume node stamp plan grant space) where
+  abbrev pub commit_plan : CommitPlan
+  commit_plan = is.leads.commit
+
+  abbrev pub own_nodes : List ℕ
+  own_nodes = map node_number plan.nodes.items
+
+  abbrev pub own_entries : List OldEntry
+  own_entries = entries_in volume.stored
+
+  pub was_granted : WasGranted commit_plan volume.space grant space
+  was_granted = record {
+    inodes = subst (λ (change : Planned). Grants volume.space.inodes (need_of_change change).inodes grant.inodes space.inodes) is.leads.made is.inodes;
+    blocks = subst (λ (change : Planned). Grants volume.space.blocks (need_of_change change).blocks grant.blocks space.blocks) is.leads.made is.blocks;
+  }
+
+  grants_plan : GrantsPlan kept.layout kept.parts commit_plan grant
+  grants_plan =
+      grants_serve_plans kept.first kept.history kept.flushes kept.cut kept.inodes (planned_flush node stamp) is.leads.raised is.leads.after kept.num
+      kept.layout kept.store kept.parts own_nodes own_entries commit_plan volume.space space grant is.remembers.stands.between is.remembers.disk.entries
+      is.leads.leads is.names is.remembers.disk.space was_granted
+
+  -- the fsync with its plan and its grant
+  abbrev pub own_fsync : OneFsync
+  own_fsync = record {
+    flush = planned_flush node stamp;
+    raised = is.leads.raised;
+    after = is.leads.after;
+    nodes = own_nodes;
+    entries = own_entries;
+    plan = commit_plan;
+    grant = grant;
+  }
+
+  pub planned_for : IsPlannedFor kept own_fsync
+  planned_for = record {
+    ready = is.remembers.stands.between;
+    keeps = is.remembers.disk.entries;
+    raises = is.leads.raises;
+    inodes_after = is.leads.inodes_after;
+    plans = is.leads.leads;
+    grants = grants_plan;
+  }
+
+  pub comes_now : ComesNow kept own_fsync
+  comes_now = record { low = omega (arith, is.counted); live = is.live }
+
+  pub is_one : IsOneOf kept (flush_of node stamp) own_fsync
+  is_one = record { flush_is = refl; planned = planned_for; comes = comes_now }
+
+  -- a transaction that is built of it can be committed
+  module _ (tx : Tx) (built : IsTransactionOf plan.change grant tx) where
+    pub own_tx : IsTransactionOf (change_planned commit_plan) grant tx
+    own_tx = subst (λ (change : Planned). IsTransactionOf change grant tx) is.leads.made built
+
+    pub was_built : WasBuilt kept own_fsync tx (first_slot kept.layout)
+    was_built = record { planned = planned_for; spelled = is.remembers.disk.spelled; built = own_tx; layout = refl; slot = refl }
+
+    pub can_commit : (number : ℕ) → CanCommit kept own_fsync tx (first_slot kept.layout) number
+    can_commit number = built_jobs_write_plans kept own_fsync tx (first_slot kept.layout) number was_built
+
+    pub may_carry : MayCarry kept.layout (Some (contents_of tx))
+    may_carry = let can = can_commit 0 in (can.below, can.in_data)

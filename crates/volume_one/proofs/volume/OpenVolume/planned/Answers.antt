@@ -1,0 +1,35 @@
+use Rattle.std.proofs.Common.{Option, refl, sym, subst}
+use Rattle.std.specs.Option.{option_copied}
+use Rattle.std.proofs.lemmas.Result.{IfOk-weaker}
+use Rattle.core_logs.specs.Logs.{AreGathered}
+use Rattle.mem_files.specs.File.{File}
+use Rattle.volume_one.specs.Planned.{IsPlanned, WasPlanned}
+use Rattle.volume_one.proofs.Leading.{orderly_logs}
+use Rattle.volume_one.proofs.volume.OpenVolume.planned.Goals as goal
+
+pub plan_of-plan-requires : goal.plan_of-plan-requires
+plan_of-plan-requires c =
+    let is = c.requires.standing in
+    c.lend-gathered.ensures.orderly (orderly_logs is.kept c.args.self.now is.remembers c.args.stamp is.counted c.in_ok-logs.logs.items c.in_ok-logs.ensures)
+
+pub take_back-requires : goal.take_back-requires
+take_back-requires c =
+    let is = c.requires.standing in
+    c.lend-gathered.ensures.orderly (orderly_logs is.kept c.args.self.now is.remembers c.args.stamp is.counted c.in_ok-logs.logs.items c.in_ok-logs.ensures)
+
+pub returns-clause-planned : goal.returns-clause-planned
+returns-clause-planned c =
+    let is = c.requires.standing in
+    let volume = c.args.self.now in
+    let gathered = c.lend-gathered.result in
+    let from = c.lend-gathered.ensures.gathered in
+    let orderly = c.lend-gathered.ensures.orderly (orderly_logs is.kept volume is.remembers c.args.stamp is.counted c.in_ok-logs.logs.items c.in_ok-logs.ensures) in
+    IfOk-weaker c.plan_of-plan.result (IsPlanned c.args.node c.args.stamp gathered volume.stored (option_copied c.get-file.result)) (WasPlanned volume c.args.node c.args.stamp)
+    (λ plan planned. record {
+      gathered = gathered;
+      logs = subst (AreGathered volume.logs c.args.stamp.0) (sym from.logs_are) c.in_ok-logs.ensures;
+      from = record { logs_are = refl; cuts = from.cuts; births = from.births; inodes = from.inodes };
+      orderly = orderly;
+      planned = subst (λ (f : Option File). IsPlanned c.args.node c.args.stamp gathered volume.stored f plan) c.get-file.ensures planned;
+    })
+    c.plan_of-plan.ensures

@@ -1,0 +1,60 @@
+-- An open volume as a mount begins it.
+use Rattle.std.specs.Prelude.{◌≡◌, ℕ, List, [], length, is_some, None, Some}
+use Rattle.std.specs.FinMap.{get, empty}
+use Rattle.sfs_base.specs.declared.numbers.NodeId.{NodeId}
+use Rattle.sfs_dev.specs.Disk.{View}
+use Rattle.sfs_dev.specs.Run.{CountsOn}
+use Rattle.sfs_dev.specs.Steps.{IfTold}
+use Rattle.sfs_image.specs.Settled.{layout_of}
+use Rattle.sfs_image.specs.Super.{IsLayout}
+use Rattle.sfs_tree.specs.Laws.{IsSoundTree}
+use Rattle.sfs_tree.specs.Sound.{IsWithinLimits}
+use Rattle.image_tree.specs.Image.{tree_of}
+use Rattle.disk_change.specs.declared.old.OldEntry.{OldEntry}
+use Rattle.journal_one.specs.Calls.{IsCalm}
+use Rattle.crash_laws.specs.Wrote.{Mounts}
+use Rattle.mount.specs.Mounted.{share_of_nodes}
+use Rattle.volume_laws.specs.Volume.{Volume}
+use Rattle.volume_one.specs.Fsync.{HoldsVolume}
+use Rattle.volume_one.specs.Stands.{Remembers}
+use Rattle.volume_one.specs.declared.volume.OpenVolume.{OpenVolume}
+
+-- the node of an entry, as a node
+abbrev pub node_of : OldEntry → NodeId
+node_of entry = entry.node
+
+-- Of a volume nothing has happened yet: no call has come, nothing is flushed, and each node of its tree has an inode.
+pub record IsNew (kept : Volume) : Type 0 where
+  pub no_call : kept.history ≡ []
+  pub no_fsync : kept.flushes ≡ []
+  pub no_cut : kept.cut ≡ empty
+  pub all_have_inodes : kept.inodes ≡ (λ node. is_some (get kept.first.nodes node))
+
+-- A disk holds a volume that a mount begins: its parts, and its tree from the mount's begin on.
+pub record HoldsNew (nodes : ℕ) (before after : View) (kept : Volume) : Type 0 where
+  pub holds : HoldsVolume kept after
+  pub mounts : Mounts (share_of_nodes nodes kept.layout) before.now kept.first after
+
+-- A volume is that of an image: its layout, and its tree with a share of new nodes for each core. Where nothing was pending, the disk holds it.
+pub record IsNewOf (nodes : ℕ) (before after : View) (kept : Volume) (image : List ℕ) : Type 0 where
+  pub layout_is : layout_of image ≡ kept.layout
+  pub tree : tree_of image (share_of_nodes nodes kept.layout) ≡ Some kept.first
+  pub holds : IsCalm before → CountsOn after → HoldsNew nodes before after kept
+
+-- An open volume begins: there is a volume of which nothing has happened yet that it remembers. Its layout lies on the disk, its tree is sound
+-- and within its limits, there are as many cores as the layout has, no commit has failed, and where the disk told its content, it is the image's.
+pub record Begins (nodes : ℕ) (before after : View) (volume : OpenVolume) : Type 0 where
+  pub kept : Volume
+  pub remembers : Remembers kept volume
+  pub is_new : IsNew kept
+  pub fits : IsLayout before.size volume.layout
+  pub sound : IsSoundTree kept.first
+  pub limits : IsWithinLimits kept.first
+  pub cores : length kept.first.made ≡ volume.layout.cores
+  pub working : volume.failed ≡ None
+  pub told : IfTold before.content (IsNewOf nodes before after kept)
+
+-- What is open of an image: its layout, and its tree with this share of new nodes for each core.
+pub record IsOpenOf (nodes : ℕ) (image : List ℕ) (volume : OpenVolume) : Type 0 where
+  pub layout_is : volume.layout ≡ layout_of image
+  pub tree : tree_of image (share_of_nodes nodes volume.layout) ≡ Some volume.tree

@@ -1,0 +1,106 @@
+-- What an fsync makes of an open volume and of its disk.
+use Rattle.std.specs.Prelude.{◌≡◌, ℕ, Bool, true, false, List, [], length, Option, Some, None}
+use Rattle.sfs_tree.specs.declared.reply.Code.TheVariants.{NoEntry}
+use Rattle.sfs_base.specs.Ends.{HasRisen}
+use Rattle.sfs_base.specs.declared.numbers.CoreId.{CoreId}
+use Rattle.sfs_base.specs.declared.numbers.NodeId.{NodeId}
+use Rattle.sfs_base.specs.declared.numbers.Stamp.{Stamp}
+use Rattle.sfs_dev.specs.Disk.{View, images}
+use Rattle.sfs_dev.specs.Run.{CountsOn}
+use Rattle.sfs_dev.specs.Steps.{IfTold}
+use Rattle.sfs_tree.specs.declared.call.Call.TheVariants as call
+use Rattle.sfs_tree.specs.declared.reply.Reply.{Reply}
+use Rattle.sfs_tree.specs.declared.reply.Reply.TheVariants as reply
+use Rattle.core_logs.specs.Logs.{AreWithEntry}
+use Rattle.crash_laws.specs.Wrote.{Wrote}
+use Rattle.flush_core.specs.Closure.{Flush}
+use Rattle.volume_laws.specs.Commits.{HoldsParts}
+use Rattle.volume_laws.specs.Stores.{ComesNow, IsStoreLeft, volume_left}
+use Rattle.volume_laws.specs.Volume.{Volume, OneFsync, IsPlannedFor, tree_held, tree_raised}
+use Rattle.volume_one.specs.Calls.{entry_of, kept_with}
+use Rattle.volume_one.specs.Stands.{Remembers}
+use Rattle.volume_one.specs.declared.flushed.Flushed.{Flushed}
+use Rattle.volume_one.specs.declared.volume.OpenVolume.{OpenVolume}
+
+-- A disk that tells its content holds the parts of a volume, in each image and in what a read gives.
+pub record HoldsVolume (kept : Volume) (disk : View) : Type 0 where
+  pub content : List ℕ
+  pub tells : disk.content ≡ Some content
+  pub parts : HoldsParts kept kept.parts disk
+  pub leaves : IfTold disk.content (images disk)
+
+-- the fsync of a node at a stamp
+abbrev pub flush_of : NodeId → Stamp → Flush
+flush_of node stamp = record { node = node.0; stamp = stamp.0 }
+
+-- One fsync of a volume comes now, with its plan and its grant.
+pub record IsOneOf (kept : Volume) (flush : Flush) (one : OneFsync) : Type 0 where
+  pub flush_is : one.flush ≡ flush
+  pub planned : IsPlannedFor kept one
+  pub comes : ComesNow kept one
+
+-- An fsync was answered Ok: its commit is durable at the moment of the acknowledgement, and the volume and the disk are what it leaves. Where
+-- the disk held the volume and its count of calls goes on, a crash leaves the tree before or the tree after.
+pub record FsyncCommits (grown : Volume → Volume) (kept : Volume) (flush : Flush) (before after : View) (old new : OpenVolume) (flushed : Flushed) : Type 0 where
+  pub one : OneFsync
+  pub later : ℕ → List ℕ
+  pub moment : ℕ
+  pub is : IsOneOf kept flush one
+  pub store : IsStoreLeft kept one later
+  pub remembers : Remembers (grown (volume_left kept one later)) new
+  pub failed : (old.failed ≡ None) × (new.failed ≡ None)
+  pub acknowledged : flushed ≡ record { reply = reply.Ok; ack = Some moment }
+  pub holds : CountsOn after → HoldsVolume kept before → HoldsVolume (volume_left kept one later) after
+  pub wrote : CountsOn after → HoldsVolume kept before → (share : ℕ) → Wrote share (tree_held kept) (tree_raised kept one) before after (Some moment)
+
+-- An fsync was answered DiskFailed: its commit is in doubt, and the volume is as it was, but for the count of faults.
+pub record FsyncDoubts (grown : Volume → Volume) (kept : Volume) (flush : Flush) (before after : View) (old new : OpenVolume) (flushed : Flushed) : Type 0 where
+  pub one : OneFsync
+  pub is : IsOneOf kept flush one
+  pub remembers : Remembers (grown kept) new
+  pub failed : (old.failed ≡ None) × (new.failed ≡ Some after.faults)
+  pub refused : flushed ≡ record { reply = reply.DiskFailed; ack = None }
+  pub risen : HasRisen before.faults after.faults
+  pub wrote : CountsOn after → HoldsVolume kept before → (share : ℕ) → Wrote share (tree_held kept) (tree_raised kept one) before after None
+
+-- An fsync left all as it was.
+pub record FsyncStays (Same : Type 0) (grown : Volume → Volume) (kept : Volume) (old new : OpenVolume) (flushed : Flushed) : Type 0 where
+  pub same : Same
+  pub remembers : Remembers (grown kept) new
+  pub failed : new.failed ≡ old.failed
+  pub refused : flushed.ack ≡ None
+
+-- What an fsync makes of a volume, by its reply; `grown` says what else is to be said of it then.
+abbrev pub FsyncMakes : Type 0 → (Volume → Volume) → Volume → Flush → View → View → OpenVolume → OpenVolume → Flushed → Reply → Type 0
+FsyncMakes Same grown kept flush before after old new flushed reply.Ok = FsyncCommits grown kept flush before after old new flushed
+FsyncMakes Same grown kept flush before after old new flushed reply.DiskFailed = FsyncDoubts grown kept flush before after old new flushed
+FsyncMakes Same grown kept flush before after old new flushed _ = FsyncStays Same grown kept old new flushed
+
+-- a volume with the entry of an fsync
+abbrev pub with_fsync : CoreId → Stamp → NodeId → Flushed → Volume → Volume
+with_fsync core stamp node flushed kept = kept_with kept (entry_of stamp core (call.Fsync node) flushed.reply flushed.ack)
+
+-- A volume and its disk go on by an fsync: whatever was to be said of it, it is what the fsync makes of it, with its entry.
+abbrev pub FsyncGoesOn : Type 0 → CoreId → Stamp → NodeId → View → View → OpenVolume → OpenVolume → Flushed → Type 0
+FsyncGoesOn Same core stamp node before after old new flushed =
+    (kept : Volume) → Remembers kept old → length kept.history ≡ stamp.0
+    → FsyncMakes Same (with_fsync core stamp node flushed) kept (flush_of node stamp) before after old new flushed flushed.reply
+
+-- A volume is what it was, with an entry of a core noted in its logs that changes nothing.
+pub record NotesEntry (core : CoreId) (old new : OpenVolume) : Type 0 where
+  pub logs : AreWithEntry old.logs core.0 [] new.logs
+  pub others : new ≡ record old { logs = new.logs }
+
+-- the answer of an fsync of a live node: once a commit has failed, that it is stopped, and else whether its commit was made
+abbrev pub IsLiveAnswer : Option ℕ → Reply → Type 0
+IsLiveAnswer (Some faults) given = given ≡ reply.Stopped faults
+IsLiveAnswer None reply.Ok = Unit {0}
+IsLiveAnswer None reply.DiskFailed = Unit {0}
+IsLiveAnswer None (reply.NoSpace kind need free) = Unit {0}
+IsLiveAnswer None reply.NoMemory = Unit {0}
+IsLiveAnswer None _ = ⊥
+
+-- an fsync's answer: of a dead node that there is none
+abbrev pub IsFsyncAnswer : Bool → Option ℕ → Reply → Type 0
+IsFsyncAnswer false failed given = given ≡ reply.Error NoEntry
+IsFsyncAnswer true failed given = IsLiveAnswer failed given

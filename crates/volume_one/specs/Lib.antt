@@ -1,0 +1,12 @@
+pub mod Begins
+pub mod Calls
+pub mod Carry
+pub mod Ends
+pub mod Entries
+pub mod Finished
+pub mod Fsync
+pub mod May
+pub mod Memory
+pub mod Planned
+pub mod Ready
+pub mod Stands

@@ -1,0 +1,112 @@
+// What memory keeps of the disk's nodes: copied for a plan, and replaced once a commit is durable.
+ghost use Rattle.std.specs.Prelude.{◌≡◌, ◌==◌, ℕ, map, IfOk, OnOk, if◌then◌else◌};
+ghost use Rattle.std.specs.Option.{option_copied};
+ghost use Rattle.std.specs.Ordering.{nat_cmp};
+ghost use Rattle.std.specs.BTreeMap.{IsOrdered};
+ghost use Rattle.std.specs.List.Sorted.{IsStrictlyIncreasing};
+ghost use Rattle.sfs_tree.specs.NameRow.{node_number};
+ghost use Rattle.disk_change.specs.Lists.{item_with};
+ghost use Rattle.disk_change.specs.Nodes.{entry_node};
+ghost use Rattle.volume_one.specs.Entries.{old_at, kept_in, entries_at, AreReplaced, HavePlaces, HasPlace, HasSameEntries};
+
+use disk_change::{OldDisk, OldEntry, OldNode};
+use fmt_slots::copy_list;
+use sfs_base::{NoMemory, NodeId};
+use std::alloc::Global;
+use std::collections::BTreeMap;
+
+/// What the disk has of each node, by its number; nodes that have a place here without anything have nothing there.
+pub type DiskNodes = BTreeMap<u32, Option<OldNode>>;
+
+/// What is kept of a node, where the disk has something of it.
+pub(crate) fn old_at(old: &DiskNodes, node: NodeId) -> Option<&OldNode>
+    ensures { option_copied result ≡ old_at old.now node.0 }
+{
+    match old.get(&node.0) {
+        Some(Some(one)) => Some(one),
+        _ => None,
+    }
+}
+
+/// The entries of those of some nodes that have one, which ascend.
+pub(crate) fn entries_of(
+    alloc: Global,
+    old: &DiskNodes,
+    nodes: &[NodeId],
+) -> Result<OldDisk, NoMemory>
+    requires { IsStrictlyIncreasing (map node_number nodes.now) }
+    ensures { IfOk result (λ entries. entries.items ≡ entries_at old.now (map node_number nodes.now)) }
+{
+    let mut entries = Vec::new(alloc);
+    for node in nodes {
+        match old_at(old, *node) {
+            Some(one) => entries.push(entry_of(alloc, *node, one)?)?,
+            None => {}
+        }
+    }
+    Ok(OldDisk::from_vec(entries))
+}
+
+// The entry of a node with a copy of what is kept of it.
+fn entry_of(alloc: Global, node: NodeId, old: &OldNode) -> Result<OldEntry, NoMemory>
+    ensures { IfOk result (λ entry. entry ≡ record { node = node; old = old.now }) }
+{
+    Ok(OldEntry {
+        node,
+        old: OldNode {
+            inode: old.inode,
+            meta: old.meta,
+            tables: old.tables.copy()?,
+            slots: copy_list(alloc, &old.slots)?,
+        },
+    })
+}
+
+/// Gives each of some nodes a place, which has nothing where it is new.
+pub(crate) fn make_places(old: &mut DiskNodes, nodes: &[NodeId]) -> Result<(), NoMemory>
+    ensures places { OnOk result (HavePlaces old.new (map node_number nodes.now)) }
+    ensures same { HasSameEntries old.old old.new }
+{
+    for node in nodes {
+        make_place(old, *node)?;
+    }
+    Ok(())
+}
+
+// Gives a node a place.
+fn make_place(old: &mut DiskNodes, node: NodeId) -> Result<(), NoMemory>
+    ensures place { OnOk result (HasPlace old.new node.0) }
+    ensures others { (other : ℕ) → HasPlace old.old other → HasPlace old.new other }
+    ensures same { HasSameEntries old.old old.new }
+{
+    if old.get(&node.0).is_none() {
+        old.insert(node.0, None)?;
+    }
+    Ok(())
+}
+
+/// Gives some nodes, which ascend and have places, what they have in `after`, or nothing. It takes no memory.
+pub(crate) fn replace_entries(old: &mut DiskNodes, nodes: &[NodeId], mut after: OldDisk)
+    requires ascending { IsStrictlyIncreasing (map node_number nodes.now) }
+    requires places { HavePlaces old.old (map node_number nodes.now) }
+    ensures { AreReplaced (map node_number nodes.now) after.items old.old old.new }
+{
+    let mut place = nodes.len();
+    while place > 0 {
+        place -= 1;
+        replace_one(old, nodes[place], &mut after);
+    }
+}
+
+// Gives a node, which has a place, what it has in `after`, or nothing.
+fn replace_one(old: &mut DiskNodes, node: NodeId, after: &mut OldDisk)
+    requires { HasPlace old.old node.0 }
+    ensures replaced { (other : ℕ) → old_at old.new other ≡ (if node.0 == other then kept_in after.old.items other else old_at old.old other) }
+    ensures places { (other : ℕ) → HasPlace old.old other → HasPlace old.new other }
+    ensures ordered { IsOrdered nat_cmp old.new }
+    ensures rest { (other : ℕ) → (node.0 ≡ other → ⊥) → item_with entry_node other after.new.items ≡ item_with entry_node other after.old.items }
+{
+    let Ok(_) = old.insert(node.0, after.take(node)) else {
+        unreachable!()
+    };
+}

@@ -1,0 +1,173 @@
+// An fsync: what it comes to is planned and reserved, all that the commit needs of memory is made ready, and
+// then the commit is carried to the disk. Only once it is durable does memory take note of it; before that
+// every refusal leaves all as it was.
+ghost use Rattle.std.specs.Prelude.{◌≡◌, ◌≤◌, ◌<◌, ◌-◌, ◌^◌, length, map};
+ghost use Rattle.std.specs.List.Sorted.{IsStrictlyIncreasing};
+ghost use Rattle.sfs_image.specs.Super.{IsLayout};
+ghost use Rattle.sfs_dev.specs.Run.{Advances};
+ghost use Rattle.sfs_tree.specs.NameRow.{node_number};
+ghost use Rattle.sfs_tree.specs.Tree.{is_alive};
+ghost use Rattle.space_map.specs.Space.{AllGranted};
+ghost use Rattle.volume_one.specs.Carry.{CarriesPacked, MayCarry};
+ghost use Rattle.volume_one.specs.Ends.{FlushEnds, GrantEnds, PlanEnds, ReadyEnds};
+ghost use Rattle.volume_one.specs.Fsync.{FsyncGoesOn, IsFsyncAnswer};
+ghost use Rattle.volume_one.specs.May.{MayCarryGrant, MayCarryPlan};
+ghost use Rattle.volume_one.specs.Ready.{HasReadyRoom};
+ghost use Rattle.volume_one.specs.Stands.{IsStandingAt};
+
+use crate::OpenVolume;
+use crate::flushed::Flushed;
+use crate::preparing::Ready;
+use commit_one::{Committed, commit};
+use disk_change::need;
+use fsync_dir::FsyncPlan;
+use journal_one::{Doubt, Idle, Packed};
+use sfs_base::{CoreId, NodeId, Stamp};
+use sfs_dev::Disk;
+use sfs_tree::{Changes, Code, Reply};
+use space_map::{Grant, SpaceFault};
+
+impl OpenVolume {
+    /// An fsync of a core, at the next stamp: brings all that it flushes to the disk in one commit. A node that
+    /// is not alive is answered NoEntry; after a commit that the disk failed, each fsync is answered Stopped.
+    /// After every answer but Ok the logs, the cuts and the tree are as before.
+    pub fn fsync<D: Disk>(
+        &mut self,
+        disk: &mut D,
+        core: CoreId,
+        stamp: Stamp,
+        node: NodeId,
+    ) -> Flushed
+        requires core { core.0 < length self.old.tree.made }
+        requires few { stamp.0 < 2 ^ 64 - 1 }
+        requires standing { IsStandingAt self.old stamp.0 }
+        requires large { self.old.layout.blocks ≤ (D.view disk.old).size }
+        ensures answer { IsFsyncAnswer (is_alive self.old.tree node.0) self.old.failed result.reply }
+        ensures goes_on { FsyncGoesOn (disk.new ≡ disk.old) core stamp node (D.view disk.old) (D.view disk.new) self.old self.new result }
+        ensures advances { Advances (D.view disk.old) (D.view disk.new) }
+    {
+        let flushed = self.flush(disk, stamp, node);
+        self.logs.add(core, Changes::new(self.alloc));
+        flushed
+    }
+
+    // The same, before the entry is noted in the logs.
+    fn flush<D: Disk>(&mut self, disk: &mut D, stamp: Stamp, node: NodeId) -> Flushed
+        requires standing { IsStandingAt self.old stamp.0 }
+        requires large { self.old.layout.blocks ≤ (D.view disk.old).size }
+        ensures ends { FlushEnds (disk.new ≡ disk.old) stamp node (D.view disk.old) (D.view disk.new) self.old self.new result }
+        ensures advances { Advances (D.view disk.old) (D.view disk.new) }
+    {
+        if !self.tree.is_alive(node) {
+            return Flushed::refused(Reply::Error {
+                code: Code::NoEntry,
+            });
+        }
+        if let Some(faults) = self.failed {
+            return Flushed::refused(Reply::Stopped { faults });
+        }
+        match self.planned(node, stamp) {
+            Ok(plan) => self.bring(disk, stamp, plan),
+            Err(_) => Flushed::refused(Reply::NoMemory),
+        }
+    }
+
+    // Reserves what a plan needs, and brings it to the disk.
+    fn bring<D: Disk>(&mut self, disk: &mut D, stamp: Stamp, plan: FsyncPlan) -> Flushed
+        requires fits { IsLayout self.old.layout.blocks self.old.layout }
+        requires large { self.old.layout.blocks ≤ (D.view disk.old).size }
+        requires ascending { IsStrictlyIncreasing (map node_number plan.nodes.items) }
+        requires may { MayCarryPlan self.old plan }
+        ensures ends { PlanEnds (disk.new ≡ disk.old) stamp plan (D.view disk.old) (D.view disk.new) self.old self.new result }
+        ensures advances { Advances (D.view disk.old) (D.view disk.new) }
+    {
+        match self.space.reserve(need(&plan.change)) {
+            Ok(grant) => self.commit_granted(disk, stamp, plan, grant),
+            Err(SpaceFault::NoSpace { kind, need, free }) => {
+                Flushed::refused(Reply::NoSpace { kind, need, free })
+            }
+            Err(SpaceFault::NoMemory) => Flushed::refused(Reply::NoMemory),
+        }
+    }
+
+    // Makes the commit of a plan ready with its grant, and brings it to the disk.
+    fn commit_granted<D: Disk>(
+        &mut self,
+        disk: &mut D,
+        stamp: Stamp,
+        plan: FsyncPlan,
+        grant: Grant,
+    ) -> Flushed
+        requires fits { IsLayout self.old.layout.blocks self.old.layout }
+        requires large { self.old.layout.blocks ≤ (D.view disk.old).size }
+        requires inodes { AllGranted self.old.space.inodes grant.inodes }
+        requires blocks { AllGranted self.old.space.blocks grant.blocks }
+        requires ascending { IsStrictlyIncreasing (map node_number plan.nodes.items) }
+        requires may { MayCarryGrant self.old.layout plan grant }
+        ensures ends { GrantEnds (disk.new ≡ disk.old) stamp plan grant (D.view disk.old) (D.view disk.new) self.old self.new result }
+        ensures advances { Advances (D.view disk.old) (D.view disk.new) }
+    {
+        match self.ready(plan, &grant) {
+            Ok(ready) => self.commit_ready(disk, stamp, ready, grant),
+            Err(_) => {
+                self.space.give_back(grant);
+                Flushed::refused(Reply::NoMemory)
+            }
+        }
+    }
+
+    // Brings a commit to the disk, where it writes something, and takes note of it.
+    fn commit_ready<D: Disk>(
+        &mut self,
+        disk: &mut D,
+        stamp: Stamp,
+        mut ready: Ready,
+        grant: Grant,
+    ) -> Flushed
+        requires fits { IsLayout self.old.layout.blocks self.old.layout }
+        requires large { self.old.layout.blocks ≤ (D.view disk.old).size }
+        requires inodes { AllGranted self.old.space.inodes grant.inodes }
+        requires blocks { AllGranted self.old.space.blocks grant.blocks }
+        requires room { HasReadyRoom self.old ready }
+        requires may { MayCarry self.old.layout ready.packed }
+        ensures ends { ReadyEnds (disk.new ≡ disk.old) stamp ready grant (D.view disk.old) (D.view disk.new) self.old self.new result }
+        ensures advances { Advances (D.view disk.old) (D.view disk.new) }
+    {
+        match self.carry(disk, ready.packed.take()) {
+            Ok(moment) => {
+                self.finish(stamp, ready, grant);
+                Flushed {
+                    reply: Reply::Ok,
+                    ack: Some(moment),
+                }
+            }
+            Err(doubt) => {
+                self.space.give_back(grant);
+                self.failed = Some(doubt.faults);
+                Flushed::refused(Reply::DiskFailed)
+            }
+        }
+    }
+
+    // The moment at which what is written is durable, through the first slot of the disk; at once where
+    // nothing is written.
+    fn carry<D: Disk>(&self, disk: &mut D, packed: Option<Packed>) -> Result<u64, Doubt>
+        requires fits { IsLayout self.now.layout.blocks self.now.layout }
+        requires large { self.now.layout.blocks ≤ (D.view disk.old).size }
+        requires may { MayCarry self.now.layout packed }
+        ensures carried { CarriesPacked (disk.new ≡ disk.old) self.now.layout self.now.commits packed (D.view disk.old) (D.view disk.new) result }
+        ensures advances { Advances (D.view disk.old) (D.view disk.new) }
+    {
+        let Some(packed) = packed else {
+            return Ok(disk.now());
+        };
+        let slot = Idle::at(disk, &self.layout, 0, 0);
+        match commit(disk, slot, packed, self.commits) {
+            Ok(Committed { idle, moment }) => {
+                idle.leave();
+                Ok(moment)
+            }
+            Err(doubt) => Err(doubt),
+        }
+    }
+}
