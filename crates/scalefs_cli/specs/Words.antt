@@ -1,5 +1,5 @@
 -- The words of the program's command line.
-use Rattle.std.specs.Prelude.{ℕ, Bool, false, List, [], ◌∷◌, codes, bytes_eq, Option, Some, None, if◌then◌else◌}
+use Rattle.std.specs.Prelude.{ℕ, List, ◌∷◌, Option, Some, None, if◌then◌else◌}
 use Rattle.scalefs_run.specs.Words.{begins_with_dash}
 
 -- the image's word, and those of the command
@@ -11,8 +11,3 @@ pub record Parted : Type 0 where
 abbrev pub parted : List (List ℕ) → Option Parted
 parted (program ∷ image ∷ command) = if begins_with_dash image then None else Some (record { image = image; command = command })
 parted _ = None
-
--- whether a command runs a script
-abbrev pub is_run : List (List ℕ) → Bool
-is_run [] = false
-is_run (word ∷ command) = bytes_eq word (codes "run")

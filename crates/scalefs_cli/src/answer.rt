@@ -1,12 +1,11 @@
-ghost use Rattle.std.specs.Prelude.{◌≡◌, ◌≤◌, map, string_bytes};
+ghost use Rattle.std.specs.Prelude.{◌≡◌, map, string_bytes};
 ghost use Rattle.std.specs.Option.{option_map};
 ghost use Rattle.scalefs_run.specs.Words.{begins_with_dash};
-ghost use Rattle.scalefs_cli.specs.Words.{Parted, parted, is_run};
+ghost use Rattle.scalefs_cli.specs.Words.{Parted, parted};
 
 use dev_file::FileDisk;
 use scalefs_run::{Status, run};
 use sfs_base::{NoGate, Sink, Source};
-use sfs_dev::{Disk, Memory};
 use std::alloc::Global;
 use std::fs::{File, TryLockError};
 use std::sync::Wait;
@@ -56,34 +55,6 @@ fn begins_with_dash(word: &String) -> bool
     }
 }
 
-/// Whether a command runs a script, which is done over a disk in memory.
-pub fn is_run(command: &[String]) -> bool
-    ensures { result ≡ is_run (map string_bytes command.now) }
-{
-    match command {
-        [word, ..] => word.as_str() == "run",
-        [] => false,
-    }
-}
-
-/// Does what the words say over a disk of so many blocks of zeros in memory.
-pub fn over_memory<R: Threads + Wait + Sync, S: Source, K: Sink>(
-    rt: &R,
-    alloc: Global,
-    blocks: u32,
-    command: &[String],
-    source: &mut S,
-    sink: &mut K,
-) -> End
-    requires least { 4 ≤ blocks }
-    requires most { blocks ≤ 262144 }
-{
-    match Memory::new(alloc, blocks) {
-        Ok(disk) => End::Ended(over(rt, alloc, command, source, sink, disk)),
-        Err(_) => End::Ended(Status::NoMemory),
-    }
-}
-
 /// Does what the words say over an open file, which no other process may work on. Where the file's system
 /// has no locks, it is gone on with.
 pub fn over_file<R: Threads + Wait + Sync, S: Source, K: Sink>(
@@ -96,20 +67,9 @@ pub fn over_file<R: Threads + Wait + Sync, S: Source, K: Sink>(
 ) -> End {
     match file.try_lock() {
         Err(TryLockError::WouldBlock) => End::InUse,
-        _ => End::Ended(over(rt, alloc, command, source, sink, FileDisk::new(file))),
+        _ => {
+            let disk = FileDisk::new(file);
+            End::Ended(run(rt, alloc, command, source, sink, disk, &NoGate).status)
+        }
     }
-}
-
-// Does what the words say over a disk.
-fn over<R: Threads + Wait + Sync, S: Source, K: Sink, D: Disk + Drop>(
-    rt: &R,
-    alloc: Global,
-    command: &[String],
-    source: &mut S,
-    sink: &mut K,
-    disk: D,
-) -> Status
-    requires { 4 ≤ (D.view disk).size }
-{
-    run(rt, alloc, command, source, sink, disk, &NoGate).status
 }

@@ -1,11 +1,11 @@
 //! The program. `scalefs IMAGE mkfs BLOCKS INODES CORES` makes an image file, `scalefs IMAGE show` recovers it and
-//! writes its tree, and `scalefs IMAGE run [NODES]` runs the script on standard input over a disk in memory
-//! and writes the text of its history.
+//! writes its tree, and `scalefs IMAGE run [NODES]` mounts it, runs the script on standard input and writes the
+//! text of its history.
 #![tactic(auto)]
 
 mod answer;
 
-use answer::{End, is_run, over_file, over_memory, parts_of};
+use answer::{End, over_file, parts_of};
 use scalefs_run::{Status, status_line};
 use sfs_base::{Sink, Source, StdSink, StdSource};
 use std::alloc::Global;
@@ -15,11 +15,8 @@ use std::sync::Wait;
 use std::thread::Threads;
 use std::{env, io};
 
-/// How many blocks the disk of a script has: 4 MiB.
-const BLOCKS: u32 = 1024;
-
-/// The status with which the program ends where no disk can be had.
-const NO_DISK: u8 = 1;
+/// The status with which the program ends where the image can't be had.
+const NO_IMAGE: u8 = 1;
 
 fn main(rt: HostRuntime) -> io::Result<ExitCode> {
     let alloc = rt.alloc();
@@ -43,11 +40,11 @@ fn main(rt: HostRuntime) -> io::Result<ExitCode> {
         }
         End::CannotOpen => {
             eprintln!(rt; "scalefs: cannot open the image")?;
-            NO_DISK
+            NO_IMAGE
         }
         End::InUse => {
             eprintln!(rt; "scalefs: the image is in use")?;
-            NO_DISK
+            NO_IMAGE
         }
     };
     Ok(ExitCode::from(number))
@@ -64,9 +61,6 @@ fn serve<R: Threads + Wait + Sync + Files<File = File>, S: Source, K: Sink>(
     let Some(parts) = parts_of(words) else {
         return End::Ended(Status::BadWords { place: 0 });
     };
-    if is_run(parts.command) {
-        return over_memory(rt, alloc, BLOCKS, parts.command, source, sink);
-    }
     let opened = OpenOptions::new()
         .read(true)
         .write(true)

@@ -1,109 +1,84 @@
 -- A run ends.
-use Rattle.std.proofs.Common.{◌≡◌, ℕ, ◌+◌, ◌<◌, ◌≤◌, true, false, List, [], length, Option, Some, None, Result, Ok, Err, is_some, IfSome, cond, nat_lt, refl, sym, ap, subst, ◌∙◌, arith}
+use Rattle.std.proofs.Common.{◌≡◌, ℕ, ◌+◌, ◌<◌, ◌≤◌, Bool, true, false, List, [], ◌∷◌, length, Option, Some, None, Result, Ok, Err, cond, nat_lt, refl, sym, ap, subst, ◌∙◌, arith}
 use Rattle.std.proofs.lemmas.List.{length-append, append-nil}
-use Rattle.sfs_base.specs.Ends.{HasRisen}
+use Rattle.std.specs.FinMap.{empty}
 use Rattle.std.specs.Io.KnownBytes.{Consumes}
+use Rattle.sfs_base.specs.Ends.{HasRisen}
 use Rattle.sfs_base.specs.Transfer.{ReadsAll}
+use Rattle.sfs_base.specs.declared.numbers.Measure.TheVariants.{Bytes, Lines}
 use Rattle.sfs_base.specs.declared.transfer.ReadAllFault.{ReadAllFault}
 use Rattle.sfs_base.specs.declared.transfer.ReadAllFault.TheVariants as source
+use Rattle.sfs_base.proofs.BasicOptions.{none_some, some_same}
+use Rattle.sfs_base.proofs.BasicTruth.{false_not_true}
+use Rattle.sfs_image.specs.Settled.{layout_of}
+use Rattle.sfs_image.specs.Super.{Layout}
 use Rattle.sfs_tree.specs.declared.history.Entry.{Entry}
-use Rattle.sfs_dev.specs.Disk.{View}
-use Rattle.area_pair.specs.declared.area.Row.{Row}
+use Rattle.sfs_tree.specs.Tree.{TreeState}
+use Rattle.sfs_dev.specs.Disk.{View, OnlyTold, images}
+use Rattle.sfs_dev.specs.Run.{Advances, CountsOn, EachMoment, HasReadCause, Unwritten}
 use Rattle.sfs_dev.specs.Steps.{IfTold}
-use Rattle.area_pair.specs.Rows.{rows_of}
+use Rattle.image_tree.specs.Image.{ImageFault as Fault, Super as SuperFault, Journal as JournalFault, Tree as TreeFault, fault_of, tree_of}
+use Rattle.journal_one.specs.Calls.{IsCalm}
+use Rattle.mount.specs.Mounted.{share_of_nodes}
+use Rattle.recovery.specs.Cause.{is_recover_disk_fault}
+use Rattle.recovery.specs.Judging.{IsFaultOf}
+use Rattle.recovery.specs.Recovered.{ShowsTheSame, LeavesRefused}
+use Rattle.recovery.specs.declared.fault.RecoverFault.{RecoverFault}
+use Rattle.recovery.specs.declared.fault.RecoverFault.TheVariants as recover
+use Rattle.recovery.proofs.JudgedImage.{has_no_fault}
 use Rattle.script.specs.declared.commands.Line.{Line}
-use borrow.Author.Tests.{lt-ltb, le-ltb}
-use Rattle.sfs_base.specs.declared.numbers.Measure.TheVariants.{Bytes, Lines}
+use Rattle.script.specs.Faults.{IsShort}
+use Rattle.script.specs.Follows.{Follows, FollowsSoFar}
 use Rattle.script.specs.Lines.{lines}
 use Rattle.script.specs.Phases.{phases_of}
 use Rattle.script.specs.Texts.{history_text}
-use Rattle.script.specs.Faults.{IsShort}
-use Rattle.script.specs.Follows.{Follows, FollowsSoFar}
 use Rattle.script.proofs.FollowLemmas.{FollowsSoFar-whole}
+use borrow.Author.Tests.{lt-ltb, le-ltb}
 use Rattle.scalefs_run.specs.declared.engine.Engine.{Engine}
 use Rattle.scalefs_run.specs.declared.outcome.Status.{Status}
 use Rattle.scalefs_run.specs.declared.outcome.Status.TheVariants.{Done, BadWords, BadScript, ReadFault, WriteFault, DiskFault, BadImage, NoMemory, TooManyWorkers, TooLong, TooSmall}
-use Rattle.scalefs_run.specs.Outcome.{IsOf, HasStatus, HasHistory, HasText, HasReadFault, IsWriteStatus, IsCommand, ComesToDisk, status_of_source, due, script_status, workers_status, phases_in}
-use Rattle.scalefs_run.specs.First.{first_tree}
-use Rattle.scalefs_run.specs.Served.{Served, ServedScript, has_run}
-use Rattle.scalefs_run.specs.Shown.{shown}
-use Rattle.scalefs_run.specs.RunInvariant.{KeepsInvariant}
-use Rattle.scalefs_run.specs.Safe.{Begins}
-use Rattle.sfs_base.proofs.BasicOptions.{none_some, none_of}
-use Rattle.sfs_base.proofs.BasicOptions.{some_same}
-use Rattle.sfs_base.proofs.BasicTruth.{false_not_true}
+use Rattle.scalefs_run.specs.Begun.{RunBegins}
+use Rattle.scalefs_run.specs.Due.{Judgement, IsJudged, due, judged_status, mounted_status, workers_status, script_status, phases_in}
+use Rattle.scalefs_run.specs.Image.{IsImageRefused, status_of_recovery}
+use Rattle.scalefs_run.specs.Images.{IfQuiet, HasImagesBy}
+use Rattle.scalefs_run.specs.Outcome.{IsOf, HasStatus, HasHistory, HasText, HasReadFault, IsWriteStatus, IsCommand, ComesToDisk, status_of_source}
+use Rattle.scalefs_run.specs.RunInvariant.{EndsRun}
+use Rattle.scalefs_run.specs.Served.{Served, ServedScript, IsCaused, was_mounted}
+use Rattle.scalefs_run.specs.WithoutCore.{worker_without_core}
+use Rattle.scalefs_run.proofs.Ended.{survives}
 
--- the rows of a disk that tells what a read gives
-abbrev pub opened_of : Option (List ℕ) → List Row
-opened_of (Some content) = rows_of content
-opened_of None = []
+-- each moment of a call shows what the image at its entry does
+abbrev pub ShowsEntry : View → View → Type 0
+ShowsEntry old new = IfQuiet old new (λ image. EachMoment old new (λ _ now. ShowsTheSame now image))
 
-opened_told : (told : Option (List ℕ)) → IfTold told (λ content. opened_of told ≡ rows_of content)
-opened_told (Some was) content e = ap rows_of (some_same e)
-opened_told None content e = absurd (none_some e)
+-- a disk on which nothing was done
+pub shows_untouched : (disk : View) → ShowsEntry disk disk
+shows_untouched disk image told calm counts k now from to left =
+    let here : k ≡ disk.now = omega arith in
+    let same : now ≡ image = (subst (λ (o : Option (List ℕ)). OnlyTold o (images disk)) told calm) now (subst (λ n. disk.crash_images n now) here left) in
+    record { fault = ap fault_of same; tree = λ share. ap (λ i. tree_of i share) same }
 
--- no call was made
-pub served_none : (due : Status) (share : ℕ) (phases : List (List Line)) (Source Sink : Type 0) (before after : Option (List ℕ)) (old new : View) (status : Status) → HasStatus due Source Sink (HasRisen old.faults new.faults) status → HasHistory phases [] status → HasText (history_text []) before after status → has_run status [] ≡ false → Served due share phases Source Sink before after old new status []
-served_none due share phases Source Sink before after old new status status_is calls text not_run = record {
-  status_is = status_is;
-  opened = opened_of old.content;
-  content = opened_told old.content;
-  legal = tt;
-  calls = calls;
-  text = text;
-  answers = tt;
-  failed = λ e. absurd (false_not_true e);
-  read = λ ran none. absurd (false_not_true (sym not_run ∙ ran));
-}
+-- what is to be said of the image of a disk
+abbrev pub judged_of : Option (List ℕ) → Judgement
+judged_of (Some image) = record { fault = fault_of image; cores = (layout_of image).cores }
+judged_of None = record { fault = None; cores = 0 }
 
--- calls were made
-pub served_run : (share : ℕ) (phases : List (List Line)) (Sink : Type 0) (before after : Option (List ℕ)) (first engine : Engine) (old mid new : View) (status : Status) → Begins share first old mid → KeepsInvariant first engine mid new → HasStatus Done ⊥ Sink (HasRisen old.faults new.faults) status → HasHistory phases engine.entries.items status → HasText (history_text engine.entries.items) before after status → Served Done share phases ⊥ Sink before after old new status engine.entries.items
-served_run share phases Sink before after first engine old mid new status begins still status_is calls text =
-    let stands = still old.faults old.now (first_tree share begins.opened) begins.invariant in
-    record {
-      status_is = status_is;
-      opened = begins.opened;
-      content = begins.content;
-      legal = stands.legal;
-      calls = calls;
-      text = text;
-      answers = stands.answered new.faults stands.kept;
-      failed = λ e. rose_if engine.store.failed (sym stands.halted ∙ e) stands.risen;
-      read = λ ran fine content told.
-          let found = stands.read (none_of engine.store.failed (sym stands.halted ∙ fine)) in
-          ap shown (found.1 content told).rows_are ∙ found.2;
-    }
-  where
-    rose_if : (failed : Option ℕ) → is_some failed ≡ true → IfSome failed (λ _. HasRisen old.faults new.faults) → HasRisen old.faults new.faults
-    rose_if None e h = absurd (false_not_true e)
-    rose_if (Some f) e h = h
+judged_told : (told : Option (List ℕ)) → IfTold told (IsJudged (judged_of told))
+judged_told (Some was) image e = let same = some_same e in record { fault_is = ap fault_of same; cores_are = ap (λ i. (layout_of i).cores) same }
+judged_told None image e = absurd (none_some e)
 
--- a source that did not come into play
-pub served_source : (due : Status) (share : ℕ) (phases : List (List Line)) (Source Sink : Type 0) (before after : Option (List ℕ)) (old new : View) (status : Status) (history : List Entry) → Served due share phases ⊥ Sink before after old new status history → Served due share phases Source Sink before after old new status history
-served_source due share phases Source Sink before after old new status history served = record {
-  status_is = any_source status served.status_is;
-  opened = served.opened;
-  content = served.content;
-  legal = served.legal;
-  calls = served.calls;
-  text = served.text;
-  answers = served.answers;
-  failed = served.failed;
-  read = served.read;
-}
-  where
-    any_source : (status : Status) → HasStatus due ⊥ Sink (HasRisen old.faults new.faults) status → HasStatus due Source Sink (HasRisen old.faults new.faults) status
-    any_source Done h = h
-    any_source (BadWords place) h = h
-    any_source (BadScript line) h = h
-    any_source ReadFault h = absurd h.0
-    any_source WriteFault h = h
-    any_source DiskFault h = h
-    any_source (BadImage fault) h = h
-    any_source NoMemory h = h
-    any_source (TooManyWorkers asked have) h = h
-    any_source (TooLong measure) h = h
-    any_source (TooSmall need have) h = h
+-- the cores of an image whose first fault is known
+judged_with : (fault : Fault) (told : Option (List ℕ)) → IfTold told (λ image. fault_of image ≡ Some fault)
+    → IfTold told (IsJudged (record { fault = Some fault; cores = (judged_of told).cores }))
+judged_with fault told is image there = record { fault_is = sym (is image there); cores_are = (judged_told told image there).cores_are }
+
+-- a tree for a run that has none
+no_tree : TreeState
+no_tree = record { rows = empty; nodes = empty; first = 0; share = 0; made = [] }
+
+-- no call of a script's was made yet
+none_so_far : (phases : List (List Line)) → FollowsSoFar phases []
+none_so_far phases = FollowsSoFar-whole [] phases [] refl
 
 -- the status of writing is one of the run
 pub write_status : (Sink Disk : Type 0) (status : Status) → IsWriteStatus Sink status → HasStatus Done ⊥ Sink Disk status
@@ -118,6 +93,124 @@ write_status Sink Disk NoMemory h = tt
 write_status Sink Disk (TooManyWorkers asked have) h = absurd h
 write_status Sink Disk (TooLong measure) h = absurd h
 write_status Sink Disk (TooSmall need have) h = absurd h
+
+-- no call was made, on an image that was not mounted
+pub served_unmounted : (due_by : Judgement → Status) (nodes : ℕ) (phases : List (List Line)) (Source Sink : Type 0) (before after : Option (List ℕ)) (old new : View) (status : Status) → IsCaused due_by Source Sink old new status → HasHistory phases [] status → HasText (history_text []) before after status → was_mounted status [] ≡ false → ShowsEntry old new
+    → Served due_by nodes phases Source Sink before after old new status []
+served_unmounted due_by nodes phases Source Sink before after old new status caused calls text not_mounted shows = record {
+  caused = caused;
+  first = no_tree;
+  first_is = λ was. absurd (false_not_true (sym not_mounted ∙ was));
+  legal = tt;
+  calls = calls;
+  text = text;
+  answers = record { answered = tt; failed = λ e. absurd (false_not_true e) };
+  images = λ image told calm counts. subst (λ b. HasImagesBy b nodes no_tree old new [] image) (sym not_mounted) (shows image told calm counts);
+}
+
+-- a refused image: its status is due
+module _ (nodes : ℕ) (phases : List (List Line)) (Sink : Type 0) (written : Option (List ℕ)) (old new : View) (shows : ShowsEntry old new) where
+  abbrev due_by : Judgement → Status
+  due_by judged = judged_status judged phases
+
+  -- it comes to the disk
+  judged_comes : (judged : Judgement) → ComesToDisk (due_by judged) × IsCommand (due_by judged)
+  judged_comes judged = by judged.fault
+    where
+      workers : (asked : Option ℕ) → ComesToDisk (workers_status judged.cores asked) × IsCommand (workers_status judged.cores asked)
+      workers None = (tt, tt)
+      workers (Some asked) = (tt, tt)
+
+      by : (fault : Option Fault) → ComesToDisk (mounted_status fault judged.cores phases) × IsCommand (mounted_status fault judged.cores phases)
+      by None = workers (worker_without_core judged.cores phases)
+      by (Some fault) = (tt, tt)
+
+  ends_refused : (fault : Fault) (status : Status) → IfTold old.content (λ image. fault_of image ≡ Some fault) → Unwritten old new → BadImage (Rattle.scalefs_run.specs.Image.fault_named fault) ≡ status → Served due_by nodes phases ⊥ Sink written written old new status []
+  ends_refused fault status is unwritten same =
+      subst (λ (s : Status). Served due_by nodes phases ⊥ Sink written written old new s []) same
+      (served_unmounted due_by nodes phases ⊥ Sink written written old new (BadImage (Rattle.scalefs_run.specs.Image.fault_named fault))
+      (record { judged = record { fault = Some fault; cores = (judged_of old.content).cores }; judged_told = judged_with fault old.content is; status_is = refl; refused = λ refused. unwritten }) refl refl refl shows)
+
+  pub served_refused : (fault : RecoverFault) → IfTold old.content (λ image. IsFaultOf image fault) → LeavesRefused old new fault → HasReadCause {V = Engine} is_recover_disk_fault old.faults new.faults (Err fault)
+      → Served due_by nodes phases ⊥ Sink written written old new (status_of_recovery fault) []
+  served_refused recover.DiskFailed is left cause =
+      served_unmounted due_by nodes phases ⊥ Sink written written old new DiskFault
+      (record { judged = judged_of old.content; judged_told = judged_told old.content; status_is = (cause, (judged_comes (judged_of old.content)).0); refused = λ refused. absurd refused }) refl refl refl shows
+  served_refused (recover.BadSuper at) is left cause = ends_refused (SuperFault at) _ is left refl
+  served_refused (recover.BadJournal core slot at) is left cause = ends_refused (JournalFault (record { core = core; slot = slot; at = at })) _ is left refl
+  served_refused (recover.BadImage inode rule) is left cause = ends_refused (TreeFault (record { rule = rule; inode = inode })) _ is left refl
+  served_refused recover.NoMemory is left cause =
+      served_unmounted due_by nodes phases ⊥ Sink written written old new NoMemory
+      (record { judged = judged_of old.content; judged_told = judged_told old.content; status_is = (judged_comes (judged_of old.content)).1; refused = λ refused. absurd refused }) (none_so_far phases) refl refl shows
+
+-- a mounted image has no fault, and as many cores as there are
+module _ (nodes : ℕ) (phases : List (List Line)) (Sink : Type 0) (before after : Option (List ℕ)) (first engine : Engine) (old mid new : View) (begins : RunBegins nodes first old mid) where
+  abbrev judged : Judgement
+  judged = record { fault = None; cores = first.volume.layout.cores }
+
+  judged_is : IfTold old.content (IsJudged judged)
+  judged_is image told =
+      let is = begins.told image told in
+      record { fault_is = sym (has_no_fault image (share_of_nodes nodes (layout_of image)) begins.kept.first is.tree); cores_are = ap (λ (l : Layout). l.cores) is.layout_is }
+
+  -- a worker has no core
+  pub served_without_core : (asked have : ℕ) → have ≡ first.volume.layout.cores → worker_without_core first.volume.layout.cores phases ≡ Some asked → before ≡ after → ShowsEntry old new
+      → Served (λ judged. judged_status judged phases) nodes phases ⊥ Sink before after old new (TooManyWorkers asked have) []
+  served_without_core asked have is none same shows =
+      served_unmounted (λ judged. judged_status judged phases) nodes phases ⊥ Sink before after old new (TooManyWorkers asked have)
+      (record {
+        judged = judged;
+        judged_told = judged_is;
+        status_is = ap (workers_status first.volume.layout.cores) none ∙ ap (TooManyWorkers asked) (sym is);
+        refused = λ refused. absurd refused;
+      }) refl (sym same) refl shows
+
+  not_refused : (status : Status) → IsWriteStatus Sink status → IsImageRefused status → Unwritten old new
+  not_refused (BadImage fault) is refused = absurd is
+  not_refused _ is refused = absurd refused
+
+  -- a run that counts as not mounted has made no call
+  no_call : (status : Status) (made : List Entry) → IsWriteStatus Sink status → was_mounted status made ≡ false → made ≡ []
+  no_call Done made is not = absurd (false_not_true (sym not))
+  no_call WriteFault made is not = absurd (false_not_true (sym not))
+  no_call NoMemory [] is not = refl
+  no_call NoMemory (entry ∷ made) is not = absurd (false_not_true (sym not))
+  no_call _ made is not = absurd is
+
+  abbrev made : List Entry
+  made = engine.entries.items
+
+  -- a script was run
+  pub served_run : (status : Status) → EndsRun first engine mid new → Advances mid new → worker_without_core first.volume.layout.cores phases ≡ None → (made ≡ [] → ShowsEntry old new)
+      → IsWriteStatus Sink status → HasHistory phases made status → HasText (history_text made) before after status
+      → Served (λ judged. judged_status judged phases) nodes phases ⊥ Sink before after old new status made
+  served_run status ends goes none shows is calls text =
+      let ended = ends old.faults begins.kept begins.stands in
+      record {
+        caused = record {
+          judged = judged;
+          judged_told = judged_is;
+          status_is =
+              subst (λ (due : Status). HasStatus due ⊥ Sink (HasRisen old.faults new.faults) status) (sym (ap (workers_status first.volume.layout.cores) none))
+              (write_status Sink (HasRisen old.faults new.faults) status is);
+          refused = not_refused status is;
+        };
+        first = begins.kept.first;
+        first_is = λ was. record { sound = begins.sound; told = λ image told. (begins.told image told).tree };
+        legal = ended.legal;
+        calls = calls;
+        text = text;
+        answers = ended.answers;
+        images = λ image told calm counts. by image told calm counts (was_mounted status made) refl;
+      }
+    where
+      by : (image : List ℕ) → old.content ≡ Some image → IsCalm old → CountsOn new → (was : Bool) → was_mounted status made ≡ was → HasImagesBy was nodes begins.kept.first old new made image
+      by image told calm counts true was =
+          let ended = ends old.faults begins.kept begins.stands in
+          let share = share_of_nodes nodes (layout_of image) in
+          survives share old.now begins.kept.first made new begins.sound ended.legal
+          (ended.safe share old.now counts ((begins.told image told).safe calm (let later = goes.later in omega arith)))
+      by image told calm counts false was = shows (no_call status made is was) image told calm counts
 
 -- a whole history is that of each status of writing
 pub write_history : (Sink : Type 0) (phases : List (List Line)) (history : List Entry) (status : Status) → IsWriteStatus Sink status → Follows phases history → HasHistory phases history status
@@ -159,70 +252,102 @@ read_fault Source None rest taken source.ReadFault takes reads cause = (taken, t
 read_fault Source None rest taken source.TooLong takes reads cause = (taken, tt, reads.0)
 read_fault Source None rest taken source.NoMemory takes reads cause = (taken, tt, tt)
 
-pub workers_command : (asked : Option ℕ) → IsCommand (workers_status asked)
-workers_command None = tt
-workers_command (Some asked) = tt
+-- where a script is read, what is due to it is what is due to its phases
+module _ (judged : Judgement) (script : List ℕ) where
+  abbrev lines_due : Status
+  lines_due = cond (nat_lt 262144 (length (lines script))) (TooLong Lines) (script_status judged (phases_of script))
 
--- where a script is read, its workers' status is due
-pub workers_read : (asked : Option ℕ) → ComesToDisk (workers_status asked)
-workers_read None = tt
-workers_read (Some asked) = tt
+  script_command : (read : Result (List (List Line)) ℕ) → IsCommand (script_status judged read)
+  script_command (Ok phases) = by judged.fault
+    where
+      workers : (asked : Option ℕ) → IsCommand (workers_status judged.cores asked)
+      workers None = tt
+      workers (Some asked) = tt
 
-script_command : (read : Result (List (List Line)) ℕ) → IsCommand (script_status read)
-script_command (Ok phases) = workers_command (Rattle.scalefs_run.specs.WithoutCore.worker_without_core 2 phases)
-script_command (Err line) = tt
+      by : (fault : Option Fault) → IsCommand (mounted_status fault judged.cores phases)
+      by None = workers (worker_without_core judged.cores phases)
+      by (Some fault) = tt
+  script_command (Err line) = tt
 
-due_command : (script : List ℕ) → IsCommand (due script)
-due_command script =
-    elim (nat_lt 16777216 (length script)) as (λ b. IsCommand (cond b (TooLong Bytes) (cond (nat_lt 262144 (length (lines script))) (TooLong Lines) (script_status (phases_of script))))) [
-      | true ↦ tt
-      | false ↦ elim (nat_lt 262144 (length (lines script))) as (λ b. IsCommand (cond b (TooLong Lines) (script_status (phases_of script)))) [ true ↦ tt | false ↦ script_command (phases_of script) ]
-    ]
+  due_command : IsCommand (due judged script)
+  due_command =
+      elim (nat_lt 16777216 (length script)) as (λ b. IsCommand (cond b (TooLong Bytes) lines_due)) [
+        | true ↦ tt
+        | false ↦ elim (nat_lt 262144 (length (lines script))) as (λ b. IsCommand (cond b (TooLong Lines) (script_status judged (phases_of script)))) [ true ↦ tt | false ↦ script_command (phases_of script) ]
+      ]
 
-due_bytes : (script : List ℕ) → 16777216 < length script → due script ≡ TooLong Bytes
-due_bytes script long = ap (λ b. cond b (TooLong Bytes) (cond (nat_lt 262144 (length (lines script))) (TooLong Lines) (script_status (phases_of script)))) (lt-ltb _ _ long)
+  due_bytes : 16777216 < length script → due judged script ≡ TooLong Bytes
+  due_bytes long = ap (λ b. cond b (TooLong Bytes) lines_due) (lt-ltb _ _ long)
 
-due_lines : (script : List ℕ) → length script ≤ 16777216 → 262144 < length (lines script) → due script ≡ TooLong Lines
-due_lines script short long =
-    ap (λ b. cond b (TooLong Bytes) (cond (nat_lt 262144 (length (lines script))) (TooLong Lines) (script_status (phases_of script)))) (le-ltb _ _ short)
-    ∙ ap (λ b. cond b (TooLong Lines) (script_status (phases_of script))) (lt-ltb _ _ long)
+  due_lines : length script ≤ 16777216 → 262144 < length (lines script) → due judged script ≡ TooLong Lines
+  due_lines short long =
+      ap (λ b. cond b (TooLong Bytes) lines_due) (le-ltb _ _ short)
+      ∙ ap (λ b. cond b (TooLong Lines) (script_status judged (phases_of script))) (lt-ltb _ _ long)
 
-due_read : (script : List ℕ) → IsShort script → due script ≡ script_status (phases_of script)
-due_read script short =
-    ap (λ b. cond b (TooLong Bytes) (cond (nat_lt 262144 (length (lines script))) (TooLong Lines) (script_status (phases_of script)))) (le-ltb _ _ short.bytes)
-    ∙ ap (λ b. cond b (TooLong Lines) (script_status (phases_of script))) (le-ltb _ _ short.lines)
-
--- no call of a script's was made yet
-pub none_so_far : (phases : List (List Line)) → FollowsSoFar phases []
-none_so_far phases = FollowsSoFar-whole [] phases [] refl
+  due_read : IsShort script → due judged script ≡ script_status judged (phases_of script)
+  due_read short =
+      ap (λ b. cond b (TooLong Bytes) lines_due) (le-ltb _ _ short.bytes)
+      ∙ ap (λ b. cond b (TooLong Lines) (script_status judged (phases_of script))) (le-ltb _ _ short.lines)
 
 -- the script could not be read
-pub served_unread : (share : ℕ) (left : Option (List ℕ)) (script : List ℕ) (Source Sink : Type 0) (written : Option (List ℕ)) (disk : View) (status : Status) → IsOf left script → HasReadFault script Source status
-    → ServedScript share left Source Sink written written disk disk status []
-served_unread share left script Source Sink written disk status is fault = (script, is, by status fault)
+pub served_unread : (nodes : ℕ) (left : Option (List ℕ)) (script : List ℕ) (Source Sink : Type 0) (written : Option (List ℕ)) (disk : View) (status : Status) → IsOf left script → HasReadFault script Source status
+    → ServedScript nodes left Source Sink written written disk disk status []
+served_unread nodes left script Source Sink written disk status is fault = (script, is, by status fault)
   where
     phases : List (List Line)
     phases = phases_in (phases_of script)
 
-    ends : (status : Status) → HasStatus (due script) Source Sink (HasRisen disk.faults disk.faults) status → HasHistory phases [] status → HasText (history_text []) written written status → has_run status [] ≡ false
-        → Served (due script) share phases Source Sink written written disk disk status []
-    ends status = served_none (due script) share phases Source Sink written written disk disk status
+    judged : Judgement
+    judged = judged_of disk.content
 
-    by : (status : Status) → HasReadFault script Source status → Served (due script) share phases Source Sink written written disk disk status []
-    by (BadScript line) fault = ends (BadScript line) (due_read script fault.0 ∙ ap script_status fault.1) refl refl refl
-    by ReadFault fault = ends ReadFault (fault, due_command script) refl refl refl
-    by NoMemory fault = ends NoMemory (due_command script) (none_so_far phases) refl refl
-    by (TooLong Bytes) fault = ends (TooLong Bytes) (due_bytes script fault) refl refl refl
-    by (TooLong Lines) fault = ends (TooLong Lines) (due_lines script fault.0 fault.1) refl refl refl
+    ends : (status : Status) → HasStatus (due judged script) Source Sink (HasRisen disk.faults disk.faults) status → (IsImageRefused status → Unwritten disk disk) → HasHistory phases [] status → HasText (history_text []) written written status → was_mounted status [] ≡ false
+        → Served (λ judged. due judged script) nodes phases Source Sink written written disk disk status []
+    ends status status_is refused calls text not =
+        served_unmounted (λ judged. due judged script) nodes phases Source Sink written written disk disk status
+        (record { judged = judged; judged_told = judged_told disk.content; status_is = status_is; refused = refused }) calls text not (shows_untouched disk)
+
+    by : (status : Status) → HasReadFault script Source status → Served (λ judged. due judged script) nodes phases Source Sink written written disk disk status []
+    by (BadScript line) fault = ends (BadScript line) (due_read judged script fault.0 ∙ ap (script_status judged) fault.1) (λ refused. absurd refused) refl refl refl
+    by ReadFault fault = ends ReadFault (fault, due_command judged script) (λ refused. absurd refused) refl refl refl
+    by NoMemory fault = ends NoMemory (due_command judged script) (λ refused. absurd refused) (none_so_far phases) refl refl
+    by (TooLong Bytes) fault = ends (TooLong Bytes) (due_bytes judged script fault) (λ refused. absurd refused) refl refl refl
+    by (TooLong Lines) fault = ends (TooLong Lines) (due_lines judged script fault.0 fault.1) (λ refused. absurd refused) refl refl refl
     by _ fault = absurd fault
 
 -- the script was read, and run
-pub served_read : (share : ℕ) (left : Option (List ℕ)) (script : List ℕ) (phases : List (List Line)) (Source Sink : Type 0) (before after : Option (List ℕ)) (old new : View) (status : Status) (history : List Entry) → IsOf left script → IsShort script → phases_of script ≡ Ok phases
-    → Served (workers_status (Rattle.scalefs_run.specs.WithoutCore.worker_without_core 2 phases)) share phases ⊥ Sink before after old new status history → ServedScript share left Source Sink before after old new status history
-served_read share left script phases Source Sink before after old new status history is short read served = (
+pub served_read : (nodes : ℕ) (left : Option (List ℕ)) (script : List ℕ) (phases : List (List Line)) (Source Sink : Type 0) (before after : Option (List ℕ)) (old new : View) (status : Status) (history : List Entry) → IsOf left script → IsShort script → phases_of script ≡ Ok phases
+    → Served (λ judged. judged_status judged phases) nodes phases ⊥ Sink before after old new status history → ServedScript nodes left Source Sink before after old new status history
+served_read nodes left script phases Source Sink before after old new status history is short read served = (
   script,
   is,
-  subst (λ (d : Status). Served d share (phases_in (phases_of script)) Source Sink before after old new status history) (sym (due_read script short ∙ ap script_status read))
-      (subst (λ (p : List (List Line)). Served (script_status (Ok phases)) share p Source Sink before after old new status history) (sym (ap phases_in read))
-      (served_source (script_status (Ok phases)) share phases Source Sink before after old new status history served)),
+  record {
+    caused = record {
+      judged = served.caused.judged;
+      judged_told = served.caused.judged_told;
+      status_is = any_source (due served.caused.judged script) status
+          (subst (λ (d : Status). HasStatus d ⊥ Sink (HasRisen old.faults new.faults) status)
+          (sym (due_read served.caused.judged script short ∙ ap (script_status served.caused.judged) read)) served.caused.status_is);
+      refused = served.caused.refused;
+    };
+    first = served.first;
+    first_is = served.first_is;
+    legal = served.legal;
+    calls = subst (λ (p : List (List Line)). HasHistory p history status) (sym (ap phases_in read)) served.calls;
+    text = served.text;
+    answers = served.answers;
+    images = served.images;
+  },
 )
+  where
+    any_source : (due : Status) (status : Status) → HasStatus due ⊥ Sink (HasRisen old.faults new.faults) status → HasStatus due Source Sink (HasRisen old.faults new.faults) status
+    any_source due Done h = h
+    any_source due (BadWords place) h = h
+    any_source due (BadScript line) h = h
+    any_source due ReadFault h = absurd h.0
+    any_source due WriteFault h = h
+    any_source due DiskFault h = h
+    any_source due (BadImage fault) h = h
+    any_source due NoMemory h = h
+    any_source due (TooManyWorkers asked have) h = h
+    any_source due (TooLong measure) h = h
+    any_source due (TooSmall need have) h = h

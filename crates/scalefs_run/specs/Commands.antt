@@ -1,15 +1,14 @@
 -- What a call has done, by its words.
-use Rattle.std.specs.Prelude.{◌≡◌, ℕ, ◌≤◌, List, [], Option, Result, Ok, Err}
+use Rattle.std.specs.Prelude.{◌≡◌, ℕ, List, [], Option, Result, Ok, Err}
 use Rattle.sfs_tree.specs.declared.history.Entry.{Entry}
 use Rattle.sfs_dev.specs.Disk.{View}
 use Rattle.scalefs_run.specs.declared.outcome.Status.{Status}
 use Rattle.scalefs_run.specs.declared.outcome.Status.TheVariants.{BadWords}
 use Rattle.scalefs_run.specs.declared.words.Command.{Command}
 use Rattle.scalefs_run.specs.declared.words.Command.TheVariants.{Mkfs, Show, Run}
-use Rattle.scalefs_run.specs.Crash.{Survives}
 use Rattle.scalefs_run.specs.Image.{MakesImage, ShowsImage}
 use Rattle.scalefs_run.specs.Served.{ServedScript}
-use Rattle.scalefs_run.specs.Words.{layout_asked, share_of}
+use Rattle.scalefs_run.specs.Words.{layout_asked}
 
 -- Words were refused for this place: nothing was written, and no call made.
 pub record RefusesWords (place : ℕ) (before after : Option (List ℕ)) (status : Status) (history : List Entry) : Type 0 where
@@ -23,29 +22,9 @@ abbrev pub ServedCommand : Command → Option (List ℕ) → Type 0 → Type 0 �
 ServedCommand (Mkfs blocks inodes cores) left Source Sink before after old new status history =
     MakesImage (layout_asked blocks inodes cores) Sink before after old new status × (history ≡ [])
 ServedCommand Show left Source Sink before after old new status history = ShowsImage Sink before after old new status × (history ≡ [])
-ServedCommand (Run nodes) left Source Sink before after old new status history = ServedScript (share_of nodes) left Source Sink before after old new status history
+ServedCommand (Run nodes) left Source Sink before after old new status history = ServedScript nodes left Source Sink before after old new status history
 
 -- the same of words, which may be no command
 abbrev pub ServedWords : Result Command ℕ → Option (List ℕ) → Type 0 → Type 0 → Option (List ℕ) → Option (List ℕ) → View → View → Status → List Entry → Type 0
 ServedWords (Ok command) left Source Sink before after old new status history = ServedCommand command left Source Sink before after old new status history
 ServedWords (Err place) left Source Sink before after old new status history = RefusesWords place before after status history
-
--- what a crash during a command leaves of what a script flushed
-abbrev pub SurvivesCommand : Command → View → View → List Entry → Type 0
-SurvivesCommand (Mkfs blocks inodes cores) old new history = Unit {0}
-SurvivesCommand Show old new history = Unit {0}
-SurvivesCommand (Run nodes) old new history = Survives (share_of nodes) old new history
-
-abbrev pub SurvivesWords : Result Command ℕ → View → View → List Entry → Type 0
-SurvivesWords (Ok command) old new history = SurvivesCommand command old new history
-SurvivesWords (Err place) old new history = Unit {0}
-
--- A disk has room for what a command does: a script takes two areas of two blocks each.
-abbrev pub HasAreas : Command → ℕ → Type 0
-HasAreas (Mkfs blocks inodes cores) size = Unit {0}
-HasAreas Show size = Unit {0}
-HasAreas (Run nodes) size = 4 ≤ size
-
-abbrev pub HasAreasFor : Result Command ℕ → ℕ → Type 0
-HasAreasFor (Ok command) size = HasAreas command size
-HasAreasFor (Err place) size = Unit {0}

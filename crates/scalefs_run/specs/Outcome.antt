@@ -1,5 +1,5 @@
 -- How a run ends: its status with its cause, the history, and the text.
-use Rattle.std.specs.Prelude.{◌≡◌, ℕ, ◌≤◌, ◌<◌, Bool, true, false, List, [], ◌++◌, length, take, codes, decimal, nat_lt, Option, Some, None, Result, Ok, Err, if◌then◌else◌}
+use Rattle.std.specs.Prelude.{◌≡◌, ℕ, ◌≤◌, ◌<◌, Bool, true, false, List, [], ◌++◌, length, take, codes, decimal, Option, Some, None, Err}
 use Rattle.std.specs.Io.KnownBytes.{Appends}
 use Rattle.sfs_base.specs.declared.transfer.ReadAllFault.{ReadAllFault}
 use Rattle.sfs_base.specs.declared.transfer.ReadAllFault.TheVariants as source
@@ -17,30 +17,11 @@ use Rattle.scalefs_run.specs.declared.outcome.ImageFault.{ImageFault}
 use Rattle.scalefs_run.specs.declared.outcome.ImageFault.TheVariants.{Super, Journal, Tree}
 use Rattle.scalefs_run.specs.declared.outcome.Status.{Status}
 use Rattle.scalefs_run.specs.declared.outcome.Status.TheVariants.{Done, BadWords, BadScript, ReadFault, WriteFault, DiskFault, BadImage, NoMemory, TooManyWorkers, TooLong, TooSmall}
-use Rattle.scalefs_run.specs.WithoutCore.{worker_without_core}
-use Rattle.scalefs_run.specs.Words.{CORES}
 
 -- these are the bytes that were told, where they were
 abbrev pub IsOf : Option (List ℕ) → List ℕ → Type 0
 IsOf (Some told) bytes = bytes ≡ told
 IsOf None bytes = Unit {0}
-
--- the status that is due where a script is read to its end: there is a core for each worker
-abbrev pub workers_status : Option ℕ → Status
-workers_status None = Done
-workers_status (Some asked) = TooManyWorkers asked CORES
-
--- the status of a script that was read: that of its first bad line, if it has one
-abbrev pub script_status : Result (List (List Line)) ℕ → Status
-script_status (Ok phases) = workers_status (worker_without_core CORES phases)
-script_status (Err line) = BadScript line
-
--- the status that is due to a script where nothing fails: its length comes first, then its lines, then its workers
-abbrev pub due : List ℕ → Status
-due script =
-    if nat_lt MOST_BYTES (length script) then TooLong Bytes else
-    if nat_lt MOST_LINES (length (lines script)) then TooLong Lines else
-    script_status (phases_of script)
 
 -- the words were a command
 abbrev pub IsCommand : Status → Type 0
@@ -101,11 +82,6 @@ IsWriteStatus sink Done = Unit {0}
 IsWriteStatus sink WriteFault = sink
 IsWriteStatus sink NoMemory = Unit {0}
 IsWriteStatus sink _ = ⊥
-
--- the phases of a script, none where it has a bad line
-abbrev pub phases_in : Result (List (List Line)) ℕ → List (List Line)
-phases_in (Ok phases) = phases
-phases_in (Err line) = []
 
 -- The history that belongs to a status: that of the whole script, of its begin where memory was refused, or none.
 abbrev pub HasHistory : List (List Line) → List Entry → Status → Type 0

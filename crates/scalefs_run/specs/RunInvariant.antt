@@ -1,60 +1,76 @@
 -- What a run has done so far.
-use Rattle.std.specs.Prelude.{◌≡◌, ◌⊎◌, ℕ, ◌≤◌, false, List, length, None, is_some, IfSome}
-use Rattle.std.specs.List.{All}
-use Rattle.std.specs.FinMap.{from_entries}
-use Rattle.sfs_base.specs.Ends.{HasRisen}
+use Rattle.std.specs.Prelude.{◌≡◌, ◌⊎◌, ℕ, ◌≤◌, Bool, List, length, Option, None, Some}
 use Rattle.sfs_tree.specs.declared.history.Entry.{Entry}
-use Rattle.sfs_tree.specs.Tree.{TreeState, names_of}
-use Rattle.sfs_tree.specs.History.{IsLegal, tree_after}
-use Rattle.sfs_tree.specs.Laws.{IsSoundTree}
-use Rattle.sfs_tree.specs.Names.{with_kinds}
+use Rattle.sfs_tree.specs.History.{IsLegal}
+use Rattle.sfs_tree.specs.Tree.{TreeState}
 use Rattle.sfs_dev.specs.Disk.{View}
-use Rattle.area_pair.specs.declared.area.Row.{Row}
-use Rattle.area_pair.specs.Settled.{ReadsAs}
-use Rattle.scalefs_run.specs.Crash.{AcksRise, HasStamp}
-use Rattle.scalefs_run.specs.Words.{CORES}
-use Rattle.scalefs_run.specs.Replies.{AreAnswered, has_failed}
-use Rattle.scalefs_run.specs.Shown.{Kinds, shown, shown_at, is_flush, last_flush}
+use Rattle.sfs_dev.specs.Run.{CountsOn}
+use Rattle.flush_core.specs.Closure.{Flush}
+use Rattle.flush_core.specs.Cut.{Cut}
+use Rattle.crash_laws.specs.SoFar.{SoFar, Stands, StandsSoFar}
+use Rattle.crash_laws.specs.Survives.{HasFailure}
+use Rattle.volume_laws.specs.Volume.{Volume}
+use Rattle.volume_one.specs.Fsync.{HoldsVolume}
+use Rattle.volume_one.specs.Stands.{Remembers}
+use Rattle.scalefs_run.specs.Acks.{AcksRise}
+use Rattle.scalefs_run.specs.Replies.{HasAnswers, HasAnswersSoFar}
 use Rattle.scalefs_run.specs.declared.engine.Engine.{Engine}
-use Rattle.scalefs_run.specs.declared.flush.Store.{Store}
 
--- the names and kinds of the root's rows in a tree
-abbrev pub root_shown : TreeState → Kinds
-root_shown tree = from_entries (with_kinds tree (names_of 0 tree.rows))
+-- What is in hand belongs to a history: the engine's volume remembers it, and its entries are those made so far. There are as many cores as
+-- the layout has, which lies on the disk, and each fsync is answered for its cause, where the disk began with `start` faults.
+pub record RunStands (start : ℕ) (kept : Volume) (engine : Engine) (disk : View) : Type 0 where
+  pub remembers : Remembers kept engine.volume
+  pub history : kept.history ≡ engine.entries.items
+  pub cores : length kept.first.made ≡ engine.volume.layout.cores
+  pub large : engine.volume.layout.blocks ≤ disk.size
+  pub answers : HasAnswersSoFar start disk.faults kept.first kept.history engine.volume.failed
 
--- what a read gives has the names and kinds that the root had at the last flush
-abbrev pub ReadsFlushed : TreeState → List Entry → Store → View → Type 0
-ReadsFlushed first history store disk =
-    (rows : List Row) × ReadsAs disk store.areas rows × (shown rows ≡ shown_at first history (last_flush history))
+-- What a crash may have left so far, by whether a commit has failed: while none has, the volume stands, and the disk holds it.
+abbrev pub StandsNow : ℕ → ℕ → Volume → View → Option ℕ → Type 0
+StandsNow share from kept disk None =
+    StandsSoFar share from kept.first kept.history kept.flushes kept.cut kept.inodes disk × HoldsVolume kept disk
+StandsNow share from kept disk (Some faults) = SoFar share from kept.first kept.history disk × HasFailure kept.history
 
--- The last flush of a history is the last one that was acknowledged.
-pub record FlushedLast (history : List Entry) : Type 0 where
-  pub found : (last_flush history ≡ 0) ⊎ HasStamp is_flush history (last_flush history)
-  pub newest : All (λ entry. IfSome entry.ack (λ _. entry.stamp.0 ≤ last_flush history)) history
+-- Whatever a crash may have left is safe so far, and the moments of acknowledgement don't fall.
+pub record IsSafe (share from : ℕ) (kept : Volume) (failed : Option ℕ) (disk : View) : Type 0 where
+  pub now : StandsNow share from kept disk failed
+  pub acks : AcksRise from kept.history disk.now
 
--- What a run has in hand belongs to its history, from this first tree, on a disk that began at moment `from` with `start` faults.
-pub record RunInvariant (start from : ℕ) (first : TreeState) (history : List Entry) (tree : TreeState) (store : Store) (disk : View) : Type 0 where
-  pub legal : IsLegal first history
-  pub tree_is : tree ≡ tree_after first history
-  pub cores : length tree.made ≡ CORES
-  pub sound : IsSoundTree tree
-  pub answered : (kept : ℕ) → IfSome store.failed (λ faults. faults ≡ kept) → AreAnswered false kept first history
-  pub halted : has_failed history ≡ is_some store.failed
-  pub kept : IfSome store.failed (λ faults. faults ≡ disk.faults)
-  pub risen : IfSome store.failed (λ _. HasRisen start disk.faults)
-  pub few : length store.on_disk.items ≤ 15
-  pub before : last_flush history ≤ length history
-  pub on_disk : shown store.on_disk.items ≡ shown_at first history (last_flush history)
-  pub read : store.failed ≡ None → ReadsFlushed first history store disk
-  pub later : start ≤ disk.faults
-  pub acks : AcksRise from history disk.now
-  pub last : FlushedLast history
+-- A run has gone on from what stood: what stands now begins with the same tree, and what was safe is safe.
+pub record HasGoneOn (start : ℕ) (kept : Volume) (old new : Engine) (before after : View) : Type 0 where
+  pub later : Volume
+  pub first : later.first ≡ kept.first
+  pub stands : RunStands start later new after
+  pub safe : (share from : ℕ) → CountsOn after → IsSafe share from kept old.volume.failed before → IsSafe share from later new.volume.failed after
 
--- it does so for some first tree, moment and count
+-- it stands somehow
 abbrev pub HasInvariant : Engine → View → Type 0
-HasInvariant engine disk = (start from : ℕ) × (first : TreeState) × RunInvariant start from first engine.entries.items engine.tree engine.store disk
+HasInvariant engine disk = (start : ℕ) × (kept : Volume) × RunStands start kept engine disk
 
--- it goes on doing so
+-- however it stood, it has gone on
 abbrev pub KeepsInvariant : Engine → Engine → View → View → Type 0
-KeepsInvariant old new before after =
-    (start from : ℕ) (first : TreeState) → RunInvariant start from first old.entries.items old.tree old.store before → RunInvariant start from first new.entries.items new.tree new.store after
+KeepsInvariant old new before after = (start : ℕ) (kept : Volume) → RunStands start kept old before → HasGoneOn start kept old new before after
+
+-- fsyncs have raised a cut, and the disk holds the tree there
+pub record StandsAtEnd (share : ℕ) (first : TreeState) (history : List Entry) (disk : View) : Type 0 where
+  pub flushes : List Flush
+  pub cut : Cut
+  pub inodes : ℕ → Bool
+  pub stands : Stands share first history flushes cut inodes disk
+
+-- What a crash may have left of a run that ended is safe: the disk holds the tree at the cut that was raised, or a commit has failed.
+pub record IsSafeEnd (share from : ℕ) (first : TreeState) (history : List Entry) (disk : View) : Type 0 where
+  pub so_far : SoFar share from first history disk
+  pub ends : StandsAtEnd share first history disk ⊎ HasFailure history
+  pub acks : AcksRise from history disk.now
+
+-- A run has ended that stood before: its history is legal, each fsync is answered for its cause, and what was safe is safe.
+pub record HasEnded (start : ℕ) (kept : Volume) (failed : Option ℕ) (history : List Entry) (before after : View) : Type 0 where
+  pub legal : IsLegal kept.first history
+  pub answers : HasAnswers start after.faults kept.first history
+  pub safe : (share from : ℕ) → CountsOn after → IsSafe share from kept failed before → IsSafeEnd share from kept.first history after
+
+-- however it stood, it has ended
+abbrev pub EndsRun : Engine → Engine → View → View → Type 0
+EndsRun old new before after =
+    (start : ℕ) (kept : Volume) → RunStands start kept old before → HasEnded start kept old.volume.failed new.entries.items before after

@@ -1,53 +1,69 @@
 -- What a run has done when it ends.
-use Rattle.std.specs.Prelude.{◌≡◌, ℕ, Bool, true, false, List, [], ◌∷◌, Option}
+use Rattle.std.specs.Prelude.{◌≡◌, ℕ, Bool, true, false, List, [], ◌∷◌, Option, Some}
 use Rattle.sfs_base.specs.Ends.{HasRisen}
+use Rattle.sfs_image.specs.Settled.{layout_of}
 use Rattle.sfs_tree.specs.declared.history.Entry.{Entry}
 use Rattle.sfs_tree.specs.History.{IsLegal}
+use Rattle.sfs_tree.specs.Laws.{IsSoundTree}
+use Rattle.sfs_tree.specs.Tree.{TreeState}
 use Rattle.sfs_dev.specs.Disk.{View}
-use Rattle.area_pair.specs.declared.area.Row.{Row}
+use Rattle.sfs_dev.specs.Run.{Unwritten}
 use Rattle.sfs_dev.specs.Steps.{IfTold}
-use Rattle.area_pair.specs.Rows.{rows_of}
+use Rattle.image_tree.specs.Image.{tree_of}
+use Rattle.mount.specs.Mounted.{share_of_nodes}
 use Rattle.script.specs.declared.commands.Line.{Line}
 use Rattle.script.specs.Phases.{phases_of}
 use Rattle.script.specs.Texts.{history_text}
 use Rattle.scalefs_run.specs.declared.outcome.Status.{Status}
 use Rattle.scalefs_run.specs.declared.outcome.Status.TheVariants.{Done, WriteFault, NoMemory}
-use Rattle.scalefs_run.specs.First.{first_tree}
-use Rattle.scalefs_run.specs.Outcome.{IsOf, due, phases_in, HasStatus, HasHistory, HasText}
-use Rattle.scalefs_run.specs.Replies.{AreAnswered, has_failed}
-use Rattle.scalefs_run.specs.Shown.{shown, shown_at, last_flush}
+use Rattle.scalefs_run.specs.Due.{Judgement, IsJudged, due, phases_in}
+use Rattle.scalefs_run.specs.Image.{IsImageRefused}
+use Rattle.scalefs_run.specs.Images.{IfQuiet, HasImagesBy}
+use Rattle.scalefs_run.specs.Outcome.{IsOf, HasStatus, HasHistory, HasText}
+use Rattle.scalefs_run.specs.Replies.{HasAnswers}
 
--- whether calls were made: memory may have been refused before the first
-abbrev pub has_run : Status → List Entry → Bool
-has_run Done history = true
-has_run WriteFault history = true
-has_run NoMemory [] = false
-has_run NoMemory (entry ∷ history) = true
-has_run _ history = false
+-- whether the image was mounted and the script begun: memory may have been refused before its first call
+abbrev pub was_mounted : Status → List Entry → Bool
+was_mounted Done history = true
+was_mounted WriteFault history = true
+was_mounted NoMemory [] = false
+was_mounted NoMemory (entry ∷ history) = true
+was_mounted _ history = false
 
--- A run over a script with these phases, for which this status is due, and in which each core may make so many nodes, ended with
--- this status and this history.
+-- A status has its cause: it is the one due by what is to be said of the image, or tells what failed. A refused image was not written to.
+pub record IsCaused (due_by : Judgement → Status) (Source Sink : Type 0) (old new : View) (status : Status) : Type 0 where
+  pub judged : Judgement
+  pub judged_told : IfTold old.content (IsJudged judged)
+  pub status_is : HasStatus (due_by judged) Source Sink (HasRisen old.faults new.faults) status
+  pub refused : IsImageRefused status → Unwritten old new
+
+-- The tree with which a run begins: it is sound, and where the disk told its content, it is the image's, with a share of so many new nodes for
+-- each core.
+pub record IsFirstTree (nodes : ℕ) (old : View) (first : TreeState) : Type 0 where
+  pub sound : IsSoundTree first
+  pub told : IfTold old.content (λ image. tree_of image (share_of_nodes nodes (layout_of image)) ≡ Some first)
+
+-- A run over a script with these phases, in which so many nodes may be made, ended with this status and this history.
 -- `Source` and `Sink` say that the count of faults of the source or of the sink rose; before and after are what was
 -- written to the sink, old and new are the disk.
-pub record Served (due : Status) (share : ℕ) (phases : List (List Line)) (Source Sink : Type 0) (before after : Option (List ℕ)) (old new : View) (status : Status) (history : List Entry) : Type 0 where
+pub record Served (due_by : Judgement → Status) (nodes : ℕ) (phases : List (List Line)) (Source Sink : Type 0) (before after : Option (List ℕ)) (old new : View) (status : Status) (history : List Entry) : Type 0 where
   -- the status has its cause
-  pub status_is : HasStatus due Source Sink (HasRisen old.faults new.faults) status
-  -- the rows that were found on the disk, which are those of a read where the disk tells what it gives
-  pub opened : List Row
-  pub content : IfTold old.content (λ content. opened ≡ rows_of content)
-  -- the history is a legal run of a one-thread tree that begins with these rows
-  pub legal : IsLegal (first_tree share opened) history
+  pub caused : IsCaused due_by Source Sink old new status
+  -- the tree of the image that was mounted
+  pub first : TreeState
+  pub first_is : was_mounted status history ≡ true → IsFirstTree nodes old first
+  -- the history is a legal run of a one-thread tree that begins with it
+  pub legal : IsLegal first history
   -- it holds each worker's calls, each once, in their order, phase by phase
   pub calls : HasHistory phases history status
   -- its text was written
   pub text : HasText (history_text history) before after status
-  -- each fsync is answered as it is for its cause, and one that the disk failed, because the disk did
-  pub answers : AreAnswered false new.faults (first_tree share opened) history
-  pub failed : has_failed history ≡ true → HasRisen old.faults new.faults
-  -- where no fsync failed, a read gives the root as it was at the stamp of the last fsync answered Ok, or at the start
-  pub read : has_run status history ≡ true → has_failed history ≡ false → IfTold new.content (λ content. shown (rows_of content) ≡ shown_at (first_tree share opened) history (last_flush history))
+  -- each fsync is answered as it is for its cause
+  pub answers : HasAnswers old.faults new.faults first history
+  -- what a crash leaves at each moment, and what a read gives at the end
+  pub images : IfQuiet old new (HasImagesBy (was_mounted status history) nodes first old new history)
 
 -- the same of the script that the source gave
 abbrev pub ServedScript : ℕ → Option (List ℕ) → Type 0 → Type 0 → Option (List ℕ) → Option (List ℕ) → View → View → Status → List Entry → Type 0
-ServedScript share left Source Sink before after old new status history =
-    (script : List ℕ) × IsOf left script × Served (due script) share (phases_in (phases_of script)) Source Sink before after old new status history
+ServedScript nodes left Source Sink before after old new status history =
+    (script : List ℕ) × IsOf left script × Served (λ judged. due judged script) nodes (phases_in (phases_of script)) Source Sink before after old new status history

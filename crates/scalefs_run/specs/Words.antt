@@ -1,5 +1,5 @@
 -- The words of the command line.
-use Rattle.std.specs.Prelude.{ℕ, ◌/◌, ◌≤◌, ◌==◌, Bool, List, [], ◌∷◌, codes, bytes_eq, nat_le, Option, Some, None, Result, Ok, Err, if◌then◌else◌, false}
+use Rattle.std.specs.Prelude.{ℕ, ◌≤◌, ◌==◌, Bool, List, [], ◌∷◌, codes, bytes_eq, nat_le, Option, Some, None, Result, Ok, Err, if◌then◌else◌, false}
 use Rattle.std.specs.List.{list_any}
 use Rattle.script.specs.Words.{number_up_to}
 use Rattle.sfs_image.specs.Super.{Layout}
@@ -83,15 +83,3 @@ IsInRange (Run nodes) = nodes ≤ MOST_NODES
 -- the layout that the words of `mkfs` ask for: one journal slot for each core
 abbrev pub layout_asked : ℕ → ℕ → ℕ → Layout
 layout_asked blocks inodes cores = record { blocks = blocks; inodes = inodes; cores = cores; slots = 1 }
-
--- how many cores a run of a script has
-abbrev pub CORES : ℕ
-CORES = 2
-
--- how many nodes each core may make at most
-abbrev pub MOST_SHARE : ℕ
-MOST_SHARE = 32768
-
--- how many nodes each core may make
-abbrev pub share_of : ℕ → ℕ
-share_of nodes = nodes / CORES

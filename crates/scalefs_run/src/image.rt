@@ -100,8 +100,8 @@ pub fn show_image<K: Sink, D: Disk>(alloc: Global, sink: &mut K, disk: &mut D) -
     }
 }
 
-// The status of a recovery that was refused.
-fn status_of_recovery(fault: RecoverFault) -> Status
+/// The status of a recovery that was refused.
+pub fn status_of_recovery(fault: RecoverFault) -> Status
     ensures { result ≡ status_of_recovery fault }
 {
     match fault {

@@ -2,8 +2,6 @@
 #![tactic(auto)]
 
 mod engine;
-mod first;
-mod flush;
 mod image;
 mod outcome;
 mod top;

@@ -1,4 +1,4 @@
-ghost use Rattle.std.specs.Prelude.{◌≡◌, ◌≤◌, ◌<◌, ◌/◌, ℕ, List, [], true, false, length, map, string_bytes, IfOk, IfErr, Ok};
+ghost use Rattle.std.specs.Prelude.{◌≡◌, ◌≤◌, ℕ, List, [], true, false, map, string_bytes, IfOk, IfErr, Ok};
 ghost use Rattle.std.specs.List.{All};
 ghost use Rattle.sfs_base.specs.Ends.{HasRisen};
 ghost use Rattle.sfs_dev.specs.Run.{Advances};
@@ -6,20 +6,17 @@ ghost use Rattle.script.specs.Phases.{phases_of};
 ghost use Rattle.script.specs.Texts.{history_text};
 ghost use Rattle.script.specs.Faults.{IsShort};
 ghost use Rattle.script.specs.Ready.{LinesMayRun};
-ghost use Rattle.scalefs_run.specs.Commands.{ServedWords, ServedCommand, SurvivesWords, SurvivesCommand, HasAreasFor, HasAreas};
-ghost use Rattle.scalefs_run.specs.Outcome.{IsOf, HasText, IsWriteStatus, HasReadFault, status_of_source, status_of_script, workers_status, reaches_disk};
-ghost use Rattle.scalefs_run.specs.Words.{CORES as CORE_COUNT, MOST_SHARE, MOST_NODES, IsInRange, command_asked, share_of};
-ghost use Rattle.scalefs_run.specs.WithoutCore.{worker_without_core, HaveCores};
+ghost use Rattle.scalefs_run.specs.Commands.{ServedWords, ServedCommand};
+ghost use Rattle.scalefs_run.specs.Due.{judged_status};
+ghost use Rattle.scalefs_run.specs.Outcome.{IsOf, HasText, IsWriteStatus, HasReadFault, status_of_source, status_of_script, reaches_disk};
+ghost use Rattle.scalefs_run.specs.Words.{MOST_NODES, IsInRange, command_asked};
 ghost use Rattle.scalefs_run.specs.Served.{Served, ServedScript};
-ghost use Rattle.scalefs_run.specs.Crash.{AcksRise, Survives};
 
-use crate::engine::{mount, serve};
-use crate::first::CORES;
-use crate::image::{make_image, show_image, write_text};
+use crate::engine::{core_count, mount, serve};
+use crate::image::{make_image, show_image, status_of_recovery, write_text};
 use crate::without_core::first_worker_without_core;
 use crate::words::{Command, command_asked};
 use crate::{Outcome, Status};
-use area_pair::OpenFault;
 use fmt_super::Layout;
 use script::{LONGEST_SCRIPT, Script, ScriptFault};
 use sfs_base::{Gate, Measure, ReadAllFault, Sink, Source, read_all};
@@ -31,8 +28,8 @@ use std::thread::Threads;
 
 /// Does what the words say. `mkfs BLOCKS INODES CORES` makes an empty image on the disk and writes its
 /// numbers. `show` recovers the image of the disk and writes the text of its tree. `run` or `run NODES`, the
-/// number of new nodes, runs a script: the source gives it, the sink takes the text of the history, and the
-/// disk, which is none of `mkfs`, keeps what was flushed of the root. Nothing reaches the disk before the
+/// number of new nodes, mounts the image of the disk and runs a script on it: the source gives it, the sink
+/// takes the text of the history, and the disk keeps what was flushed. The disk is not touched before the
 /// whole script is in the grammar. No thread is started yet, and the gate is not asked.
 pub fn run<R: Threads + Wait + Sync, S: Source, K: Sink, D: Disk, G: Gate>(
     _rt: &R,
@@ -43,15 +40,8 @@ pub fn run<R: Threads + Wait + Sync, S: Source, K: Sink, D: Disk, G: Gate>(
     mut disk: D,
     _gate: &G,
 ) -> Outcome<D>
-    requires large { HasAreasFor (command_asked (map string_bytes words.now)) (D.view disk).size }
-
     ensures served { ServedWords (command_asked (map string_bytes words.now)) (S.left source.old) (HasRisen (S.faults source.old) (S.faults source.new)) (HasRisen (K.faults sink.old) (K.faults sink.new))
         (K.written sink.old) (K.written sink.new) (D.view disk) (D.view result.disk) result.status result.history }
-
-    // A crash at any moment of a run leaves the root as it was at a stamp, with each fsync that was acknowledged by then.
-    ensures survives { SurvivesWords (command_asked (map string_bytes words.now)) (D.view disk) (D.view result.disk) result.history }
-    ensures acks { AcksRise (D.view disk).now result.history (D.view result.disk).now }
-
     ensures untouched { reaches_disk result.status ≡ false → result.disk ≡ disk }
     ensures turns { result.turns.items ≡ [] }
     ensures advances { Advances (D.view disk) (D.view result.disk) }
@@ -73,11 +63,8 @@ fn serve_words<S: Source, K: Sink, D: Disk>(
     sink: &mut K,
     disk: &mut D,
 ) -> (Status, History)
-    requires large { HasAreasFor (command_asked (map string_bytes words.now)) (D.view disk.old).size }
     ensures served { ServedWords (command_asked (map string_bytes words.now)) (S.left source.old) (HasRisen (S.faults source.old) (S.faults source.new)) (HasRisen (K.faults sink.old) (K.faults sink.new))
         (K.written sink.old) (K.written sink.new) (D.view disk.old) (D.view disk.new) result.0 result.1 }
-    ensures survives { SurvivesWords (command_asked (map string_bytes words.now)) (D.view disk.old) (D.view disk.new) result.1 }
-    ensures acks { AcksRise (D.view disk.old).now result.1 (D.view disk.new).now }
     ensures untouched { reaches_disk result.0 ≡ false → disk.new ≡ disk.old }
     ensures advances { Advances (D.view disk.old) (D.view disk.new) }
 {
@@ -96,11 +83,8 @@ fn serve_command<S: Source, K: Sink, D: Disk>(
     disk: &mut D,
 ) -> (Status, History)
     requires ranges { IsInRange command }
-    requires large { HasAreas command (D.view disk.old).size }
     ensures served { ServedCommand command (S.left source.old) (HasRisen (S.faults source.old) (S.faults source.new)) (HasRisen (K.faults sink.old) (K.faults sink.new))
         (K.written sink.old) (K.written sink.new) (D.view disk.old) (D.view disk.new) result.0 result.1 }
-    ensures survives { SurvivesCommand command (D.view disk.old) (D.view disk.new) result.1 }
-    ensures acks { AcksRise (D.view disk.old).now result.1 (D.view disk.new).now }
     ensures untouched { reaches_disk result.0 ≡ false → disk.new ≡ disk.old }
     ensures advances { Advances (D.view disk.old) (D.view disk.new) }
 {
@@ -123,32 +107,27 @@ fn serve_command<S: Source, K: Sink, D: Disk>(
             let status = show_image(alloc, sink, disk);
             (status, History::new(alloc))
         }
-        Command::Run { nodes } => {
-            serve_source(alloc, nodes / u32::from(CORES), source, sink, disk)
-        }
+        Command::Run { nodes } => serve_source(alloc, nodes, source, sink, disk),
     }
 }
 
-// Runs the script that the source gives, in which each core may make so many nodes.
+// Runs the script that the source gives, in which so many nodes may be made.
 fn serve_source<S: Source, K: Sink, D: Disk>(
     alloc: Global,
-    share: u32,
+    nodes: u32,
     source: &mut S,
     sink: &mut K,
     disk: &mut D,
 ) -> (Status, History)
-    requires share { share ≤ MOST_SHARE }
-    requires large { 4 ≤ (D.view disk.old).size }
-    ensures served { ServedScript share (S.left source.old) (HasRisen (S.faults source.old) (S.faults source.new)) (HasRisen (K.faults sink.old) (K.faults sink.new))
+    requires most { nodes ≤ MOST_NODES }
+    ensures served { ServedScript nodes (S.left source.old) (HasRisen (S.faults source.old) (S.faults source.new)) (HasRisen (K.faults sink.old) (K.faults sink.new))
         (K.written sink.old) (K.written sink.new) (D.view disk.old) (D.view disk.new) result.0 result.1 }
-    ensures survives { Survives share (D.view disk.old) (D.view disk.new) result.1 }
-    ensures acks { AcksRise (D.view disk.old).now result.1 (D.view disk.new).now }
     ensures untouched { reaches_disk result.0 ≡ false → disk.new ≡ disk.old }
     ensures advances { Advances (D.view disk.old) (D.view disk.new) }
 {
     match read_script(alloc, source) {
         Err(status) => (status, History::new(alloc)),
-        Ok(script) => serve_script(alloc, share, &script, sink, disk),
+        Ok(script) => serve_script(alloc, nodes, &script, sink, disk),
     }
 }
 
@@ -190,34 +169,31 @@ fn status_of_script(fault: ScriptFault) -> Status
     }
 }
 
-// Opens the disk, runs the phases and writes the text of their history, where there is a core for
+// Mounts the disk, runs the phases and writes the text of their history, where there is a core for
 // each worker.
 fn serve_script<K: Sink, D: Disk>(
     alloc: Global,
-    share: u32,
+    nodes: u32,
     script: &Script,
     sink: &mut K,
     disk: &mut D,
 ) -> (Status, History)
-    requires large { 4 ≤ (D.view disk.old).size }
-    requires share { share ≤ MOST_SHARE }
+    requires most { nodes ≤ MOST_NODES }
     requires ready { All LinesMayRun script.now }
-    ensures served { Served (workers_status (worker_without_core CORE_COUNT script.now)) share script.now ⊥ (HasRisen (K.faults sink.old) (K.faults sink.new)) (K.written sink.old) (K.written sink.new)
-        (D.view disk.old) (D.view disk.new) result.0 result.1 }
-    ensures survives { Survives share (D.view disk.old) (D.view disk.new) result.1 }
-    ensures acks { AcksRise (D.view disk.old).now result.1 (D.view disk.new).now }
+    ensures served { Served (λ judged. judged_status judged script.now) nodes script.now ⊥ (HasRisen (K.faults sink.old) (K.faults sink.new))
+        (K.written sink.old) (K.written sink.new) (D.view disk.old) (D.view disk.new) result.0 result.1 }
     ensures reached { reaches_disk result.0 ≡ true }
     ensures advances { Advances (D.view disk.old) (D.view disk.new) }
 {
-    let mut engine = match mount(alloc, share, disk) {
+    let mut engine = match mount(alloc, nodes, disk) {
         Ok(engine) => engine,
-        Err(OpenFault::DiskFailed) => return (Status::DiskFault, History::new(alloc)),
-        Err(OpenFault::NoMemory) => return (Status::NoMemory, History::new(alloc)),
+        Err(fault) => return (status_of_recovery(fault), History::new(alloc)),
     };
-    if let Some(asked) = first_worker_without_core(script.phases()) {
+    let have = core_count(&engine);
+    if let Some(asked) = first_worker_without_core(script.phases(), have) {
         let status = Status::TooManyWorkers {
             asked: u32::from(asked),
-            have: u32::from(CORES),
+            have: u32::from(have),
         };
         return (status, History::new(alloc));
     }

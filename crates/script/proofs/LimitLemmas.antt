@@ -1,5 +1,4 @@
 -- A script makes no more calls than it has bytes.
-use Rattle.std.specs.Prelude.{option_and_then}
 use Rattle.std.proofs.Common.{◌≡◌, ℕ, suc, ◌+◌, ◌-◌, ◌≤◌, true, false, cond, List, [], ◌∷◌, length, Option, Some, None, Result, Ok, Err, option_map, refl, ap, arith, nat_eq, nat_le, bytes_eq, codes, length-take}
 use Rattle.std.specs.Option.{option_zip}
 use Rattle.std.proofs.lemmas.List.Sums.{sum_by-cons}
@@ -14,7 +13,7 @@ use Rattle.sfs_base.specs.Path.{path_length}
 use Rattle.script.specs.Lines.{lines, parts, words, first_longer}
 use Rattle.script.specs.Paths.{with_name, name_in, names_in, names_behind, path_names, short_path, path_of, named, name_path_of}
 use Rattle.script.specs.Words.{hex_bytes}
-use Rattle.script.specs.Commands.{one, two, three, all_three, offset_of, read_count, command_of, verb_of, command_with, worker_of, worker_line, line_in, kind_of_line, root_path, flushed_path}
+use Rattle.script.specs.Commands.{one, two, three, all_three, offset_of, read_count, command_of, verb_of, command_with, worker_of, worker_line, line_in, kind_of_line}
 use Rattle.script.specs.Phases.{first_phase_longer, with_line, phases_from, phases_of}
 use Rattle.script.specs.Places.{parent}
 use Rattle.script.proofs.LineLemmas.{total, parts_total}
@@ -145,18 +144,6 @@ three_calls {A = A} make read few (first ∷ second ∷ third ∷ []) = let long
     make_calls None at last = omega arith
 three_calls make read few (first ∷ second ∷ third ∷ fourth ∷ words) = omega arith
 
--- an fsync's path is the root's
-root_path-count : (path : Option (List (List ℕ))) → count (option_and_then root_path path) ≤ count path
-root_path-count (Some []) = omega arith
-root_path-count (Some (name ∷ names)) = omega arith
-root_path-count None = omega arith
-
-flushed_path-count : (word : List ℕ) → count (flushed_path word) ≤ length word
-flushed_path-count word =
-    let all = path_of-count word in
-    let some = root_path-count (path_of word) in
-    omega (arith, all, some)
-
 -- a command makes no more calls than its words have bytes, and one
 command_calls : (verb : Verb) (words : List (List ℕ)) → calls (command_of verb words) ≤ total words + 1
 command_calls Create words = one_calls command.Create name_path_of (λ path. let few = parent-count path in omega (arith, few)) name_path_of-count words
@@ -170,7 +157,7 @@ command_calls Read words = three_calls command.Read read_count (λ path at last.
 command_calls Trunc words = trunc_calls words
 command_calls Stat words = one_calls command.Stat path_of (λ path. omega arith) path_of-count words
 command_calls Lists words = one_calls command.List path_of (λ path. omega arith) path_of-count words
-command_calls Fsync words = one_calls command.Fsync flushed_path (λ path. omega arith) flushed_path-count words
+command_calls Fsync words = one_calls command.Fsync path_of (λ path. omega arith) path_of-count words
 
 -- how many calls a line makes at most, where it is one
 abbrev line_calls : Option Line → ℕ

@@ -1,5 +1,4 @@
 -- What is read is within its bounds, and so are a worker's calls.
-use Rattle.std.specs.Prelude.{option_and_then}
 use Rattle.std.proofs.Common.{◌≡◌, ℕ, ◌≤◌, Bool, true, false, cond, ◌&&◌, List, [], ◌∷◌, filter, map, Option, Some, None, option_map, Result, Ok, Err, refl, sym, ap, subst, ◌∙◌, arith, nat_eq, nat_le, bytes_eq, codes}
 use Rattle.std.proofs.lemmas.Bool.Decides.{nat_tests}
 use Rattle.std.specs.List.{AllByRecursion}
@@ -13,7 +12,7 @@ use Rattle.script.specs.declared.reading.line_kind.LineKind.{LineKind}
 use Rattle.script.specs.declared.reading.line_kind.LineKind.TheVariants.{Skipped, Ends, Does}
 use Rattle.script.specs.declared.reading.verbs.Verb.{Verb}
 use Rattle.script.specs.declared.reading.verbs.Verb.TheVariants.{Create, Mkdir, Link, Unlink, Rmdir, Rename, Write, Read, Trunc, Stat, List as Lists, Fsync}
-use Rattle.script.specs.Commands.{command_of, command_with, verb_of, worker_of, line_in, worker_line, kind_of_line, read_count, offset_of, root_path, flushed_path, one, all_three}
+use Rattle.script.specs.Commands.{command_of, command_with, verb_of, worker_of, line_in, worker_line, kind_of_line, read_count, offset_of, all_three}
 use Rattle.script.specs.Words.{number_up_to, is_number, value_of}
 use Rattle.script.specs.Paths.{path_of}
 use Rattle.script.specs.Lines.{lines, words}
@@ -42,8 +41,7 @@ begun_ready (command.Read path at count) may = on_first_ready (command.Read path
 begun_ready (command.Trunc path size) may = on_first_ready (command.Trunc path size) 0 (first_walk (command.Trunc path size)) (λ first second. tt)
 begun_ready (command.Stat path) may = on_first_ready (command.Stat path) 0 (first_walk (command.Stat path)) (λ first second. tt)
 begun_ready (command.List path) may = on_first_ready (command.List path) 0 (first_walk (command.List path)) (λ first second. tt)
-begun_ready (command.Fsync []) may = refl
-begun_ready (command.Fsync (name ∷ names)) may = absurd (let never : name ∷ names ≡ [] = may in cc)
+begun_ready (command.Fsync path) may = on_first_ready (command.Fsync path) 0 (first_walk (command.Fsync path)) (λ first second. tt)
 
 after_ready : (walk : WalkState) (reply : Reply) → IsReady walk → IsReady (after walk reply)
 after_ready (First command node name names) (reply.Node child kind) ready = on_first_ready command child.0 names ready
@@ -106,20 +104,6 @@ other_may : {A : Type 0} (found : Option A) (make : A → Command) → ((a : A) 
 other_may (Some a) make may = may a
 other_may None make may = tt
 
-root_path-root : (path : Option (List (List ℕ))) (root : List (List ℕ)) → option_and_then root_path path ≡ Some root → root ≡ []
-root_path-root (Some []) root e = cc
-root_path-root (Some (name ∷ names)) root e = absurd (let never : None ≡ Some root = e in cc)
-root_path-root None root e = absurd (let never : None ≡ Some root = e in cc)
-
-flush_may : (words : List (List ℕ)) → SomeMay (option_map command.Fsync (one flushed_path words))
-flush_may [] = tt
-flush_may (word ∷ []) = found_may (flushed_path word) (root_path-root (path_of word))
-  where
-    found_may : (found : Option (List (List ℕ))) → ((root : List (List ℕ)) → found ≡ Some root → root ≡ []) → SomeMay (option_map command.Fsync found)
-    found_may (Some path) is = is path refl
-    found_may None is = tt
-flush_may (word ∷ other ∷ words) = tt
-
 reads_may : (words : List (List ℕ)) → SomeMay (command_of Read words)
 reads_may [] = tt
 reads_may (first ∷ []) = tt
@@ -139,7 +123,7 @@ command_may Read words = reads_may words
 command_may Trunc words = other_may _ (λ read. command.Trunc read.0 read.1) (λ a. tt)
 command_may Stat words = other_may _ command.Stat (λ a. tt)
 command_may Lists words = other_may _ command.List (λ a. tt)
-command_may Fsync words = flush_may words
+command_may Fsync words = other_may _ command.Fsync (λ a. tt)
 
 -- a line that is there has a command that may run
 abbrev LineMay : Option Line → Type 0

@@ -1,5 +1,5 @@
 -- The command of a line.
-use Rattle.std.specs.Prelude.{ℕ, ◌^◌, ◌-◌, ◌==◌, List, [], ◌∷◌, codes, bytes_eq, option_map, option_and_then, Option, Some, None, if◌then◌else◌}
+use Rattle.std.specs.Prelude.{ℕ, ◌^◌, ◌-◌, ◌==◌, List, [], ◌∷◌, codes, bytes_eq, option_map, Option, Some, None, if◌then◌else◌}
 use Rattle.std.specs.Option.{option_zip}
 use Rattle.script.specs.declared.commands.Command.{Command}
 use Rattle.script.specs.declared.commands.Command.TheVariants as command
@@ -59,15 +59,6 @@ abbrev pub three : {A B C : Type 0} → (List ℕ → Option A) → (List ℕ �
 three read_first read_second read_third (first ∷ second ∷ third ∷ []) = all_three (read_first first) (read_second second) (read_third third)
 three read_first read_second read_third _ = None
 
--- a path that an fsync may have: the root's, the one node whose rows the disk keeps
-abbrev pub root_path : List (List ℕ) → Option (List (List ℕ))
-root_path [] = Some []
-root_path (name ∷ names) = None
-
--- what an fsync's word spells
-abbrev pub flushed_path : List ℕ → Option (List (List ℕ))
-flushed_path word = option_and_then root_path (path_of word)
-
 -- The command of a verb and the words behind it.
 abbrev pub command_of : Verb → List (List ℕ) → Option Command
 command_of Create words = option_map command.Create (one name_path_of words)
@@ -81,7 +72,7 @@ command_of Read words = option_map (λ read. command.Read read.0 read.1 read.2) 
 command_of Trunc words = option_map (λ read. command.Trunc read.0 read.1) (two path_of offset_of words)
 command_of Stat words = option_map command.Stat (one path_of words)
 command_of Lists words = option_map command.List (one path_of words)
-command_of Fsync words = option_map command.Fsync (one flushed_path words)
+command_of Fsync words = option_map command.Fsync (one path_of words)
 
 -- a worker's number: up to 65,535
 abbrev pub worker_of : List ℕ → Option ℕ

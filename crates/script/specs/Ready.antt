@@ -1,5 +1,5 @@
--- Commands and calls within their bounds: a read asks for at most 65,536 bytes, and an fsync is of the root.
-use Rattle.std.specs.Prelude.{◌≡◌, ℕ, ◌≤◌, List, []}
+-- Commands and calls within their bounds: a read asks for at most 65,536 bytes.
+use Rattle.std.specs.Prelude.{ℕ, ◌≤◌, List}
 use Rattle.std.specs.List.{AllByRecursion}
 use Rattle.sfs_base.specs.declared.chunk.TheConstants.{LONGEST_CHUNK}
 use Rattle.sfs_tree.specs.declared.call.Call.{Call}
@@ -12,13 +12,11 @@ use Rattle.script.specs.Walks.{WalkState, First, Second, Last, Done, last_call, 
 -- a command within its bounds
 abbrev pub MayRun : Command → Type 0
 MayRun (command.Read path at count) = count ≤ LONGEST_CHUNK
-MayRun (command.Fsync path) = path ≡ []
 MayRun _ = Unit {0}
 
 -- a call within its bounds
 abbrev pub MayCall : Call → Type 0
 MayCall (call.Read file at count) = count ≤ LONGEST_CHUNK
-MayCall (call.Fsync node) = node.0 ≡ 0
 MayCall _ = Unit {0}
 
 -- wherever its walks end, a command's last call is within its bounds

@@ -1,13 +1,15 @@
 // Images that are made and shown. The disk of 1,024 blocks with 64 inodes and 2 cores has its slots at bytes 4,096 and 45,056, its inode
 // table at 86,016 and its data area at 118,784.
-use crate::bench::{Ran, fresh, run_between, words_of};
+use crate::bench::{
+    SMALL, assert_shown, assert_text, blank, done, ends, image, run_between, words_of,
+};
 use dev_fake::FailAt;
 use dev_file::FileDisk;
-use scalefs_run::{ImageFault, Status, run};
-use sfs_base::{BytesSink, BytesSource, NoGate};
+use scalefs_run::{ImageFault, Status};
+use sfs_base::{BytesSink, BytesSource};
 use sfs_dev::{Disk, Memory};
 use std::alloc::Global;
-use std::fs::{self, File, OpenOptions};
+use std::fs::{self, File, Files, OpenOptions};
 use std::process::Abort;
 use std::sync::Wait;
 use std::test::Fail;
@@ -97,21 +99,9 @@ static DAMAGES: [(&[Edit], ImageFault); 3] = [
     ),
 ];
 
-// Does what the words say over this disk.
-fn done<R: Threads + Wait + Sync + Abort>(
-    rt: &R,
-    alloc: Global,
-    words: &[&str],
-    disk: Memory,
-) -> Result<Ran, Fail> {
-    let source = BytesSource::new(Vec::new(alloc), Vec::new(alloc));
-    let sink = BytesSink::new(alloc, Vec::new(alloc));
-    run_between(rt, alloc, &words_of(alloc, words)?, source, sink, disk)
-}
-
 // The disk that is just made.
 fn made<R: Threads + Wait + Sync + Abort>(rt: &R, alloc: Global) -> Result<Memory, Fail> {
-    Ok(done(rt, alloc, &MKFS, fresh(alloc)?)?.disk)
+    image(rt, alloc, SMALL)
 }
 
 // Puts these bytes; then nothing is pending.
@@ -122,20 +112,6 @@ fn edit(rt: &impl Abort, disk: &mut Memory, edits: &[Edit]) {
         assert!(rt; disk.write_at(*at, bytes).is_ok());
     }
     assert!(rt; disk.sync().is_ok());
-}
-
-// Asserts that a disk is shown with this text.
-fn assert_shown<R: Threads + Wait + Sync + Abort>(
-    rt: &R,
-    alloc: Global,
-    disk: Memory,
-    text: &str,
-) -> Result<Memory, Fail> {
-    let ran = done(rt, alloc, &["show"], disk)?;
-    assert_eq!(rt; ran.status, Status::Done);
-    assert_eq!(rt; ran.text.as_slice(), text.as_bytes());
-    assert!(rt; ran.history.is_empty());
-    Ok(ran.disk)
 }
 
 #[test]
@@ -199,8 +175,10 @@ fn a_directory_is_shown(rt: HostRuntime) -> Result<(), Fail> {
 #[test]
 fn a_slot_counts_where_its_gate_is_1_and_nowhere_else(rt: HostRuntime) -> Result<(), Fail> {
     let alloc = rt.alloc();
-    let mut disk = made(&rt, alloc)?;
-    edit(&rt, &mut disk, &ONE_DIRECTORY);
+    let script = "0 mkdir /a\n0 fsync /\n";
+    let text = "0 0 mkdir 0 a = node 64 dir\n1 0 fsync 0 = ok\n";
+    let disk = assert_text(&rt, alloc, script, made(&rt, alloc)?, text)?;
+    let mut disk = assert_shown(&rt, alloc, disk, "dir 3 1 /\ndir 2 0 /a\n")?;
     edit(&rt, &mut disk, &OTHER_SLOT);
     edit(&rt, &mut disk, &[(45_056, &[7])]);
     let mut disk = assert_shown(&rt, alloc, disk, "dir 3 1 /\ndir 2 0 /a\n")?;
@@ -216,7 +194,7 @@ fn a_slot_counts_where_its_gate_is_1_and_nowhere_else(rt: HostRuntime) -> Result
 
 #[test]
 fn a_damaged_image_is_refused_for_its_first_fault(rt: HostRuntime) -> Result<(), Fail> {
-    let blank = done(&rt, rt.alloc(), &["show"], fresh(rt.alloc())?)?;
+    let blank = done(&rt, rt.alloc(), &["show"], blank(rt.alloc())?)?;
     let fault = ImageFault::Super { at: 0 };
     assert_eq!(rt; blank.status, Status::BadImage { fault });
     assert_damages(&rt, rt.alloc(), &DAMAGES)
@@ -250,7 +228,7 @@ fn a_sink_that_fails_comes_after_the_image_is_made(rt: HostRuntime) -> Result<()
     let alloc = rt.alloc();
     let (source, sink) = failing(alloc)?;
     let words = words_of(alloc, &MKFS)?;
-    let ran = run_between(&rt, alloc, &words, source, sink, fresh(alloc)?)?;
+    let ran = run_between(&rt, alloc, &words, source, sink, blank(alloc)?)?;
     assert_eq!(rt; ran.status, Status::WriteFault);
     let disk = assert_shown(&rt, alloc, ran.disk, "dir 2 0 /\n")?;
     let (source, sink) = failing(alloc)?;
@@ -261,20 +239,6 @@ fn a_sink_that_fails_comes_after_the_image_is_made(rt: HostRuntime) -> Result<()
     Ok(())
 }
 
-// The status of what the words say over a disk, and the text.
-fn over<R: Threads + Wait + Sync + Abort, D: Disk + Drop>(
-    rt: &R,
-    alloc: Global,
-    words: &[String],
-    disk: D,
-) -> Result<(Status, Vec<u8>), Fail> {
-    assert!(rt; 4 <= disk.len());
-    let mut source = BytesSource::new(Vec::new(alloc), Vec::new(alloc));
-    let mut sink = BytesSink::new(alloc, Vec::new(alloc));
-    let status = run(rt, alloc, words, &mut source, &mut sink, disk, &NoGate).status;
-    Ok((status, Vec::from_slice(alloc, sink.bytes())?))
-}
-
 // The status of what the words say over a disk that fails at its first call.
 fn over_failing<R: Threads + Wait + Sync + Abort>(
     rt: &R,
@@ -283,47 +247,55 @@ fn over_failing<R: Threads + Wait + Sync + Abort>(
     disk: Memory,
 ) -> Result<Status, Fail> {
     let disk = FailAt::new(disk, vec![in alloc; 0u64]?);
-    let (status, text) = over(rt, alloc, &words_of(alloc, words)?, disk)?;
-    assert!(rt; text.is_empty());
-    Ok(status)
+    let ran = done(rt, alloc, words, disk)?;
+    assert!(rt; ran.text.is_empty());
+    Ok(ran.status)
 }
 
 #[test]
 fn a_disk_that_fails_is_named(rt: HostRuntime) -> Result<(), Fail> {
     let alloc = rt.alloc();
-    let status = over_failing(&rt, alloc, &MKFS, fresh(alloc)?)?;
+    let status = over_failing(&rt, alloc, &MKFS, blank(alloc)?)?;
     assert_eq!(rt; status, Status::DiskFault);
     let status = over_failing(&rt, alloc, &["show"], made(&rt, alloc)?)?;
     assert_eq!(rt; status, Status::DiskFault);
     Ok(())
 }
 
-// The status of what the words say over an open file, and the text.
-fn over_file<R: Threads + Wait + Sync + Abort>(
+// Asserts the text of what the words say over the image file, where they have this script.
+fn assert_over_file<R: Threads + Wait + Sync + Abort + Files<File = File>>(
     rt: &R,
     alloc: Global,
     words: &[&str],
-    file: File,
-) -> Result<(Status, Vec<u8>), Fail> {
-    over(rt, alloc, &words_of(alloc, words)?, FileDisk::new(file))
+    script: &str,
+    text: &str,
+) -> Result<(), Fail> {
+    let mut how = OpenOptions::new();
+    how.read(true).write(true).create(true);
+    let disk = FileDisk::new(how.open(rt, "program.img")?);
+    let (source, sink) = ends(alloc, script.as_bytes())?;
+    let ran = run_between(rt, alloc, &words_of(alloc, words)?, source, sink, disk)?;
+    assert_eq!(rt; ran.status, Status::Done);
+    assert_eq!(rt; ran.text.as_slice(), text.as_bytes());
+    Ok(())
 }
 
 #[test]
-fn an_image_file_is_made_and_shown(rt: HostRuntime) -> Result<(), Fail> {
-    let mut how = OpenOptions::new();
-    how.read(true).write(true).create(true);
-    let (status, line) = over_file(&rt, rt.alloc(), &MKFS, how.open(&rt, "program.img")?)?;
-    assert_eq!(rt; status, Status::Done);
-    assert_eq!(rt;
-        line.as_slice(),
-        b"blocks 1024 inodes 64 cores 2 data 29 free 995\n".as_slice()
-    );
+fn an_image_file_is_made_run_on_and_shown(rt: HostRuntime) -> Result<(), Fail> {
+    let alloc = rt.alloc();
+    let line = "blocks 1024 inodes 64 cores 2 data 29 free 995\n";
+    assert_over_file(&rt, alloc, &MKFS, "", line)?;
     let held = fs::read(&rt, "program.img")?;
     assert!(rt; held.starts_with(b"SCALEFS1".as_slice()));
     assert_eq!(rt; held.len(), 118_784);
-    let (status, text) = over_file(&rt, rt.alloc(), &["show"], how.open(&rt, "program.img")?)?;
-    assert_eq!(rt; status, Status::Done);
-    assert_eq!(rt; text.as_slice(), b"dir 2 0 /\n".as_slice());
+    assert_over_file(&rt, alloc, &["show"], "", "dir 2 0 /\n")?;
+    let script = "0 create /f\n0 write /f 1 6869\n0 fsync /f\n0 mkdir /d\n";
+    let text =
+        "0 0 create 0 f = node 64 file\n1 0 look 0 f = node 64 file\n2 0 write 64 1 6869 = ok\n3 0 look 0 f = node 64 file\n4 0 fsync 64 = ok\n5 0 mkdir 0 d = node 65 dir\n";
+    assert_over_file(&rt, alloc, &["run"], script, text)?;
+    assert_over_file(&rt, alloc, &["show"], "", "dir 2 1 /\nfile 1 3 0 /f\n")?;
+    let text = "0 0 look 0 f = node 1 file\n1 0 read 1 0 9 = bytes 006869\n";
+    assert_over_file(&rt, alloc, &["run"], "0 read /f 0 9\n", text)?;
     fs::remove_file(&rt, "program.img")?;
     Ok(())
 }

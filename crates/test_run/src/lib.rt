@@ -4,9 +4,11 @@
 #[cfg(test)]
 mod bench;
 #[cfg(test)]
-mod crashes;
+mod device_calls;
 #[cfg(test)]
 mod ends;
+#[cfg(test)]
+mod flushed;
 #[cfg(test)]
 mod histories;
 #[cfg(test)]
@@ -14,7 +16,11 @@ mod images;
 #[cfg(test)]
 mod rows;
 #[cfg(test)]
+mod space;
+#[cfg(test)]
 mod statuses;
+#[cfg(test)]
+mod sweeps;
 #[cfg(test)]
 mod table;
 #[cfg(test)]

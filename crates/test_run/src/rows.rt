@@ -1,7 +1,10 @@
-// Whole runs of one worker or two over a fresh disk, with their texts worked out by hand.
-use crate::bench::{fresh, run_alone, run_between, run_script};
+// Whole runs of one worker or two over a fresh image, with their texts worked out by hand.
+use crate::bench::{
+    SMALL, Size, assert_only_read, assert_text, ends, fresh, image, run_alone, run_between,
+    run_script,
+};
 use scalefs_run::Status;
-use sfs_base::{BytesSink, BytesSource, Measure};
+use sfs_base::Measure;
 use sfs_dev::Disk;
 use std::alloc::Global;
 use std::process::Abort;
@@ -9,7 +12,7 @@ use std::sync::Wait;
 use std::test::Fail;
 use std::thread::Threads;
 
-// Scripts over a fresh disk with their texts, worked out by hand: two names of one file; a directory that
+// Scripts over the image with few inodes, with their texts, worked out by hand: two names of one file; a directory that
 // would move below itself; one that moves onto an empty one, and one that can't onto another; two
 // workers, twice; bytes put, cut and read; each kind of node with its refusals; an escaped name.
 static TEXTS: [(&str, &str); 8] = [
@@ -51,7 +54,7 @@ static BAD_LINES: [(&str, u32); 7] = [
     ("0 mkdir /a/", 1),
     ("0 rename /a", 1),
     ("0 mkdir /a\nx", 2),
-    ("# none\n\n0 fsync /a\n", 3),
+    ("# none\n\n0 fsync a\n", 3),
     ("0 mkdir /a\n---\n---x\n", 3),
 ];
 
@@ -65,31 +68,34 @@ static BAD_NODES: [(&str, u32); 6] = [
     ("-1", 0),
 ];
 
-// Asserts that a script is run to its end with this text.
-fn assert_text<R: Threads + Wait + Sync + Abort>(
-    rt: &R,
-    alloc: Global,
-    script: &str,
-    text: &str,
-) -> Result<(), Fail> {
-    let ran = run_script(rt, alloc, script.as_bytes(), fresh(alloc)?)?;
-    assert_eq!(rt; ran.status, Status::Done);
-    assert_eq!(rt; ran.text.as_slice(), text.as_bytes());
-    Ok(())
-}
-
-// Asserts that a script has this status, and that nothing was written.
+// Asserts that a script has this status, and that the disk was not touched.
 fn assert_refused<R: Threads + Wait + Sync + Abort>(
     rt: &R,
     alloc: Global,
     script: &[u8],
     status: Status,
 ) -> Result<(), Fail> {
-    let ran = run_script(rt, alloc, script, fresh(alloc)?)?;
+    let ran = run_script(rt, alloc, script, image(rt, alloc, SMALL)?)?;
     assert_eq!(rt; ran.status, status);
     assert!(rt; ran.history.is_empty());
     assert!(rt; ran.text.is_empty());
-    assert!(rt; ran.disk.written().is_empty());
+    assert_eq!(rt; ran.disk.now(), 0);
+    Ok(())
+}
+
+// Asserts that a script has this status on an image of this size, without a call, and that the image was only read.
+fn assert_no_calls<R: Threads + Wait + Sync + Abort>(
+    rt: &R,
+    alloc: Global,
+    script: &[u8],
+    size: Size,
+    status: Status,
+) -> Result<(), Fail> {
+    let ran = run_script(rt, alloc, script, image(rt, alloc, size)?)?;
+    assert_eq!(rt; ran.status, status);
+    assert!(rt; ran.history.is_empty());
+    assert!(rt; ran.text.is_empty());
+    assert_only_read(rt, &ran.disk);
     Ok(())
 }
 
@@ -102,9 +108,8 @@ fn run_nodes<R: Threads + Wait + Sync + Abort>(
 ) -> Result<(Status, Vec<u8>), Fail> {
     let mut words = run_alone(alloc)?;
     words.push(String::from_str(alloc, nodes)?)?;
-    let source = BytesSource::new(Vec::from_slice(alloc, script.as_bytes())?, Vec::new(alloc));
-    let sink = BytesSink::new(alloc, Vec::new(alloc));
-    let ran = run_between(rt, alloc, &words, source, sink, fresh(alloc)?)?;
+    let (source, sink) = ends(alloc, script.as_bytes())?;
+    let ran = run_between(rt, alloc, &words, source, sink, image(rt, alloc, SMALL)?)?;
     Ok((ran.status, ran.text))
 }
 
@@ -115,7 +120,7 @@ fn assert_texts<R: Threads + Wait + Sync + Abort>(
     cases: &[(&str, &str)],
 ) -> Result<(), Fail> {
     for (script, text) in cases {
-        assert_text(rt, alloc, script, text)?;
+        assert_text(rt, alloc, script, image(rt, alloc, SMALL)?, text)?;
     }
     Ok(())
 }
@@ -179,13 +184,36 @@ fn a_bad_number_of_nodes_has_its_place(rt: HostRuntime) -> Result<(), Fail> {
 
 #[test]
 fn a_worker_without_a_core_is_named(rt: HostRuntime) -> Result<(), Fail> {
-    let script = "0 mkdir /a\n---\n2 mkdir /b\n7 mkdir /c\n";
-    assert_refused(
+    let alloc = rt.alloc();
+    let script = b"0 mkdir /a\n---\n2 mkdir /b\n7 mkdir /c\n".as_slice();
+    let status = Status::TooManyWorkers { asked: 2, have: 2 };
+    assert_no_calls(&rt, alloc, script, SMALL, status)?;
+    // The image says how many cores there are.
+    let status = Status::TooManyWorkers { asked: 7, have: 3 };
+    assert_no_calls(&rt, alloc, script, (1024, 64, 3), status)?;
+    let script = "0 mkdir /a\n1 mkdir /b\n";
+    let status = Status::TooManyWorkers { asked: 1, have: 1 };
+    assert_no_calls(&rt, alloc, script.as_bytes(), (1024, 64, 1), status)?;
+    let status = Status::TooManyWorkers {
+        asked: 16,
+        have: 16,
+    };
+    let text = "0 15 mkdir 0 a = node 3904 dir\n";
+    assert_no_calls(
         &rt,
-        rt.alloc(),
-        script.as_bytes(),
-        Status::TooManyWorkers { asked: 2, have: 2 },
-    )
+        alloc,
+        b"16 mkdir /a".as_slice(),
+        (1024, 64, 16),
+        status,
+    )?;
+    assert_text(
+        &rt,
+        alloc,
+        "15 mkdir /a",
+        image(&rt, alloc, (1024, 64, 16))?,
+        text,
+    )?;
+    Ok(())
 }
 
 // So many lines that are comments.
@@ -204,7 +232,7 @@ fn a_script_past_262144_lines_is_too_long(rt: HostRuntime) -> Result<(), Fail> {
     let lines = comments(alloc, 262_145)?;
     assert_refused(&rt, alloc, &lines, Status::TooLong { measure })?;
     let lines = comments(alloc, 262_144)?;
-    assert_refused(&rt, alloc, &lines, Status::Done)
+    assert_no_calls(&rt, alloc, &lines, SMALL, Status::Done)
 }
 
 // A script that makes a directory with a name of so many bytes.
@@ -218,8 +246,8 @@ fn long_name(alloc: Global, count: usize) -> Result<Vec<u8>, Fail> {
 #[test]
 fn a_name_has_255_bytes_at_most(rt: HostRuntime) -> Result<(), Fail> {
     let alloc = rt.alloc();
-    let ran = run_script(&rt, alloc, &long_name(alloc, 255)?, fresh(alloc)?)?;
-    assert!(rt; ran.text.ends_with(b"n = node 64 dir\n".as_slice()));
+    let ran = run_script(&rt, alloc, &long_name(alloc, 255)?, fresh(&rt, alloc)?)?;
+    assert!(rt; ran.text.ends_with(b"n = node 1024 dir\n".as_slice()));
     assert_refused(
         &rt,
         alloc,
@@ -255,33 +283,12 @@ fn full_bucket(alloc: Global) -> Result<Vec<u8>, Fail> {
 #[test]
 fn a_bucket_holds_4096_rows(rt: HostRuntime) -> Result<(), Fail> {
     let alloc = rt.alloc();
-    let ran = run_script(&rt, alloc, &full_bucket(alloc)?, fresh(alloc)?)?;
+    let ran = run_script(&rt, alloc, &full_bucket(alloc)?, image(&rt, alloc, SMALL)?)?;
     assert_eq!(rt; ran.status, Status::Done);
     assert!(rt;
         ran.text.ends_with(
             b"8191 0 look 0 000000 = node 64 file\n8192 0 link 64 0 gggggg = error DirFull\n8193 0 look 0 000000 = node 64 file\n8194 0 link 64 0 a = ok\n".as_slice()
         )
     );
-    Ok(())
-}
-
-#[test]
-fn what_went_and_came_back_is_not_written_again(rt: HostRuntime) -> Result<(), Fail> {
-    let alloc = rt.alloc();
-    let first = run_script(
-        &rt,
-        alloc,
-        b"0 mkdir /a\n0 fsync /\n".as_slice(),
-        fresh(alloc)?,
-    )?;
-    let written = first.disk.written().len();
-    let script = b"0 rmdir /a\n0 mkdir /a\n0 fsync /\n0 rmdir /a\n0 fsync /\n".as_slice();
-    let second = run_script(&rt, alloc, script, first.disk)?;
-    assert_eq!(rt;
-        second.text.as_slice(),
-        b"0 0 rmdir 0 a = ok\n1 0 mkdir 0 a = node 64 dir\n2 0 fsync 0 = ok\n3 0 rmdir 0 a = ok\n4 0 fsync 0 = ok\n".as_slice()
-    );
-    // The second fsync alone wrote: a body and two gates.
-    assert_eq!(rt; second.disk.written().len(), written.saturating_add(4098));
     Ok(())
 }

@@ -1,8 +1,8 @@
 // Words and scripts that are refused before the disk is touched.
-use crate::bench::{Ran, fresh, run_alone, run_between, run_script};
+use crate::bench::{Ran, ends, fresh, run_alone, run_between, run_script};
 use scalefs_run::Status;
-use sfs_base::{BytesSink, BytesSource, Measure};
-use sfs_dev::Disk;
+use sfs_base::Measure;
+use sfs_dev::{Disk, Memory};
 use std::alloc::Global;
 use std::process::Abort;
 use std::sync::Wait;
@@ -10,7 +10,7 @@ use std::test::Fail;
 use std::thread::Threads;
 
 // Asserts that nothing happened but the status.
-fn assert_untouched(rt: &impl Abort, ran: &Ran) {
+fn assert_untouched(rt: &impl Abort, ran: &Ran<Memory>) {
     assert!(rt; ran.history.is_empty());
     assert!(rt; ran.text.is_empty());
     assert_eq!(rt; ran.disk.now(), 0);
@@ -21,11 +21,9 @@ fn run_words<R: Threads + Wait + Sync + Abort>(
     rt: &R,
     alloc: Global,
     words: &[String],
-) -> Result<Ran, Fail> {
-    let script = Vec::from_slice(alloc, b"0 mkdir /a\n".as_slice())?;
-    let source = BytesSource::new(script, Vec::new(alloc));
-    let sink = BytesSink::new(alloc, Vec::new(alloc));
-    run_between(rt, alloc, words, source, sink, fresh(alloc)?)
+) -> Result<Ran<Memory>, Fail> {
+    let (source, sink) = ends(alloc, b"0 mkdir /a\n".as_slice())?;
+    run_between(rt, alloc, words, source, sink, fresh(rt, alloc)?)
 }
 
 #[test]
@@ -53,14 +51,14 @@ fn only_the_word_run_is_a_command(rt: HostRuntime) -> Result<(), Fail> {
 
 #[test]
 fn a_bad_line_is_named(rt: HostRuntime) -> Result<(), Fail> {
-    let ran = run_script(&rt, rt.alloc(), b"x".as_slice(), fresh(rt.alloc())?)?;
+    let ran = run_script(&rt, rt.alloc(), b"x".as_slice(), fresh(&rt, rt.alloc())?)?;
     assert_eq!(rt; ran.status, Status::BadScript { line: 1 });
     assert_untouched(&rt, &ran);
     let ran = run_script(
         &rt,
         rt.alloc(),
         b"0 mkdir /a\n0 fsync /\nx\n".as_slice(),
-        fresh(rt.alloc())?,
+        fresh(&rt, rt.alloc())?,
     )?;
     assert_eq!(rt; ran.status, Status::BadScript { line: 3 });
     assert_untouched(&rt, &ran);
@@ -70,7 +68,7 @@ fn a_bad_line_is_named(rt: HostRuntime) -> Result<(), Fail> {
 #[test]
 fn a_script_past_16_mib_is_too_long(rt: HostRuntime) -> Result<(), Fail> {
     let script = vec![in rt.alloc(); b'#'; 16_777_217]?;
-    let ran = run_script(&rt, rt.alloc(), &script, fresh(rt.alloc())?)?;
+    let ran = run_script(&rt, rt.alloc(), &script, fresh(&rt, rt.alloc())?)?;
     assert_eq!(rt;
         ran.status,
         Status::TooLong {

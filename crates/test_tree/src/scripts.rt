@@ -6,7 +6,7 @@ use std::process::Abort;
 use std::test::Fail;
 
 // Lines in the grammar, and what of it each shows.
-static INSIDE: [(&str, &str); 32] = [
+static INSIDE: [(&str, &str); 33] = [
     ("0 create /a", "each verb"),
     ("0 mkdir /a", "each verb"),
     ("0 link /a /b", "each verb"),
@@ -21,6 +21,7 @@ static INSIDE: [(&str, &str); 32] = [
     ("65535 stat /", "the last worker, and the root"),
     ("10 list /", "a zero that is not the first digit"),
     ("0 fsync /", "each verb, and the root is a path"),
+    ("0 fsync /a", "an fsync of another node than the root"),
     ("0 write / 0 00", "the root, which the call refuses"),
     ("0 link / /a", "the first path of a link may be the root"),
     ("0 mkdir /a/b/c", "several names"),
@@ -48,8 +49,7 @@ static INSIDE: [(&str, &str); 32] = [
 ];
 
 // Lines outside the grammar, and why.
-static OUTSIDE: [(&str, &str); 56] = [
-    ("0 fsync /a", "an fsync of another node than the root"),
+static OUTSIDE: [(&str, &str); 55] = [
     ("x", "one word"),
     (" ", "two empty words"),
     (" # no comment", "a comment begins with `#`"),

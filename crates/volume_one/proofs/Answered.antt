@@ -33,17 +33,13 @@ use Rattle.volume_one.specs.Stands.{Remembers}
 use Rattle.volume_one.specs.declared.flushed.Flushed.{Flushed}
 use Rattle.volume_one.specs.declared.preparing.Ready.{Ready}
 use Rattle.volume_one.specs.declared.volume.OpenVolume.{OpenVolume}
+use Rattle.volume_one.proofs.ByBooks.{ok_value, was_short, begins_by_books, given_back, durable_did}
 use Rattle.volume_one.proofs.Committing.{IsGranted, own_fsync, planned_for, is_one}
 use Rattle.volume_one.proofs.Flushes.{none_holds, none_wrote, some_holds, some_wrote, doubt_wrote}
 use Rattle.volume_one.proofs.Granting.{granted, was_known}
 use Rattle.volume_one.proofs.Leading.{members_flushed}
 use Rattle.volume_one.proofs.Remembering.{IsLeft, left_remembers, known_remembers, back_left, back_remembers}
 use Rattle.volume_one.proofs.Settling.{remembers_after}
-
--- the value of an Ok
-abbrev ok_value : Result ℕ Doubt → ℕ
-ok_value (Ok value) = value
-ok_value (Err doubt) = 0
 
 abbrev is_doubt : Result ℕ Doubt → Bool
 is_doubt (Ok value) = false
@@ -88,6 +84,10 @@ module _ (Same : Type 0) (before after : View) (same_view : Same → after ≡ b
       doubt_faults doubt None (still, ended) = absurd (never_doubt doubt before.now ended)
       doubt_faults doubt (Some contents) gone = gone.doubt.faults
 
+      ended_faults : (moment : ℕ) (packed : Option Contents) → CarriesPacked Same kept.layout number packed before after (Ok moment) → after.faults ≡ before.faults
+      ended_faults moment None (still, ended) = ap (λ (v : View). v.faults) (same_view still)
+      ended_faults moment (Some contents) gone = gone.doubt.cause.kept
+
       doubt_rises : (doubt : Doubt) (packed : Option Contents) → CarriesPacked Same kept.layout number packed before after (Err doubt) → HasRisen before.faults after.faults
       doubt_rises doubt None (still, ended) = absurd (never_doubt doubt before.now ended)
       doubt_rises doubt (Some contents) gone = gone.doubt.cause.risen
@@ -109,7 +109,13 @@ module _ (Same : Type 0) (before after : View) (same_view : Same → after ≡ b
             store = stores.1;
             remembers = remembers_after kept volume node stamp plan grant space is ready built room new same done stores.0 stores.1 members;
             failed = (working, ap (λ (v : OpenVolume). v.failed) done.others ∙ ap (λ (v : OpenVolume). v.failed) same.others ∙ working);
+            reply_is = refl;
             acknowledged = refl;
+            did = record {
+              books = begins_by_books kept volume node stamp plan grant space is members;
+              did = durable_did kept volume node stamp plan grant space is Same before after same_view room.commits moment ready.packed there;
+            };
+            faultless = ended_faults ready built room.commits moment ready.packed there;
             holds = ended_holds ready built room.commits moment ready.packed built.packed there stores.0;
             wrote = ended_wrote ready built room.commits moment ready.packed built.packed there;
           }
@@ -124,7 +130,9 @@ module _ (Same : Type 0) (before after : View) (same_view : Same → after ≡ b
             is = is_one kept volume node stamp plan grant space is;
             remembers = subst (Remembers kept) (sym new_is) (left_remembers kept volume in_doubt is.remembers is_left);
             failed = (working, ap (λ (v : OpenVolume). v.failed) new_is ∙ ap Some (doubt_faults ready built room.commits doubt ready.packed there));
+            reply_is = refl;
             refused = refl;
+            did = record { books = begins_by_books kept volume node stamp plan grant space is members; did = refl };
             risen = doubt_rises ready built room.commits doubt ready.packed there;
             wrote = doubt_may ready built room.commits doubt ready.packed built.packed there;
           }
@@ -136,6 +144,7 @@ module _ (Same : Type 0) (before after : View) (same_view : Same → after ≡ b
       remembers = back_remembers kept volume node stamp plan grant space is room new same back;
       failed = ap (λ (v : OpenVolume). v.failed) back.others ∙ ap (λ (v : OpenVolume). v.failed) same.others;
       refused = refl;
+      did = given_back kept volume node stamp plan grant space is;
     }
     grant_makes working new flushed (readied _ ready room built same ends) = ready_makes working ready built room same new flushed ends
 
@@ -144,30 +153,35 @@ module _ (Same : Type 0) (before after : View) (same_view : Same → after ≡ b
       (plan : FsyncPlan) (was : WasPlanned volume node stamp plan) where
     plan_makes : volume.failed ≡ None → (new : OpenVolume) (flushed : Flushed) → PlanEnds Same stamp plan before after volume new flushed
         → FsyncMakes Same (λ k. k) kept (flush_of node stamp) before after volume new flushed flushed.reply
-    plan_makes working new _ (short still new_is kind need free lacks) =
-        record { same = still; remembers = subst (Remembers kept) (sym new_is) remembers; failed = ap (λ (v : OpenVolume). v.failed) new_is; refused = refl }
+    plan_makes working new _ (short still new_is kind need free lacks) = record {
+      same = still;
+      remembers = subst (Remembers kept) (sym new_is) remembers;
+      failed = ap (λ (v : OpenVolume). v.failed) new_is;
+      refused = refl;
+      did = (refl, was_short kept node stamp volume remembers counted alive plan was kind need free lacks);
+    }
     plan_makes working new _ (unreserved still new_is fits) =
-        record { same = still; remembers = subst (Remembers kept) (sym new_is) remembers; failed = ap (λ (v : OpenVolume). v.failed) new_is; refused = refl }
-    plan_makes working new flushed (reserved _ grant space fits inodes blocks ends) =
-        grant_makes volume plan grant space (granted kept node stamp volume remembers counted alive plan was grant space inodes blocks) (members_flushed kept volume remembers stamp counted node alive plan was) working new flushed ends
+        record { same = still; remembers = subst (Remembers kept) (sym new_is) remembers; failed = ap (λ (v : OpenVolume). v.failed) new_is; refused = refl; did = tt }
+    plan_makes working new flushed (reserved _ grant space taken ends) =
+        grant_makes volume plan grant space (granted kept node stamp volume remembers counted alive plan was grant space taken) (members_flushed kept volume remembers stamp counted node alive plan was) working new flushed ends
 
   -- the whole fsync
   module _ (old : OpenVolume) (remembers : Remembers kept old) (counted : length kept.history ≡ stamp.0) where
     pub flush_makes : (new : OpenVolume) (flushed : Flushed) → FlushEnds Same stamp node before after old new flushed
         → FsyncMakes Same (λ k. k) kept (flush_of node stamp) before after old new flushed flushed.reply
     flush_makes new _ (dead still new_is gone) =
-        record { same = still; remembers = subst (Remembers kept) (sym new_is) remembers; failed = ap (λ (v : OpenVolume). v.failed) new_is; refused = refl }
+        record { same = still; remembers = subst (Remembers kept) (sym new_is) remembers; failed = ap (λ (v : OpenVolume). v.failed) new_is; refused = refl; did = refl }
     flush_makes new _ (stopped still new_is alive faults failed) =
-        record { same = still; remembers = subst (Remembers kept) (sym new_is) remembers; failed = ap (λ (v : OpenVolume). v.failed) new_is; refused = refl }
+        record { same = still; remembers = subst (Remembers kept) (sym new_is) remembers; failed = ap (λ (v : OpenVolume). v.failed) new_is; refused = refl; did = refl }
     flush_makes new _ (unplanned still alive working known) =
-        record { same = still; remembers = known_remembers kept old new remembers known; failed = ap (λ (v : OpenVolume). v.failed) known.others; refused = refl }
+        record { same = still; remembers = known_remembers kept old new remembers known; failed = ap (λ (v : OpenVolume). v.failed) known.others; refused = refl; did = tt }
     flush_makes new flushed (planned _ alive working plan known was same ends) =
         with_failed (sym (ap (λ (v : OpenVolume). v.failed) same.others)) flushed.reply
         (plan_makes known (known_remembers kept old known remembers same) counted (subst (λ (v : OpenVolume). is_alive v.tree node.0 ≡ true) (sym same.others) alive)
         plan (was_known node stamp old known same plan was) (ap (λ (v : OpenVolume). v.failed) same.others ∙ working) new flushed ends)
       where
-        stays : old.failed ≡ known.failed → FsyncStays Same (λ k. k) kept known new flushed → FsyncStays Same (λ k. k) kept old new flushed
-        stays e is = record { same = is.same; remembers = is.remembers; failed = is.failed ∙ sym e; refused = is.refused }
+        stays : old.failed ≡ known.failed → FsyncStays Same (λ k. k) kept (flush_of node stamp) known new flushed → FsyncStays Same (λ k. k) kept (flush_of node stamp) old new flushed
+        stays e is = record { same = is.same; remembers = is.remembers; failed = is.failed ∙ sym e; refused = is.refused; did = is.did }
 
         -- only the count of faults before is told of the volume before
         with_failed : old.failed ≡ known.failed → (given : Reply) → FsyncMakes Same (λ k. k) kept (flush_of node stamp) before after known new flushed given
@@ -180,12 +194,24 @@ module _ (Same : Type 0) (before after : View) (same_view : Same → after ≡ b
           store = is.store;
           remembers = is.remembers;
           failed = (e ∙ is.failed.0, is.failed.1);
+          reply_is = is.reply_is;
           acknowledged = is.acknowledged;
+          did = is.did;
+          faultless = is.faultless;
           holds = is.holds;
           wrote = is.wrote;
         }
-        with_failed e reply.DiskFailed is =
-            record { one = is.one; is = is.is; remembers = is.remembers; failed = (e ∙ is.failed.0, is.failed.1); refused = is.refused; risen = is.risen; wrote = is.wrote }
+        with_failed e reply.DiskFailed is = record {
+          one = is.one;
+          is = is.is;
+          remembers = is.remembers;
+          failed = (e ∙ is.failed.0, is.failed.1);
+          reply_is = is.reply_is;
+          refused = is.refused;
+          did = is.did;
+          risen = is.risen;
+          wrote = is.wrote;
+        }
         with_failed e (reply.Node n k) is = stays e is
         with_failed e (reply.Bytes b) is = stays e is
         with_failed e (reply.Stat k l s) is = stays e is

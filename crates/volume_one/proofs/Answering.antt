@@ -41,7 +41,7 @@ module _ (Same : Type 0) (stamp : Stamp) (before after : View) where
   plan_answers : (plan : FsyncPlan) (old new : OpenVolume) (flushed : Flushed) → PlanEnds Same stamp plan before after old new flushed → IsLiveAnswer None flushed.reply
   plan_answers plan old new _ (short still is kind need free lacks) = tt
   plan_answers plan old new _ (unreserved still is fits) = tt
-  plan_answers plan old new flushed (reserved _ grant space fits inodes blocks ends) = grant_answers plan grant (record old { space = space }) new flushed ends
+  plan_answers plan old new flushed (reserved _ grant space taken ends) = grant_answers plan grant (record old { space = space }) new flushed ends
 
   -- so an fsync is answered as it may be
   pub flush_answers : (node : NodeId) (old new : OpenVolume) (flushed : Flushed) → FlushEnds Same stamp node before after old new flushed
@@ -101,13 +101,13 @@ module _ (Same : Type 0) (kept : Volume) (flush : Flush) (before after : View) (
   abbrev Made : Reply → Type 0
   Made given = FsyncMakes Same (λ k. k) kept flush before after old new flushed given
 
-  stays_ack : FsyncStays Same (λ k. k) kept old new flushed → flushed.ack ≡ None
+  stays_ack : FsyncStays Same (λ k. k) kept flush old new flushed → flushed.ack ≡ None
   stays_ack is = is.refused
 
   -- its acknowledgement
   made_ack : (given : Reply) → Made given → HasAck given flushed.ack
-  made_ack reply.Ok is = (is.moment, ap (λ (f : Flushed). f.ack) is.acknowledged)
-  made_ack reply.DiskFailed is = ap (λ (f : Flushed). f.ack) is.refused
+  made_ack reply.Ok is = (is.moment, is.acknowledged)
+  made_ack reply.DiskFailed is = is.refused
   made_ack (reply.Node n k) is = is.refused
   made_ack (reply.Bytes b) is = is.refused
   made_ack (reply.Stat k l s) is = is.refused
@@ -185,12 +185,14 @@ module _ (Same : Type 0) (kept : Volume) (before after : View) (old mid new : Op
         fsync_remembered k own_entry node mid new is
         (subst (λ (z : TreeState × ℕ). MayCome z.0 z.1 own_entry) (λ i. (tree_after (sym first i) (sym history i), length (sym history i))) may) refl notes
 
-    stays : FsyncStays Same (λ k. k) kept old mid flushed → FsyncStays Same (with_fsync core stamp node flushed) kept old new flushed
+    stays : FsyncStays Same (λ k. k) kept (flush_of node stamp) old mid flushed
+        → FsyncStays Same (with_fsync core stamp node flushed) kept (flush_of node stamp) old new flushed
     stays is = record {
       same = is.same;
       remembers = grown kept is.remembers refl refl;
       failed = ap (λ (v : OpenVolume). v.failed) notes.others ∙ is.failed;
       refused = is.refused;
+      did = is.did;
     }
 
     pub noted : (given : Reply) → FsyncMakes Same (λ k. k) kept (flush_of node stamp) before after old mid flushed given
@@ -203,7 +205,10 @@ module _ (Same : Type 0) (kept : Volume) (before after : View) (old mid new : Op
       store = is.store;
       remembers = grown (volume_left kept is.one is.later) is.remembers refl refl;
       failed = (is.failed.0, ap (λ (v : OpenVolume). v.failed) notes.others ∙ is.failed.1);
+      reply_is = is.reply_is;
       acknowledged = is.acknowledged;
+      did = is.did;
+      faultless = is.faultless;
       holds = is.holds;
       wrote = is.wrote;
     }
@@ -212,7 +217,9 @@ module _ (Same : Type 0) (kept : Volume) (before after : View) (old mid new : Op
       is = is.is;
       remembers = grown kept is.remembers refl refl;
       failed = (is.failed.0, ap (λ (v : OpenVolume). v.failed) notes.others ∙ is.failed.1);
+      reply_is = is.reply_is;
       refused = is.refused;
+      did = is.did;
       risen = is.risen;
       wrote = is.wrote;
     }

@@ -1,8 +1,9 @@
 -- An open volume begins, where memory was laid out of what was mounted.
-use Rattle.std.proofs.Common.{◌≡◌, ℕ, ◌<◌, List, [], length, replicate, map, None, Some, refl, sym, ap, subst, ◌∙◌, arith}
+use Rattle.std.proofs.Common.{◌≡◌, ℕ, ◌+◌, ◌*◌, ◌/◌, ◌<◌, ◌≤◌, ◌^◌, List, [], length, map, None, Some, refl, sym, ap, subst, ◌∙◌, arith}
 use Rattle.std.specs.BTreeMap.{IsOrdered}
 use Rattle.std.specs.Ordering.{nat_cmp}
 use Rattle.std.proofs.lemmas.List.{length-replicate}
+use Rattle.std.proofs.Math.Nat.{div-mul-le_self}
 use Rattle.sfs_base.proofs.BasicNumbers.{le_itself}
 use Rattle.sfs_dev.specs.Disk.{View}
 use Rattle.sfs_image.specs.Super.{Layout, IsLayout}
@@ -14,6 +15,7 @@ use Rattle.core_logs.proofs.Keeping.{blank_logs_keep}
 use Rattle.file_marks.specs.Changed.{HasShortFiles}
 use Rattle.file_table.specs.Table.{HoldsFilesOf}
 use Rattle.flush_commits.specs.Ready.{KeepsEntries}
+use Rattle.commit_turns.specs.Need.{node_bound}
 use Rattle.mount.specs.Mounted.{IsSoundMount}
 use Rattle.mount.specs.declared.begin.Mounted.{Mounted}
 use Rattle.space_laws.specs.Map.{IsMapOf}
@@ -56,6 +58,16 @@ short_of nodes size mounted sound =
 -- as many cores as the layout has
 pub cores_are : (nodes size : ℕ) (mounted : Mounted) → IsSoundMount nodes size mounted → length mounted.tree.made ≡ mounted.layout.cores
 cores_are nodes size mounted sound = ap (λ (tree : TreeState). length tree.made) sound.shown ∙ length-replicate {A = ℕ} mounted.layout.cores 0
+
+-- all its nodes will have numbers of 32 bits
+few_nodes : (nodes size : ℕ) (mounted : Mounted) → nodes ≤ 65536 → IsSoundMount nodes size mounted → node_bound mounted.tree ≤ 2 ^ 32
+few_nodes nodes size mounted most sound =
+    subst (λ (tree : TreeState). node_bound tree ≤ 2 ^ 32) (sym sound.shown)
+    (subst (λ (cores : ℕ). mounted.layout.inodes + cores * (nodes / mounted.layout.cores) ≤ 2 ^ 32) (sym (length-replicate {A = ℕ} mounted.layout.cores 0))
+    (let high = sound.fits.ranges.inodes_high in let low = shared_low nodes mounted.layout.cores in omega (arith, high, low, most)))
+  where
+    shared_low : (n cores : ℕ) → cores * (n / cores) ≤ n
+    shared_low n cores = let low = div-mul-le_self n cores in omega (arith, low)
 
 module _ (nodes : ℕ) (mounted : Mounted) (old new : View) (lawful : IsLawful old) (lawful_later : IsLawful new) (was : WasMounted nodes mounted old new)
     (volume : OpenVolume) (laid : IsLaidOut mounted volume) where
@@ -107,8 +119,8 @@ module _ (nodes : ℕ) (mounted : Mounted) (old new : View) (lawful : IsLawful o
             };
       }
 
-  pub begins_open : Begins nodes old new volume
-  begins_open = by begun
+  pub begins_open : nodes ≤ 65536 → Begins nodes old new volume
+  begins_open most = by begun
     where
       by : IsBegunVolume nodes mounted old new → Begins nodes old new volume
       by b = record {
@@ -118,6 +130,7 @@ module _ (nodes : ℕ) (mounted : Mounted) (old new : View) (lawful : IsLawful o
         fits = subst (IsLayout old.size) (sym laid.layout) b.fits;
         sound = b.sound;
         limits = b.limits;
+        few = few_nodes nodes old.size mounted most was.sound;
         cores = cores_are nodes old.size mounted was.sound ∙ sym (ap (λ (l : Layout). l.cores) laid.layout);
         working = laid.working;
         told = told b;

@@ -1,8 +1,10 @@
 -- The commit of a planned fsync of an open volume.
-use Rattle.std.proofs.Common.{◌≡◌, ℕ, List, length, map, Some, refl, subst, arith}
+use Rattle.std.proofs.Common.{◌≡◌, ℕ, Bool, List, length, map, Some, refl, subst, arith}
 use Rattle.sfs_base.specs.declared.numbers.NodeId.{NodeId}
 use Rattle.sfs_base.specs.declared.numbers.Stamp.{Stamp}
+use Rattle.sfs_tree.specs.declared.history.Entry.{Entry}
 use Rattle.sfs_tree.specs.NameRow.{node_number}
+use Rattle.sfs_tree.specs.Tree.{TreeState}
 use Rattle.fmt_journal.specs.declared.tx.Tx.{Tx}
 use Rattle.journal_one.specs.Packed.{contents_of}
 use Rattle.space_map.specs.Pool.{Grants}
@@ -12,6 +14,7 @@ use Rattle.disk_change.specs.Written.{IsTransactionOf}
 use Rattle.disk_change.specs.declared.old.OldEntry.{OldEntry}
 use Rattle.commit_laws.specs.CommitOfPlan.{CommitPlan, change_planned}
 use Rattle.flush_core.specs.Closure.{HasLiveNode}
+use Rattle.flush_core.specs.Cut.{Cut}
 use Rattle.flush_commits.specs.Planned.{GrantsPlan}
 use Rattle.fsync_plans.specs.Leads.{LeadsToCut}
 use Rattle.fsync_plans.specs.Plans.{planned_flush}
@@ -19,26 +22,41 @@ use Rattle.fsync_dir.specs.declared.plans.FsyncPlan.{FsyncPlan}
 use Rattle.space_laws.specs.Laws.{BringsNames}
 use Rattle.space_laws.specs.Map.{WasGranted}
 use Rattle.space_laws.proofs.Filled.{grants_serve_plans}
+use Rattle.turn_ties.specs.Led.{IsTied}
+use Rattle.turn_ties.specs.Plans.{Planning}
 use Rattle.volume_laws.specs.Commits.{WasBuilt, CanCommit}
 use Rattle.volume_laws.specs.Stores.{ComesNow}
 use Rattle.volume_laws.specs.Volume.{Volume, OneFsync, IsPlannedFor}
 use Rattle.volume_laws.proofs.Commits.{built_jobs_write_plans}
 use Rattle.volume_one.specs.Carry.{first_slot, MayCarry}
-use Rattle.volume_one.specs.Ends.{need_of_change}
+use Rattle.volume_one.specs.Ends.{need_of_change, IsReserved}
 use Rattle.volume_one.specs.Entries.{entries_in}
 use Rattle.volume_one.specs.Fsync.{IsOneOf, flush_of}
 use Rattle.volume_one.specs.Stands.{Remembers}
 use Rattle.volume_one.specs.declared.volume.OpenVolume.{OpenVolume}
 
--- A volume at the commit of a planned fsync: its plan leads to the raised cut, its nets have names, and what it needs was granted.
+-- what an fsync comes to whose plan leads to the raised cut
+abbrev pub planning_by : {first : TreeState} {history : List Entry} {cut : Cut} {inodes : ℕ → Bool} (node : NodeId) (stamp : Stamp) (volume : OpenVolume) (plan : FsyncPlan)
+    → LeadsToCut first history cut inodes (planned_flush node stamp) (entries_in volume.stored) plan → Planning
+planning_by node stamp volume plan leads = record {
+  flush = planned_flush node stamp;
+  raised = leads.raised;
+  after = leads.after;
+  nodes = map node_number plan.nodes.items;
+  entries = entries_in volume.stored;
+  plan = leads.commit;
+}
+
+-- A volume at the commit of a planned fsync: its plan leads to the raised cut, its nets have names, what it needs was granted, and it is tied to
+-- the books.
 pub record IsGranted (kept : Volume) (volume : OpenVolume) (node : NodeId) (stamp : Stamp) (plan : FsyncPlan) (grant : GrantedNumbers) (space : Space) : Type 0 where
   pub remembers : Remembers kept volume
   pub counted : length kept.history ≡ stamp.0
   pub live : HasLiveNode kept.first kept.history (planned_flush node stamp)
   pub leads : LeadsToCut kept.first kept.history kept.cut kept.inodes (planned_flush node stamp) (entries_in volume.stored) plan
   pub names : BringsNames leads.commit.nets
-  pub inodes : Grants volume.space.inodes (need_of_change plan.change).inodes grant.inodes space.inodes
-  pub blocks : Grants volume.space.blocks (need_of_change plan.change).blocks grant.blocks space.blocks
+  pub reserved : IsReserved plan volume.space grant space
+  pub tied : IsTied kept (planning_by node stamp volume plan leads)
 
 module _ (kept : Volume) (volume : OpenVolume) (node : NodeId) (stamp : Stamp) (plan : FsyncPlan) (grant : GrantedNumbers) (space : Space)
     (is : IsGranted kept volume node stamp plan grant space) where
@@ -53,8 +71,8 @@ module _ (kept : Volume) (volume : OpenVolume) (node : NodeId) (stamp : Stamp) (
 
   pub was_granted : WasGranted commit_plan volume.space grant space
   was_granted = record {
-    inodes = subst (λ (change : Planned). Grants volume.space.inodes (need_of_change change).inodes grant.inodes space.inodes) is.leads.made is.inodes;
-    blocks = subst (λ (change : Planned). Grants volume.space.blocks (need_of_change change).blocks grant.blocks space.blocks) is.leads.made is.blocks;
+    inodes = subst (λ (change : Planned). Grants volume.space.inodes (need_of_change change).inodes grant.inodes space.inodes) is.leads.made is.reserved.inodes;
+    blocks = subst (λ (change : Planned). Grants volume.space.blocks (need_of_change change).blocks grant.blocks space.blocks) is.leads.made is.reserved.blocks;
   }
 
   grants_plan : GrantsPlan kept.layout kept.parts commit_plan grant

@@ -1,5 +1,5 @@
 -- What an open volume plans leads from the tree at its cut to the tree at the raised cut.
-use Rattle.std.proofs.Common.{◌≡◌, ◌≤◌, ℕ, Bool, true, List, [], ◌∷◌, length, map, take, Option, Some, None, inl, inr, refl, sym, ap, subst, ◌∙◌, arith}
+use Rattle.std.proofs.Common.{◌≡◌, ◌≤◌, ℕ, Bool, true, List, [], ◌∷◌, length, map, take, is_some, Option, Some, None, inl, inr, refl, sym, ap, subst, ◌∙◌, arith}
 use Rattle.std.specs.Prelude.{◌↔◌}
 use Rattle.std.proofs.lemmas.Bool.{cases_Bool}
 use Rattle.std.proofs.lemmas.List.{take_all}
@@ -32,10 +32,13 @@ use Rattle.dep_closure.proofs.Enough.{unflushed_is_enough}
 use Rattle.file_marks.specs.FileAt.{IsFileAt}
 use Rattle.file_table.specs.Table.{file_at}
 use Rattle.fsync_plans.specs.Leads.{LeadsToCut}
-use Rattle.fsync_plans.specs.Plans.{PlansFsync, HasFileOf, planned_flush, whole}
+use Rattle.fsync_plans.specs.Plans.{PlansFsync, HasFileOf, IsInTime, planned_flush, whole}
 use Rattle.fsync_plans.proofs.Leads.{plans_lead_to_cuts, live_files_are_held}
 use Rattle.fsync_dir.specs.declared.plans.FsyncPlan.{FsyncPlan}
+use Rattle.fsync_dir.specs.Plan.{is_held}
 use Rattle.node_lists.specs.Known.{OrderlyLogs}
+use Rattle.turn_ties.specs.Led.{Sources, IsTied, planning_led}
+use Rattle.turn_ties.proofs.Led.{led_plans_are_tied}
 use Rattle.volume_laws.specs.Volume.{Volume}
 use Rattle.volume_one.specs.Entries.{entries_in, entries_at}
 use Rattle.volume_one.specs.Planned.{WasPlanned}
@@ -152,13 +155,33 @@ module _ (kept : Volume) (volume : OpenVolume) (remembers : Remembers kept volum
       no_later : (one : ℕ) → cut_of kept.cut one ≤ stamp.0
       no_later one = let l = low one in omega (arith, l, counted)
 
+      -- the fsync comes in time for its own file
+      in_time : is_some own_file ≡ true → IsInTime kept.cut node stamp (is_held own_gathered plans_fsync.plans.enter node.0)
+      in_time is_file =
+          live_files_are_held first history kept.flushes kept.cut kept.inodes kept.num kept.layout kept.store kept.parts (entries_in volume.stored) node stamp
+          own_gathered was.planned.concern (entries_at volume.stored (map node_number was.planned.concern.nodes.items)) own_file plan plans_fsync live no_later is_file
+
       pub leads : LeadsToCut first history kept.cut kept.inodes (planned_flush node stamp) (entries_in volume.stored) plan
       leads =
           plans_lead_to_cuts first history kept.flushes kept.cut kept.inodes kept.num kept.layout kept.store kept.parts (entries_in volume.stored) node stamp
           own_gathered was.planned.concern (entries_at volume.stored (map node_number was.planned.concern.nodes.items)) own_file plan plans_fsync
-          (λ is_file.
-          live_files_are_held first history kept.flushes kept.cut kept.inodes kept.num kept.layout kept.store kept.parts (entries_in volume.stored) node stamp
-          own_gathered was.planned.concern (entries_at volume.stored (map node_number was.planned.concern.nodes.items)) own_file plan plans_fsync live no_later is_file)
+          in_time
+
+      abbrev pub sources : Sources
+      sources = record {
+        entries = entries_in volume.stored;
+        start = node;
+        below = stamp;
+        gathered = own_gathered;
+        concern = was.planned.concern;
+        old = entries_at volume.stored (map node_number was.planned.concern.nodes.items);
+        file = own_file;
+        plan = plan;
+      }
+
+      -- and its pages are those of the blocks that changes touch
+      pub tied : IsTied kept (planning_led kept sources leads)
+      tied = led_plans_are_tied kept sources leads remembers.stands plans_fsync in_time
 
       -- the members are what the fsync flushes
       pub members_flushed : (one : ℕ) → (is_listed (map node_number plan.members.items) one ≡ true) ↔ Closure first history every_entry kept.cut kept.inodes (planned_flush node stamp) one

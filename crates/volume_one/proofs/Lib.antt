@@ -2,6 +2,7 @@ pub mod Answered
 pub mod Answering
 pub mod BegunRun
 pub mod BegunVolume
+pub mod ByBooks
 pub mod Carrying
 pub mod Committing
 pub mod Entering
@@ -18,5 +19,6 @@ pub mod Leading
 pub mod NoneGranted
 pub mod Placing
 pub mod Remembering
+pub mod Reserving
 pub mod Settling
 pub mod Spaces

@@ -97,8 +97,8 @@ module _ (kept : Volume) (volume : OpenVolume) (node : NodeId) (stamp : Stamp) (
 
   returned : WasReturned space grant new.space
   returned = record {
-    granted_inodes = all_granted volume.space.inodes space.inodes _ grant.inodes is.inodes;
-    granted_blocks = all_granted volume.space.blocks space.blocks _ grant.blocks is.blocks;
+    granted_inodes = all_granted volume.space.inodes space.inodes _ grant.inodes is.reserved.inodes;
+    granted_blocks = all_granted volume.space.blocks space.blocks _ grant.blocks is.reserved.blocks;
     inodes = subst (λ (s : Space). BecomeAll Free grant.inodes s.inodes new.space.inodes) room_space back.inodes;
     blocks = subst (λ (s : Space). BecomeAll Free grant.blocks s.blocks new.space.blocks) room_space back.blocks;
   }
@@ -117,8 +117,8 @@ module _ (kept : Volume) (volume : OpenVolume) (node : NodeId) (stamp : Stamp) (
         (was_granted kept volume node stamp plan grant space is))
         returned;
     granted = record {
-      inodes = none_once_free volume.space.inodes space.inodes _ grant.inodes is.inodes is.remembers.disk.granted.inodes new.space.inodes returned.inodes;
-      blocks = none_once_free volume.space.blocks space.blocks _ grant.blocks is.blocks is.remembers.disk.granted.blocks new.space.blocks returned.blocks;
+      inodes = none_once_free volume.space.inodes space.inodes _ grant.inodes is.reserved.inodes is.remembers.disk.granted.inodes new.space.inodes returned.inodes;
+      blocks = none_once_free volume.space.blocks space.blocks _ grant.blocks is.reserved.blocks is.remembers.disk.granted.blocks new.space.blocks returned.blocks;
     };
   }
 

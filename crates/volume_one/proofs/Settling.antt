@@ -183,9 +183,9 @@ module _ (kept : Volume) (volume : OpenVolume) (node : NodeId) (stamp : Stamp) (
 
     granted_after : HasNoneGranted new.space
     granted_after = record {
-      inodes = none_once_ended volume.space.inodes space.inodes _ grant.inodes is.inodes is.remembers.disk.granted.inodes ready.freed_inodes.items new.space.inodes
+      inodes = none_once_ended volume.space.inodes space.inodes _ grant.inodes is.reserved.inodes is.remembers.disk.granted.inodes ready.freed_inodes.items new.space.inodes
           (subst (λ (s : Space). Ends grant.inodes ready.freed_inodes.items s.inodes new.space.inodes) room_space done.space_inodes);
-      blocks = none_once_ended volume.space.blocks space.blocks _ grant.blocks is.blocks is.remembers.disk.granted.blocks ready.freed_blocks.items new.space.blocks
+      blocks = none_once_ended volume.space.blocks space.blocks _ grant.blocks is.reserved.blocks is.remembers.disk.granted.blocks ready.freed_blocks.items new.space.blocks
           (subst (λ (s : Space). Ends grant.blocks ready.freed_blocks.items s.blocks new.space.blocks) room_space done.space_blocks);
     }
 

@@ -1,5 +1,5 @@
 -- An open volume as a mount begins it.
-use Rattle.std.specs.Prelude.{◌≡◌, ℕ, List, [], length, is_some, None, Some}
+use Rattle.std.specs.Prelude.{◌≡◌, ℕ, ◌≤◌, ◌^◌, List, [], length, is_some, None, Some}
 use Rattle.std.specs.FinMap.{get, empty}
 use Rattle.sfs_base.specs.declared.numbers.NodeId.{NodeId}
 use Rattle.sfs_dev.specs.Disk.{View}
@@ -13,6 +13,7 @@ use Rattle.image_tree.specs.Image.{tree_of}
 use Rattle.disk_change.specs.declared.old.OldEntry.{OldEntry}
 use Rattle.journal_one.specs.Calls.{IsCalm}
 use Rattle.crash_laws.specs.Wrote.{Mounts}
+use Rattle.commit_turns.specs.Need.{node_bound}
 use Rattle.mount.specs.Mounted.{share_of_nodes}
 use Rattle.volume_laws.specs.Volume.{Volume}
 use Rattle.volume_one.specs.Fsync.{HoldsVolume}
@@ -42,7 +43,8 @@ pub record IsNewOf (nodes : ℕ) (before after : View) (kept : Volume) (image : 
   pub holds : IsCalm before → CountsOn after → HoldsNew nodes before after kept
 
 -- An open volume begins: there is a volume of which nothing has happened yet that it remembers. Its layout lies on the disk, its tree is sound
--- and within its limits, there are as many cores as the layout has, no commit has failed, and where the disk told its content, it is the image's.
+-- and within its limits, all its nodes will have numbers of 32 bits, there are as many cores as the layout has, no commit has failed, and where
+-- the disk told its content, it is the image's.
 pub record Begins (nodes : ℕ) (before after : View) (volume : OpenVolume) : Type 0 where
   pub kept : Volume
   pub remembers : Remembers kept volume
@@ -50,6 +52,7 @@ pub record Begins (nodes : ℕ) (before after : View) (volume : OpenVolume) : Ty
   pub fits : IsLayout before.size volume.layout
   pub sound : IsSoundTree kept.first
   pub limits : IsWithinLimits kept.first
+  pub few : node_bound kept.first ≤ 2 ^ 32
   pub cores : length kept.first.made ≡ volume.layout.cores
   pub working : volume.failed ≡ None
   pub told : IfTold before.content (IsNewOf nodes before after kept)

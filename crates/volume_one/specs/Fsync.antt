@@ -18,6 +18,7 @@ use Rattle.volume_laws.specs.Commits.{HoldsParts}
 use Rattle.volume_laws.specs.Stores.{ComesNow, IsStoreLeft, volume_left}
 use Rattle.volume_laws.specs.Volume.{Volume, OneFsync, IsPlannedFor, tree_held, tree_raised}
 use Rattle.volume_one.specs.Calls.{entry_of, kept_with}
+use Rattle.volume_one.specs.Deeds.{DidCommit, DidFail, DidStay}
 use Rattle.volume_one.specs.Stands.{Remembers}
 use Rattle.volume_one.specs.declared.flushed.Flushed.{Flushed}
 use Rattle.volume_one.specs.declared.volume.OpenVolume.{OpenVolume}
@@ -39,8 +40,8 @@ pub record IsOneOf (kept : Volume) (flush : Flush) (one : OneFsync) : Type 0 whe
   pub planned : IsPlannedFor kept one
   pub comes : ComesNow kept one
 
--- An fsync was answered Ok: its commit is durable at the moment of the acknowledgement, and the volume and the disk are what it leaves. Where
--- the disk held the volume and its count of calls goes on, a crash leaves the tree before or the tree after.
+-- An fsync was answered Ok: its commit is durable at the moment of the acknowledgement, no device call failed, and the volume and the disk are
+-- what it leaves. Where the disk held the volume and its count of calls goes on, a crash leaves the tree before or the tree after.
 pub record FsyncCommits (grown : Volume → Volume) (kept : Volume) (flush : Flush) (before after : View) (old new : OpenVolume) (flushed : Flushed) : Type 0 where
   pub one : OneFsync
   pub later : ℕ → List ℕ
@@ -49,7 +50,10 @@ pub record FsyncCommits (grown : Volume → Volume) (kept : Volume) (flush : Flu
   pub store : IsStoreLeft kept one later
   pub remembers : Remembers (grown (volume_left kept one later)) new
   pub failed : (old.failed ≡ None) × (new.failed ≡ None)
-  pub acknowledged : flushed ≡ record { reply = reply.Ok; ack = Some moment }
+  pub reply_is : flushed.reply ≡ reply.Ok
+  pub acknowledged : flushed.ack ≡ Some moment
+  pub did : DidCommit kept flush one before after moment flushed.deed
+  pub faultless : after.faults ≡ before.faults
   pub holds : CountsOn after → HoldsVolume kept before → HoldsVolume (volume_left kept one later) after
   pub wrote : CountsOn after → HoldsVolume kept before → (share : ℕ) → Wrote share (tree_held kept) (tree_raised kept one) before after (Some moment)
 
@@ -59,22 +63,25 @@ pub record FsyncDoubts (grown : Volume → Volume) (kept : Volume) (flush : Flus
   pub is : IsOneOf kept flush one
   pub remembers : Remembers (grown kept) new
   pub failed : (old.failed ≡ None) × (new.failed ≡ Some after.faults)
-  pub refused : flushed ≡ record { reply = reply.DiskFailed; ack = None }
+  pub reply_is : flushed.reply ≡ reply.DiskFailed
+  pub refused : flushed.ack ≡ None
+  pub did : DidFail kept flush one flushed.deed
   pub risen : HasRisen before.faults after.faults
   pub wrote : CountsOn after → HoldsVolume kept before → (share : ℕ) → Wrote share (tree_held kept) (tree_raised kept one) before after None
 
 -- An fsync left all as it was.
-pub record FsyncStays (Same : Type 0) (grown : Volume → Volume) (kept : Volume) (old new : OpenVolume) (flushed : Flushed) : Type 0 where
+pub record FsyncStays (Same : Type 0) (grown : Volume → Volume) (kept : Volume) (flush : Flush) (old new : OpenVolume) (flushed : Flushed) : Type 0 where
   pub same : Same
   pub remembers : Remembers (grown kept) new
   pub failed : new.failed ≡ old.failed
   pub refused : flushed.ack ≡ None
+  pub did : DidStay kept flush flushed.reply flushed.deed
 
 -- What an fsync makes of a volume, by its reply; `grown` says what else is to be said of it then.
 abbrev pub FsyncMakes : Type 0 → (Volume → Volume) → Volume → Flush → View → View → OpenVolume → OpenVolume → Flushed → Reply → Type 0
 FsyncMakes Same grown kept flush before after old new flushed reply.Ok = FsyncCommits grown kept flush before after old new flushed
 FsyncMakes Same grown kept flush before after old new flushed reply.DiskFailed = FsyncDoubts grown kept flush before after old new flushed
-FsyncMakes Same grown kept flush before after old new flushed _ = FsyncStays Same grown kept old new flushed
+FsyncMakes Same grown kept flush before after old new flushed _ = FsyncStays Same grown kept flush old new flushed
 
 -- a volume with the entry of an fsync
 abbrev pub with_fsync : CoreId → Stamp → NodeId → Flushed → Volume → Volume

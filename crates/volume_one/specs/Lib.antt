@@ -1,6 +1,7 @@
 pub mod Begins
 pub mod Calls
 pub mod Carry
+pub mod Deeds
 pub mod Ends
 pub mod Entries
 pub mod Finished

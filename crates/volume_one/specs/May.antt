@@ -1,10 +1,9 @@
 -- Which plans can be carried to the disk once they are granted and ready.
 use Rattle.sfs_image.specs.Super.{Layout}
-use Rattle.space_map.specs.Pool.{Grants}
 use Rattle.space_map.specs.Space.{Space, GrantedNumbers}
 use Rattle.fsync_dir.specs.declared.plans.FsyncPlan.{FsyncPlan}
 use Rattle.volume_one.specs.Carry.{MayCarry}
-use Rattle.volume_one.specs.Ends.{need_of_change}
+use Rattle.volume_one.specs.Ends.{IsReserved}
 use Rattle.volume_one.specs.Ready.{IsReadyFor}
 use Rattle.volume_one.specs.declared.preparing.Ready.{Ready}
 use Rattle.volume_one.specs.declared.volume.OpenVolume.{OpenVolume}
@@ -16,5 +15,4 @@ MayCarryGrant layout plan grant = (ready : Ready) → IsReadyFor plan grant read
 -- So it can with each grant of what the plan needs.
 abbrev pub MayCarryPlan : OpenVolume → FsyncPlan → Type 0
 MayCarryPlan volume plan =
-    (grant : GrantedNumbers) (space : Space) → Grants volume.space.inodes (need_of_change plan.change).inodes grant.inodes space.inodes
-    → Grants volume.space.blocks (need_of_change plan.change).blocks grant.blocks space.blocks → MayCarryGrant volume.layout plan grant
+    (grant : GrantedNumbers) (space : Space) → IsReserved plan volume.space grant space → MayCarryGrant volume.layout plan grant

@@ -16,6 +16,7 @@ ghost use Rattle.volume_one.specs.Ready.{HasReadyRoom};
 ghost use Rattle.volume_one.specs.Stands.{IsStandingAt};
 
 use crate::OpenVolume;
+use crate::deed::Deed;
 use crate::flushed::Flushed;
 use crate::preparing::Ready;
 use commit_one::{Committed, commit};
@@ -30,7 +31,7 @@ use space_map::{Grant, SpaceFault};
 impl OpenVolume {
     /// An fsync of a core, at the next stamp: brings all that it flushes to the disk in one commit. A node that
     /// is not alive is answered NoEntry; after a commit that the disk failed, each fsync is answered Stopped.
-    /// After every answer but Ok the logs, the cuts and the tree are as before.
+    /// After every answer but Ok the logs, the cuts and the tree are as before. It tells what it did too.
     pub fn fsync<D: Disk>(
         &mut self,
         disk: &mut D,
@@ -59,16 +60,17 @@ impl OpenVolume {
         ensures advances { Advances (D.view disk.old) (D.view disk.new) }
     {
         if !self.tree.is_alive(node) {
-            return Flushed::refused(Reply::Error {
+            let reply = Reply::Error {
                 code: Code::NoEntry,
-            });
+            };
+            return Flushed::refused(reply, Deed::Nothing);
         }
         if let Some(faults) = self.failed {
-            return Flushed::refused(Reply::Stopped { faults });
+            return Flushed::refused(Reply::Stopped { faults }, Deed::Halted);
         }
         match self.planned(node, stamp) {
             Ok(plan) => self.bring(disk, stamp, plan),
-            Err(_) => Flushed::refused(Reply::NoMemory),
+            Err(_) => Flushed::refused(Reply::NoMemory, Deed::Nothing),
         }
     }
 
@@ -84,9 +86,9 @@ impl OpenVolume {
         match self.space.reserve(need(&plan.change)) {
             Ok(grant) => self.commit_granted(disk, stamp, plan, grant),
             Err(SpaceFault::NoSpace { kind, need, free }) => {
-                Flushed::refused(Reply::NoSpace { kind, need, free })
+                Flushed::refused(Reply::NoSpace { kind, need, free }, Deed::Short)
             }
-            Err(SpaceFault::NoMemory) => Flushed::refused(Reply::NoMemory),
+            Err(SpaceFault::NoMemory) => Flushed::refused(Reply::NoMemory, Deed::Nothing),
         }
     }
 
@@ -111,7 +113,7 @@ impl OpenVolume {
             Ok(ready) => self.commit_ready(disk, stamp, ready, grant),
             Err(_) => {
                 self.space.give_back(grant);
-                Flushed::refused(Reply::NoMemory)
+                Flushed::refused(Reply::NoMemory, Deed::GivenBack)
             }
         }
     }
@@ -133,18 +135,20 @@ impl OpenVolume {
         ensures ends { ReadyEnds (disk.new ≡ disk.old) stamp ready grant (D.view disk.old) (D.view disk.new) self.old self.new result }
         ensures advances { Advances (D.view disk.old) (D.view disk.new) }
     {
+        let deed = Deed::once_durable(&ready, &grant);
         match self.carry(disk, ready.packed.take()) {
             Ok(moment) => {
                 self.finish(stamp, ready, grant);
                 Flushed {
                     reply: Reply::Ok,
                     ack: Some(moment),
+                    deed,
                 }
             }
             Err(doubt) => {
                 self.space.give_back(grant);
                 self.failed = Some(doubt.faults);
-                Flushed::refused(Reply::DiskFailed)
+                Flushed::refused(Reply::DiskFailed, Deed::Failed { opened: None })
             }
         }
     }

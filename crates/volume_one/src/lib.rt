@@ -3,6 +3,7 @@
 
 mod begin;
 mod calls;
+mod deed;
 mod entries;
 mod finishing;
 mod flushed;
@@ -12,5 +13,6 @@ mod preparing;
 mod volume;
 
 pub use begin::open;
+pub use deed::Deed;
 pub use flushed::Flushed;
 pub use volume::OpenVolume;

@@ -1,6 +1,6 @@
 ghost use Rattle.std.specs.Prelude.{◌≡◌, IfOk};
 ghost use Rattle.script.specs.Lines.{words};
-ghost use Rattle.script.specs.Commands.{one, flushed_path, command_of, line_in, kind_of_line};
+ghost use Rattle.script.specs.Commands.{command_of, line_in, kind_of_line};
 
 use crate::reading::literals::number_up_to;
 use crate::reading::operands::{link, path, place, read, rename, trunc, write};
@@ -62,16 +62,6 @@ fn line_in(alloc: Global, line: &[u8]) -> Result<Option<Line>, NoMemory>
     Ok(Some(Line { worker, command }))
 }
 
-// An fsync's path. Only that of the root is in the grammar.
-fn flushed(alloc: Global, arguments: &[u8]) -> Result<Option<Path>, NoMemory>
-    ensures { IfOk result (λ read. read ≡ one flushed_path (words arguments.now)) }
-{
-    match path(alloc, arguments)? {
-        Some(path) if path.names().is_empty() => Ok(Some(path)),
-        _ => Ok(None),
-    }
-}
-
 // The command of a verb and the words behind it.
 fn command_of(alloc: Global, verb: Verb, arguments: &[u8]) -> Result<Option<Command>, NoMemory>
     ensures { IfOk result (λ command. command ≡ command_of verb (words arguments.now)) }
@@ -88,6 +78,6 @@ fn command_of(alloc: Global, verb: Verb, arguments: &[u8]) -> Result<Option<Comm
         Verb::Trunc => trunc(alloc, arguments),
         Verb::Stat => Ok(path(alloc, arguments)?.map(|path| Command::Stat { path })),
         Verb::List => Ok(path(alloc, arguments)?.map(|path| Command::List { path })),
-        Verb::Fsync => Ok(flushed(alloc, arguments)?.map(|path| Command::Fsync { path })),
+        Verb::Fsync => Ok(path(alloc, arguments)?.map(|path| Command::Fsync { path })),
     }
 }

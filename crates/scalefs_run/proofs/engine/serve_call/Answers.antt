@@ -1,100 +1,101 @@
--- A call is made: an fsync of the root, or another.
-use Rattle.std.proofs.Common.{◌≡◌, Vec, Global, vec_len, arith, ℕ, true, false, List, [], ◌∷◌, ◌++◌, length, refl, sym, ap, subst, ◌∙◌}
-use Rattle.sfs_base.specs.declared.numbers.CoreId.{CoreId}
-use Rattle.sfs_tree.specs.declared.call.Call.{Call}
+-- A call is made: it is answered, and its entry comes.
+use Rattle.std.proofs.Common.{◌≡◌, ◌<◌, Vec, Global, vec_len, arith, ℕ, List, [], ◌∷◌, ◌++◌, length, refl, sym, ap, subst, ◌∙◌}
+use Rattle.std.specs.Vec.{vec_capacity}
+use Rattle.sfs_base.proofs.BasicOptions.{on_err}
+use Rattle.sfs_base.specs.declared.numbers.Stamp.{Stamp}
 use Rattle.sfs_tree.specs.declared.history.Entry.{Entry}
-use Rattle.area_pair.specs.Settled.{ReadsAs}
-use Rattle.scalefs_run.specs.Replies.{is_fsync}
-use Rattle.scalefs_run.specs.RunInvariant.{RunInvariant}
+use Rattle.sfs_tree.specs.Tree.{TreeState}
+use Rattle.sfs_tree.proofs.Cores.{cores_stay}
+use Rattle.sfs_dev.specs.Disk.{View}
+use Rattle.volume_one.specs.Calls.{entry_of}
+use Rattle.scalefs_run.specs.RunInvariant.{HasInvariant, EndsRun}
 use Rattle.scalefs_run.specs.declared.engine.Engine.{Engine}
-use Rattle.scalefs_run.specs.declared.flush.Flushed.{Flushed}
-use Rattle.scalefs_run.specs.Safe.{CrashInvariant}
-use Rattle.scalefs_run.proofs.Called.{pushed_entry, entries_kept, called_stands, called_safe, flushed_stands, flushed_safe}
+use Rattle.scalefs_run.proofs.Called.{entries_kept, call_goes_on}
+use Rattle.scalefs_run.proofs.Ended.{ends_here}
 use Rattle.scalefs_run.proofs.engine.serve_call.Goals as goal
 
-pub answer-requires-clause-sound : goal.answer-requires-clause-sound
-answer-requires-clause-sound g c κs within_place = c.requires.invariant.3.sound.sound
+-- how many calls were made so far
+counted : (entries : Vec Entry Global) (history : List Entry) (n : ℕ) → history ≡ entries.items → n ≡ vec_len entries → length history ≡ n
+counted entries history n is len = ap length is ∙ omega (arith, entries.ok.0)
 
-stamped : (entries : Vec Entry Global) (history : List Entry) (n : ℕ) → entries.items ≡ history → n ≡ vec_len entries → length history ≡ n
-stamped entries history n is len = ap length (sym is) ∙ omega (arith, entries.ok.0)
+-- the cores of a run that stands
+cores_of : (engine : Engine) (disk : View) → (has : HasInvariant engine disk) → length engine.volume.tree.made ≡ engine.volume.layout.cores
+cores_of engine disk has =
+    let kept = has.1 in
+    ap (λ (t : TreeState). length t.made) has.2.remembers.calls.tree ∙ cores_stay kept.first kept.history ∙ has.2.cores
 
--- the entries with one more
-all_pushed : (history items all : List Entry) (stamp : ℕ) (core : CoreId) (call : Call) (flushed : Flushed) → items ≡ history → length history ≡ stamp → all ≡ items ++ pushed_entry stamp core call flushed ∷ [] → history ++ pushed_entry (length history) core call flushed ∷ [] ≡ all
-all_pushed history items all stamp core call flushed is stamp_is pushed =
-    ap (λ (l : List Entry). l ++ pushed_entry (length history) core call flushed ∷ []) (sym is)
-    ∙ ap (λ n. items ++ pushed_entry n core call flushed ∷ []) stamp_is
-    ∙ sym pushed
+pub answer-requires-clause-standing : goal.answer-requires-clause-standing
+answer-requires-clause-standing g c κs within =
+    let has = c.requires.invariant in
+    record {
+      kept = has.1;
+      remembers = has.2.remembers;
+      counted = counted c.reserve.new.self has.1.history c.len.result (has.2.history ∙ sym c.in_ok-reserve.ensures.items) c.len.ensures;
+    }
+
+pub answer-requires-clause-core : goal.answer-requires-clause-core
+answer-requires-clause-core g c κs within =
+    let core = c.requires.core in
+    let same = cores_of c.args.engine.now (g.D.Disk.view c.args.disk.now) c.requires.invariant in
+    omega (arith, core, same)
+
+pub answer-requires-clause-large : goal.answer-requires-clause-large
+answer-requires-clause-large g c κs within = c.requires.invariant.2.large
 
 pub returns-clause-ok : goal.returns-clause-ok
 returns-clause-ok g c =
     let view = g.D.Disk.view in
     let old = c.args.engine.now in
-    let disk = c.args.disk.now in
     let flushed = c.in_ok-flushed.flushed in
-    let mid : Engine = record old { entries = c.reserve.new.self } in
-    let new = c.answer.new.engine in
-    let kept : new.entries.items ≡ old.entries.items = entries_kept c.args.core c.args.call (c.answer.new.disk ≡ disk) mid new (view disk) (view c.answer.new.disk) flushed old.entries.items c.in_ok-reserve.ensures.items c.in_ok-flushed.ensures.other c.in_ok-flushed.ensures.fsync in
-    let entry = pushed_entry c.len.result c.args.core c.args.call flushed in
+    let stamp : Stamp = record { 0 = c.len.result } in
+    let kept = entries_kept old c.reserve.new.self c.answer.new.engine (view c.args.disk.now) (view c.answer.new.disk) (c.answer.new.disk ≡ c.args.disk.now) stamp c.args.core c.args.call flushed c.in_ok-flushed.ensures.other c.in_ok-flushed.ensures.fsync in
+    let entry = entry_of stamp c.args.core c.args.call flushed.reply flushed.ack in
     record {
       entry = entry;
-      grown = c.push_reserved.ensures.items ∙ ap (λ (l : List Entry). l ++ entry ∷ []) kept;
+      grown = c.push_reserved.ensures.items ∙ ap (λ (v : Vec Entry Global). v.items ++ entry ∷ []) kept ∙ ap (λ (l : List Entry). l ++ entry ∷ []) c.in_ok-reserve.ensures.items;
       core_is = refl;
       call_is = refl;
     }
 
 pub returns-clause-invariant : goal.returns-clause-invariant
-returns-clause-invariant g c start from first so_far =
+returns-clause-invariant g c start kept stands =
     let view = g.D.Disk.view in
     let old = c.args.engine.now in
-    let history = old.entries.items in
     let disk = c.args.disk.now in
-    let disk_after = c.answer.new.disk in
-    let before = view disk in
-    let after = view disk_after in
-    let core = c.args.core in
-    let call = c.args.call in
     let flushed = c.in_ok-flushed.flushed in
-    let mid : Engine = record old { entries = c.reserve.new.self } in
-    let new = c.answer.new.engine in
-    let Same = disk_after ≡ disk in
-    let kept = c.in_ok-reserve.ensures.items in
-    let items = entries_kept core call Same mid new before after flushed history kept c.in_ok-flushed.ensures.other c.in_ok-flushed.ensures.fsync in
-    let all = all_pushed history new.entries.items c.push_reserved.new.self.items c.len.result core call flushed items (stamped new.entries history c.len.result items c.len.ensures) c.push_reserved.ensures.items in
-    subst (λ (l : List Entry). RunInvariant start from first l new.tree new.store after) all
-    (elim (is_fsync call) as (λ b. is_fsync call ≡ b → RunInvariant start from first (history ++ pushed_entry (length history) core call flushed ∷ []) new.tree new.store after) [
-      | true ↦ λ is.
-          flushed_stands start from first old mid new before after so_far core call flushed c.requires.core refl kept refl is c.requires.ready Same (c.in_ok-flushed.ensures.fsync is) c.answer.ensures.advances
-          (λ same. ap (λ d. (view d).faults) same) (λ same current rows reads. subst (λ d. ReadsAs (view d) current rows) (sym same) reads)
-      | false ↦ λ none.
-          called_stands start from first old mid new before after so_far core call flushed c.requires.core refl kept refl none Same (c.in_ok-flushed.ensures.other none)
-          (λ same h t s stands. subst (λ d. RunInvariant start from first h t s (view d)) (sym same) stands)
-    ] refl)
+    let stamp : Stamp = record { 0 = c.len.result } in
+    let reserved = c.reserve.new.self in
+    let Same = c.answer.new.disk ≡ disk in
+    let entry = entry_of stamp c.args.core c.args.call flushed.reply flushed.ack in
+    let same = entries_kept old reserved c.answer.new.engine (view disk) (view c.answer.new.disk) Same stamp c.args.core c.args.call flushed c.in_ok-flushed.ensures.other c.in_ok-flushed.ensures.fsync in
+    call_goes_on old reserved c.answer.new.engine (view disk) (view c.answer.new.disk) Same stamp c.args.core c.args.call flushed c.in_ok-flushed.ensures.other c.in_ok-flushed.ensures.fsync
+    start kept stands
+    (counted reserved kept.history c.len.result (stands.history ∙ sym c.in_ok-reserve.ensures.items) c.len.ensures)
+    c.answer.ensures.advances
+    (λ still P here. subst (λ d. P (view d)) (sym still) here)
+    c.push_reserved.new.self
+    (c.push_reserved.ensures.items ∙ ap (λ (v : Vec Entry Global). v.items ++ entry ∷ []) same ∙ ap (λ (l : List Entry). l ++ entry ∷ []) c.in_ok-reserve.ensures.items)
 
-pub returns-clause-crash_invariant : goal.returns-clause-crash_invariant
-returns-clause-crash_invariant g c start from first so_far counts safe =
+pub returns-in_err-reserve-clause-ends : goal.returns-in_err-reserve-clause-ends
+returns-in_err-reserve-clause-ends g c =
+    let old = c.args.engine.now in
+    on_err c.from_residual.result (ends_here old (record old { entries = c.reserve.new.self }) (g.D.Disk.view c.args.disk.now) c.in_err-reserve.ensures.items)
+
+pub returns-in_err-flushed-clause-ends : goal.returns-in_err-flushed-clause-ends
+returns-in_err-flushed-clause-ends g c =
     let view = g.D.Disk.view in
     let old = c.args.engine.now in
-    let history = old.entries.items in
-    let disk = c.args.disk.now in
-    let disk_after = c.answer.new.disk in
-    let before = view disk in
-    let after = view disk_after in
-    let core = c.args.core in
-    let call = c.args.call in
-    let flushed = c.in_ok-flushed.flushed in
-    let mid : Engine = record old { entries = c.reserve.new.self } in
     let new = c.answer.new.engine in
-    let Same = disk_after ≡ disk in
-    let kept = c.in_ok-reserve.ensures.items in
-    let items = entries_kept core call Same mid new before after flushed history kept c.in_ok-flushed.ensures.other c.in_ok-flushed.ensures.fsync in
-    let all = all_pushed history new.entries.items c.push_reserved.new.self.items c.len.result core call flushed items (stamped new.entries history c.len.result items c.len.ensures) c.push_reserved.ensures.items in
-    subst (λ (l : List Entry). CrashInvariant start from first l new.store after) all
-    (elim (is_fsync call) as (λ b. is_fsync call ≡ b → CrashInvariant start from first (history ++ pushed_entry (length history) core call flushed ∷ []) new.store after) [
-      | true ↦ λ is.
-          flushed_safe start from first old mid new before after so_far core call flushed c.requires.core refl kept refl is c.requires.ready Same (c.in_ok-flushed.ensures.fsync is) c.answer.ensures.advances
-          (λ same. ap (λ d. (view d).faults) same) (λ same current rows reads. subst (λ d. ReadsAs (view d) current rows) (sym same) reads)
-          counts (λ same h s kept. subst (λ d. CrashInvariant start from first h s (view d)) (sym same) kept) safe
-      | false ↦ λ none.
-          called_safe start from first old mid new before after so_far core call flushed c.requires.core refl kept refl none Same (c.in_ok-flushed.ensures.other none)
-          (λ same h s kept. subst (λ d. CrashInvariant start from first h s (view d)) (sym same) kept) safe
-    ] refl)
+    let same = c.in_err-flushed.ensures.err in
+    let ends : EndsRun old new (view c.args.disk.now) (view c.args.disk.now) =
+    ends_here old new (view c.args.disk.now) (ap (λ (v : Vec Entry Global). v.items) same.1 ∙ c.in_ok-reserve.ensures.items) in
+    on_err c.from_residual-in_err-flushed.result (subst (λ d. EndsRun old new (view c.args.disk.now) (view d)) (sym same.0) ends)
+
+pub push_reserved-requires : goal.push_reserved-requires
+push_reserved-requires g c =
+    let view = g.D.Disk.view in
+    let stamp : Stamp = record { 0 = c.len.result } in
+    let room = c.in_ok-reserve.ensures.ok in
+    let long = c.in_ok-reserve.ensures.len in
+    let same = entries_kept c.args.engine.now c.reserve.new.self c.answer.new.engine (view c.args.disk.now) (view c.answer.new.disk) (c.answer.new.disk ≡ c.args.disk.now) stamp c.args.core c.args.call c.in_ok-flushed.flushed c.in_ok-flushed.ensures.other c.in_ok-flushed.ensures.fsync in
+    subst (λ (v : Vec Entry Global). vec_len v < vec_capacity v) (sym same) (omega (arith, room, long))

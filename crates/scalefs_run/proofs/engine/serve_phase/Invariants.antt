@@ -1,16 +1,13 @@
-use Rattle.std.proofs.Common.{◌≤◌}
+use Rattle.std.proofs.Common.{◌≡◌}
 use Rattle.sfs_dev.specs.Run.{Advances}
 use Rattle.scalefs_run.specs.Made.{Grown, UpTo}
-use Rattle.scalefs_run.specs.Safe.{KeepsCrashInvariant}
-use Rattle.scalefs_run.specs.RunInvariant.{HasInvariant, KeepsInvariant}
+use Rattle.scalefs_run.specs.RunInvariant.{KeepsInvariant}
 use Rattle.scalefs_run.proofs.engine.serve_phase.Given as goal
 
 abbrev pub invariant-loop-core : goal.invariant-loop-core
 invariant-loop-core g l = let view = g.D.Disk.view in record {
-  large : 4 ≤ (view l.disk).size;
-  somehow : HasInvariant l.engine (view l.disk);
-  still : KeepsInvariant l.fn.engine l.engine (view l.fn.disk) (view l.disk);
-  crash_invariant : KeepsCrashInvariant l.fn.engine l.engine (view l.fn.disk) (view l.disk);
+  keeps : KeepsInvariant l.fn.engine l.engine (view l.fn.disk) (view l.disk);
   made : Grown l.fn.engine.entries.items l.engine.entries.items (UpTo l.core l.phase);
+  still : l.engine.entries.items ≡ l.fn.engine.entries.items → l.disk ≡ l.fn.disk;
   advances : Advances (view l.fn.disk) (view l.disk);
 }

@@ -1,5 +1,6 @@
 -- A worker's calls, one by one.
-use Rattle.std.proofs.Common.{Vec, Global, vec_len, get_or, ◌≡◌, ℕ, ◌<◌, List, Some, length, sym, ap, subst, ◌∙◌, arith}
+use Rattle.std.proofs.Common.{Vec, Global, vec_len, get_or, ◌≡◌, ℕ, ◌<◌, List, Some, length, refl, sym, ap, subst, ◌∙◌, arith}
+use Rattle.sfs_base.proofs.BasicOptions.{on_err}
 use Rattle.sfs_dev.proofs.Runs.{GoesOn-refl, GoesOn-trans}
 use Rattle.sfs_base.specs.declared.numbers.CoreId.{CoreId}
 use Rattle.sfs_tree.specs.declared.call.Call.{Call}
@@ -11,7 +12,9 @@ use Rattle.script.specs.Ready.{PositionReady}
 use Rattle.script.proofs.ReadyLemmas.{started_ready, taken_ready}
 use Rattle.script.proofs.EndLemmas.{calls_left-falls}
 use Rattle.scalefs_run.specs.Made.{Grown, AtWork}
+use Rattle.scalefs_run.proofs.Ended.{keeps_none, keeps_both, ends_after, keeps_end, invariant_on, cores_kept}
 use Rattle.scalefs_run.proofs.Making.{at_first, at_next, pushed_at}
+use Rattle.scalefs_run.proofs.Still.{not_none}
 use Rattle.scalefs_run.proofs.engine.serve_worker.Goals as goal
 
 pub loop-call-init : goal.loop-call-init
@@ -19,22 +22,36 @@ loop-call-init g c =
     let history = c.args.engine.now.entries.items in
     let worker_is : c.new-worker.result ≡ started (commands_of c.args.core c.args.phase.now) = c.new-worker.ensures ∙ ap (λ n. started (commands_of n c.args.phase.now)) c.from.ensures in
     record {
-      large = c.requires.large;
-      somehow = c.requires.invariant;
-      still = λ start from first stands. stands;
-      crash_invariant = λ start from first stands counts safe. safe;
+      keeps = keeps_none c.args.engine.now (g.D.Disk.view c.args.disk.now);
       made = subst (λ (w : Position). Grown history history (AtWork c.args.core c.args.phase.now w)) (sym worker_is) (at_first c.args.core c.args.phase.now history);
       ready = subst (λ (w : Position). PositionReady w) (sym worker_is) (started_ready c.args.core c.args.phase.now c.requires.ready);
+      still = λ same. refl;
       advances = GoesOn-refl _;
     }
 
-pub returns-in_err-serve_call-clause-invariant : goal.returns-in_err-serve_call-clause-invariant
-returns-in_err-serve_call-clause-invariant g c start from first h = c.in_err-serve_call.ensures.invariant start from first (c.loop-call.invariant.still start from first h)
+pub serve_call-requires-clause-invariant : goal.serve_call-requires-clause-invariant
+serve_call-requires-clause-invariant g c κs within =
+    let view = g.D.Disk.view in
+    invariant_on c.args.engine.now c.loop-call.engine (view c.args.disk.now) (view c.loop-call.disk) c.loop-call.invariant.keeps c.requires.invariant
 
-pub returns-in_err-serve_call-clause-crash_invariant : goal.returns-in_err-serve_call-clause-crash_invariant
-returns-in_err-serve_call-clause-crash_invariant g c start from first h counts safe =
-    let invariant = c.loop-call.invariant in
-    c.in_err-serve_call.ensures.crash_invariant start from first (invariant.still start from first h) counts (invariant.crash_invariant start from first h (let later = c.in_err-serve_call.ensures.advances.later in omega arith) safe)
+pub serve_call-requires-clause-core : goal.serve_call-requires-clause-core
+serve_call-requires-clause-core g c κs within =
+    let view = g.D.Disk.view in
+    let same = cores_kept c.args.engine.now c.loop-call.engine (view c.args.disk.now) (view c.loop-call.disk) c.loop-call.invariant.keeps c.requires.invariant in
+    let core = c.requires.core in
+    omega (arith, same, core)
+
+pub returns-in_err-serve_call-clause-ends : goal.returns-in_err-serve_call-clause-ends
+returns-in_err-serve_call-clause-ends g c =
+    let view = g.D.Disk.view in
+    on_err c.from_residual-in_err-serve_call.result
+    (ends_after c.args.engine.now c.loop-call.engine c.serve_call.new.engine (view c.args.disk.now) (view c.loop-call.disk) (view c.serve_call.new.disk)
+    c.serve_call.ensures.advances c.loop-call.invariant.keeps c.in_err-serve_call.ensures.ends)
+
+pub returns-in_err-call-clause-ends : goal.returns-in_err-call-clause-ends
+returns-in_err-call-clause-ends g c =
+    let view = g.D.Disk.view in
+    on_err c.from_residual.result (keeps_end c.args.engine.now c.loop-call.engine (view c.args.disk.now) (view c.loop-call.disk) c.loop-call.invariant.keeps)
 
 -- where the entry of the call stands
 placed : (entries : Vec Entry Global) (place : ℕ) → place ≡ vec_len entries → length entries.items ≡ place
@@ -53,7 +70,6 @@ pub loop-call-preserved : goal.loop-call-preserved
 loop-call-preserved g c =
     let invariant = c.loop-call.invariant in
     let served = c.in_ok-serve_call.ensures in
-    let somehow = invariant.somehow in
     let old = c.loop-call.engine.entries in
     let new = c.serve_call.new.engine.entries.items in
     let core : CoreId = record { 0 = c.args.core } in
@@ -62,12 +78,11 @@ loop-call-preserved g c =
     let found = c.index.result.now in
     let reply_is = reply_at core call old.items new c.len-place.result found served.ok (placed old c.len-place.result c.len-place.ensures) c.index.ensures in
     let stands_at = at_next core c.args.phase.now c.loop-call.worker call c.args.engine.now.entries.items old.items new found.reply invariant.made next served.ok reply_is in
+    let view = g.D.Disk.view in
     record {
-      large = let same = served.advances.size in let large = invariant.large in omega arith;
-      somehow = (somehow.0, somehow.1, somehow.2, served.invariant somehow.0 somehow.1 somehow.2 somehow.3);
-      still = λ start from first h. served.invariant start from first (invariant.still start from first h);
-      crash_invariant = λ start from first h counts safe. served.crash_invariant start from first (invariant.still start from first h) counts (invariant.crash_invariant start from first h (let later = served.advances.later in omega arith) safe);
+      keeps = keeps_both c.args.engine.now c.loop-call.engine c.serve_call.new.engine (view c.args.disk.now) (view c.loop-call.disk) (view c.serve_call.new.disk) served.advances invariant.keeps served.invariant;
       made = subst (λ (w : Position). Grown c.args.engine.now.entries.items new (AtWork c.args.core c.args.phase.now w)) (sym c.take.ensures) stands_at;
       ready = subst (λ (w : Position). PositionReady w) (sym c.take.ensures) (taken_ready c.loop-call.worker found.reply invariant.ready);
+      still = λ same. absurd (not_none core call (AtWork c.args.core c.args.phase.now c.loop-call.worker) c.args.engine.now.entries.items old.items new invariant.made served.ok same);
       advances = GoesOn-trans _ _ _ invariant.advances served.advances;
     }

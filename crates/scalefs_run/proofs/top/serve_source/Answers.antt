@@ -2,10 +2,8 @@
 use Rattle.std.proofs.Common.{List, sym, subst}
 use Rattle.sfs_base.specs.Ends.{HasRisen}
 use Rattle.sfs_tree.specs.declared.history.Entry.{Entry}
-use Rattle.scalefs_run.specs.Crash.{Survives}
 use Rattle.scalefs_run.specs.Served.{ServedScript}
 use Rattle.scalefs_run.proofs.Serving.{served_unread, served_read}
-use Rattle.scalefs_run.proofs.Survived.{survives_untouched}
 use Rattle.scalefs_run.proofs.top.serve_source.Goals as goal
 
 pub returns-in-Err-clause-served : goal.returns-in-Err-clause-served
@@ -16,13 +14,8 @@ returns-in-Err-clause-served g c =
     let written = g.K.Sink.written c.args.sink.now in
     let disk = g.D.Disk.view c.args.disk.now in
     let found = c.in-Err.ensures.err in
-    subst (λ (h : List Entry). ServedScript c.args.share left Read Wrote written written disk disk c.in-Err.status h) (sym c.new.ensures)
-    (served_unread c.args.share left found.0 Read Wrote written disk c.in-Err.status found.1 found.2)
-
-pub returns-in-Err-clause-survives : goal.returns-in-Err-clause-survives
-returns-in-Err-clause-survives g c =
-    let disk = g.D.Disk.view c.args.disk.now in
-    subst (λ (h : List Entry). Survives c.args.share disk disk h) (sym c.new.ensures) (survives_untouched c.args.share disk)
+    subst (λ (h : List Entry). ServedScript c.args.nodes left Read Wrote written written disk disk c.in-Err.status h) (sym c.new.ensures)
+    (served_unread c.args.nodes left found.0 Read Wrote written disk c.in-Err.status found.1 found.2)
 
 pub returns-in-Ok-clause-served : goal.returns-in-Ok-clause-served
 returns-in-Ok-clause-served g c =
@@ -30,5 +23,5 @@ returns-in-Ok-clause-served g c =
     let Read = HasRisen (g.S.Source.faults c.args.source.now) (g.S.Source.faults c.read_script.new.source) in
     let Wrote = HasRisen (g.K.Sink.faults c.args.sink.now) (g.K.Sink.faults c.serve_script.new.sink) in
     let found = c.in-Ok.ensures.ok in
-    served_read c.args.share left found.0 c.in-Ok.script Read Wrote (g.K.Sink.written c.args.sink.now) (g.K.Sink.written c.serve_script.new.sink) (g.D.Disk.view c.args.disk.now) (g.D.Disk.view c.serve_script.new.disk)
+    served_read c.args.nodes left found.0 c.in-Ok.script Read Wrote (g.K.Sink.written c.args.sink.now) (g.K.Sink.written c.serve_script.new.sink) (g.D.Disk.view c.args.disk.now) (g.D.Disk.view c.serve_script.new.disk)
     c.serve_script.result.0 c.serve_script.result.1 found.1 found.2 found.3 c.serve_script.ensures.served

@@ -4,4 +4,4 @@ use Rattle.scalefs_run.proofs.without_core.first_worker_without_core.Given as go
 
 -- what lies before has a core for each worker
 abbrev pub invariant-loop-phase : goal.invariant-loop-phase
-invariant-loop-phase l = worker_without_core 2 l.phases ≡ worker_without_core 2 (drop l.phase-index l.phases)
+invariant-loop-phase l = worker_without_core l.cores l.phases ≡ worker_without_core l.cores (drop l.phase-index l.phases)

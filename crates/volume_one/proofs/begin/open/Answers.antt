@@ -64,6 +64,7 @@ returns-clause-begins g c =
       space = refl;
       working = refl;
     })
+    c.requires.most
 
 pub returns-clause-ok : goal.returns-clause-ok
 returns-clause-ok g c image told = let own = c.in_ok-layout.ensures.ok image told in record { layout_is = own.layout_is; tree = own.tree }

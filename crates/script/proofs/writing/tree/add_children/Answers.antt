@@ -1,5 +1,5 @@
 -- The children are put from the last one on, so what is to be met begins with the first.
-use Rattle.std.proofs.Common.{◌≡◌, ◌-◌, ◌<◌, ◌≤◌, ◌++◌, ℕ, suc, length, arith, refl, sym, ap, subst, ◌∙◌, List, codes}
+use Rattle.std.proofs.Common.{◌≡◌, ◌-◌, ◌<◌, ◌≤◌, ◌++◌, ℕ, length, arith, refl, sym, ap, subst, ◌∙◌, List, codes}
 use Rattle.std.proofs.lemmas.Option.{slice_get_cases}
 use Rattle.std.proofs.Common.{slice_get, inl, inr}
 use Rattle.sfs_base.proofs.BasicOptions.{some_not_none}

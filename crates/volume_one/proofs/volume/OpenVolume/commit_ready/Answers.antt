@@ -2,7 +2,8 @@ use Rattle.std.proofs.Common.{◌≡◌, Option, Some, refl, sym, subst}
 use Rattle.std.specs.Prelude.{Ok, Err}
 use Rattle.journal_one.specs.Packed.{Contents}
 use Rattle.volume_one.specs.Carry.{CarriesPacked}
-use Rattle.volume_one.specs.Ends.{ReadyEnds, carried, doubted}
+use Rattle.volume_one.specs.Ends.{ReadyEnds, carried, doubted, acknowledged}
+use Rattle.volume_one.specs.declared.deed.Deed.{Deed}
 use Rattle.volume_one.specs.declared.flushed.Flushed.{Flushed}
 use Rattle.volume_one.specs.declared.volume.OpenVolume.{OpenVolume}
 use Rattle.volume_one.proofs.volume.OpenVolume.commit_ready.Goals as goal
@@ -13,7 +14,9 @@ returns-in-Ok-clause-ends g c =
     let before = g.D.Disk.view c.args.disk.now in
     let after = g.D.Disk.view c.carry.new.disk in
     let done = c.finish.ensures in
-    carried c.in-Ok.moment
+    subst (λ (deed : Deed). ReadyEnds (c.carry.new.disk ≡ c.args.disk.now) c.args.stamp c.args.ready c.args.grant before after volume c.finish.new.self (acknowledged c.in-Ok.moment deed))
+    (sym c.once_durable-deed.ensures)
+    (carried c.in-Ok.moment
     (subst (λ (o : Option Contents). CarriesPacked (c.carry.new.disk ≡ c.args.disk.now) volume.layout volume.commits o before after (Ok c.in-Ok.moment)) c.take.ensures.value c.in-Ok.ensures.carried)
     (record {
       space_inodes = done.space_inodes;
@@ -24,7 +27,7 @@ returns-in-Ok-clause-ends g c =
       births = done.births;
       logs = done.logs;
       others = done.others;
-    })
+    }))
 
 pub returns-in-Err-clause-ends : goal.returns-in-Err-clause-ends
 returns-in-Err-clause-ends g c =

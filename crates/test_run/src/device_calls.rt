@@ -1,0 +1,184 @@
+// How many device calls a run makes besides those of its mount. A commit that writes b blocks and r inode records makes b + r + 9:
+// besides these the numbers, the records and the head of its journal slot, a sync, the gate, a sync, and after the records in
+// the table a sync, the gate, a sync. An fsync with nothing to write makes none.
+use crate::bench::{SMALL, assert_text, copy_of, image, run_script};
+use scalefs_run::Status;
+use sfs_dev::{Act, Disk, Memory};
+use sfs_tree::History;
+use std::alloc::Global;
+use std::process::Abort;
+use std::sync::Wait;
+use std::test::Fail;
+use std::thread::Threads;
+
+// Scripts with the calls of each of their commits, on the image with few inodes.
+static FIRST_RUNS: [(&str, &[u64]); 11] = [
+    ("", &[]),
+    ("0 mkdir /a\n", &[]),
+    ("0 fsync /\n", &[]),
+    // The root's block; the records of the root and of the new node.
+    ("0 create /a\n0 fsync /\n", &[12]),
+    ("0 mkdir /a\n0 fsync /\n0 fsync /\n0 fsync /a\n", &[12]),
+    // Besides, a block of the file; then that block and its record alone.
+    ("0 create /f\n0 write /f 0 61\n0 fsync /f\n", &[13]),
+    (
+        "0 create /f\n0 write /f 0 61\n0 fsync /f\n0 fsync /\n0 write /f 0 62\n0 fsync /f\n",
+        &[13, 11],
+    ),
+    // A file that was made and removed in between.
+    (
+        "0 mkdir /d\n0 fsync /\n0 create /d/a\n0 unlink /d/a\n0 fsync /d\n",
+        &[12],
+    ),
+    // The bytes are there, and the name comes: two directories, and the file's links.
+    (
+        "0 mkdir /p\n0 create /p/f\n0 fsync /p\n0 link /p/f /g\n0 fsync /\n",
+        // both blocks; root, p and f
+        &[14, 12],
+    ),
+    // The last row goes: no block, and the records of the directory and of the file.
+    (
+        "0 mkdir /p\n0 create /p/f\n0 fsync /p\n0 unlink /p/f\n0 fsync /p\n",
+        &[14, 11],
+    ),
+    // A longer file of zeros: its record.
+    (
+        "0 create /f\n0 fsync /f\n0 trunc /f 100000\n0 fsync /f\n",
+        &[12, 10],
+    ),
+];
+
+// The number of device calls at each acknowledgement.
+fn acknowledged(alloc: Global, history: &History) -> Result<Vec<u64>, Fail> {
+    let mut moments = Vec::new(alloc);
+    let mut cursor = history.first();
+    for _ in 0..history.len() {
+        if let Some(entry) = history.next(&mut cursor)
+            && let Some(moment) = entry.ack
+        {
+            moments.push(moment)?;
+        }
+    }
+    Ok(moments)
+}
+
+// The device calls of each commit: those up to its fourth sync, from the end of the one before it on.
+fn calls_of_commits(alloc: Global, disk: &Memory, mount: u64) -> Result<Vec<u64>, Fail> {
+    let mut counts = Vec::new(alloc);
+    let mut before = mount;
+    let mut syncs = 0u32;
+    for call in disk.calls() {
+        if call.act == Act::Sync {
+            syncs = syncs.saturating_add(1);
+            if syncs % 4 == 0 {
+                counts.push(call.moment.saturating_sub(before))?;
+                before = call.moment;
+            }
+        }
+    }
+    assert_at_end(before, disk)?;
+    Ok(counts)
+}
+
+// Nothing comes behind the last commit.
+fn assert_at_end(moment: u64, disk: &Memory) -> Result<(), Fail> {
+    if moment == disk.now() {
+        Ok(())
+    } else {
+        Err("calls behind the last commit".into())
+    }
+}
+
+// Asserts the calls of each of these.
+fn assert_runs<R: Threads + Wait + Sync + Abort>(
+    rt: &R,
+    alloc: Global,
+    cases: &[(&str, &[u64])],
+) -> Result<(), Fail> {
+    let image = image(rt, alloc, SMALL)?;
+    let mount = run_script(rt, alloc, b"".as_slice(), copy_of(alloc, &image)?)?
+        .disk
+        .now();
+    for (script, due) in cases {
+        let ran = run_script(rt, alloc, script.as_bytes(), copy_of(alloc, &image)?)?;
+        assert_eq!(rt; ran.status, Status::Done, "{script}");
+        let counts = calls_of_commits(alloc, &ran.disk, mount)?;
+        assert_eq!(rt; counts.as_slice(), *due, "{script}");
+    }
+    Ok(())
+}
+
+#[test]
+fn a_commit_makes_nine_calls_besides_its_blocks_and_records(rt: HostRuntime) -> Result<(), Fail> {
+    assert_runs(&rt, rt.alloc(), &FIRST_RUNS)
+}
+
+// A disk with this tree: a directory `a` and a file `f` of one byte.
+fn flushed<R: Threads + Wait + Sync + Abort>(rt: &R, alloc: Global) -> Result<Memory, Fail> {
+    let script = "0 mkdir /a\n0 create /f\n0 write /f 0 61\n0 fsync /f\n";
+    let text =
+        "0 0 mkdir 0 a = node 64 dir\n1 0 create 0 f = node 65 file\n2 0 look 0 f = node 65 file\n3 0 write 65 0 61 = ok\n4 0 look 0 f = node 65 file\n5 0 fsync 65 = ok\n";
+    let disk = assert_text(rt, alloc, script, image(rt, alloc, SMALL)?, text)?;
+    copy_of(alloc, &disk)
+}
+
+// Scripts on that disk with the calls of each of their commits.
+static SECOND_RUNS: [(&str, &[u64]); 5] = [
+    ("0 fsync /\n0 fsync /a\n0 fsync /f\n", &[]),
+    // What went and came back.
+    (
+        "0 rename /f /g\n0 rename /a /f\n0 rename /f /a\n0 rename /g /f\n0 fsync /\n",
+        &[],
+    ),
+    // Another name: the root's block and record.
+    ("0 rename /f /g\n0 fsync /\n", &[11]),
+    // Another directory of the same name: a block, the root, the new one, and the old one.
+    ("0 rmdir /a\n0 mkdir /a\n0 fsync /\n", &[13]),
+    // The same bytes once more: they were touched.
+    ("0 write /f 0 61\n0 fsync /f\n", &[11]),
+];
+
+#[test]
+fn a_second_run_writes_what_is_not_there_yet(rt: HostRuntime) -> Result<(), Fail> {
+    let alloc = rt.alloc();
+    let disk = flushed(&rt, alloc)?;
+    let mount = run_script(&rt, alloc, b"".as_slice(), copy_of(alloc, &disk)?)?
+        .disk
+        .now();
+    assert_again(&rt, alloc, &disk, mount, &SECOND_RUNS)
+}
+
+fn assert_again<R: Threads + Wait + Sync + Abort>(
+    rt: &R,
+    alloc: Global,
+    disk: &Memory,
+    mount: u64,
+    cases: &[(&str, &[u64])],
+) -> Result<(), Fail> {
+    for (script, due) in cases {
+        let ran = run_script(rt, alloc, script.as_bytes(), copy_of(alloc, disk)?)?;
+        let counts = calls_of_commits(alloc, &ran.disk, mount)?;
+        assert_eq!(rt; counts.as_slice(), *due, "{script}");
+    }
+    Ok(())
+}
+
+#[test]
+fn an_fsync_is_acknowledged_at_the_sync_behind_its_gate(rt: HostRuntime) -> Result<(), Fail> {
+    let alloc = rt.alloc();
+    let image = image(&rt, alloc, SMALL)?;
+    let mount = run_script(&rt, alloc, b"".as_slice(), copy_of(alloc, &image)?)?
+        .disk
+        .now();
+    let script =
+        b"0 fsync /\n0 mkdir /a\n0 fsync /\n0 fsync /\n0 mkdir /b\n0 fsync /b\n".as_slice();
+    let ran = run_script(&rt, alloc, script, image)?;
+    // A block, three writes of the slot, a sync, the gate and a sync; or at once.
+    let due = [0, 7, 12, 19].map(|calls: u64| calls.saturating_add(mount));
+    assert_eq!(rt;
+        acknowledged(alloc, &ran.history)?.as_slice(),
+        due.as_slice()
+    );
+    assert_eq!(rt; ran.disk.now(), mount.saturating_add(24));
+    Ok(())
+}
