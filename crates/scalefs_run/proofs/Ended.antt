@@ -10,20 +10,26 @@ use Rattle.sfs_dev.specs.Run.{Advances}
 use Rattle.crash_laws.proofs.Ends.{images_survive, runs_read_back}
 use Rattle.volume_laws.specs.Volume.{Volume}
 use Rattle.scalefs_run.specs.Images.{SurvivesRun}
-use Rattle.scalefs_run.specs.Replies.{HasAnswers}
+use Rattle.scalefs_run.specs.Replies.{HasAnswers, HasAnswersSoFar}
+use Rattle.sfs_tree.specs.declared.turns.Turn.{Turn}
+use Rattle.commit_turns.specs.Need.{ImageState}
+use Rattle.commit_turns.specs.Recorded.{IsRecorded}
+use Rattle.commit_turns.proofs.Failed.{standing_are_recorded, failed_are_recorded}
+use Rattle.turn_ties.specs.Plans.{rest_of}
+use Rattle.scalefs_run.specs.Turns.{TurnsSoFar}
 use Rattle.scalefs_run.specs.RunInvariant.{RunStands, IsSafe, StandsNow, IsSafeEnd, StandsAtEnd, HasInvariant, KeepsInvariant, HasEnded, EndsRun}
 use Rattle.scalefs_run.specs.declared.engine.Engine.{Engine}
 use Rattle.scalefs_run.proofs.Pushed.{answers_at_end}
 
 -- nothing was done
 pub keeps_none : (engine : Engine) (disk : View) → KeepsInvariant engine engine disk disk
-keeps_none engine disk start kept stands = record { later = kept; first = refl; stands = stands; safe = λ share from counts safe. safe }
+keeps_none engine disk start image kept stands = record { later = kept; first = refl; stands = stands; safe = λ share from counts safe. safe }
 
 -- one thing was done, and then another
 pub keeps_both : (old mid new : Engine) (before between after : View) → Advances between after → KeepsInvariant old mid before between → KeepsInvariant mid new between after → KeepsInvariant old new before after
-keeps_both old mid new before between after goes one other start kept stands =
-    let first = one start kept stands in
-    let second = other start first.later first.stands in
+keeps_both old mid new before between after goes one other start image kept stands =
+    let first = one start image kept stands in
+    let second = other start image first.later first.stands in
     record {
       later = second.later;
       first = second.first ∙ first.first;
@@ -33,13 +39,14 @@ keeps_both old mid new before between after goes one other start kept stands =
 
 -- something was done, and then it ended
 pub ends_after : (old mid new : Engine) (before between after : View) → Advances between after → KeepsInvariant old mid before between → EndsRun mid new between after → EndsRun old new before after
-ends_after old mid new before between after goes one ends start kept stands =
-    let first = one start kept stands in
-    let ended = ends start first.later first.stands in
+ends_after old mid new before between after goes one ends start image kept stands =
+    let first = one start image kept stands in
+    let ended = ends start image first.later first.stands in
     let tree = first.first in
     record {
       legal = subst (λ (t : TreeState). IsLegal t new.entries.items) tree ended.legal;
       answers = subst (λ (t : TreeState). HasAnswers start after.faults t new.entries.items) tree ended.answers;
+      recorded = subst (λ (t : TreeState). IsRecorded t new.entries.items image start after.faults new.turns.items) tree ended.recorded;
       safe = λ share from counts safe.
           subst (λ (t : TreeState). IsSafeEnd share from t new.entries.items after) tree
           (ended.safe share from counts (first.safe share from (let later = goes.later in omega arith) safe));
@@ -47,13 +54,13 @@ ends_after old mid new before between after goes one ends start kept stands =
 
 -- it still stands somehow
 pub invariant_on : (old new : Engine) (before after : View) → KeepsInvariant old new before after → HasInvariant old before → HasInvariant new after
-invariant_on old new before after keeps has = let gone = keeps has.0 has.1 has.2 in (has.0, gone.later, gone.stands)
+invariant_on old new before after keeps has = let gone = keeps has.0 has.1 has.2 has.3 in (has.0, has.1, gone.later, gone.stands)
 
 -- a layout stays
 pub cores_kept : (old new : Engine) (before after : View) → KeepsInvariant old new before after → HasInvariant old before → new.volume.layout.cores ≡ old.volume.layout.cores
 cores_kept old new before after keeps has =
-    let gone = keeps has.0 has.1 has.2 in
-    sym gone.stands.cores ∙ ap (λ (t : TreeState). length t.made) gone.first ∙ has.2.cores
+    let gone = keeps has.0 has.1 has.2 has.3 in
+    sym gone.stands.cores ∙ ap (λ (t : TreeState). length t.made) gone.first ∙ has.3.cores
 
 -- the safe end of what is safe
 safe_end : (share from : ℕ) (kept : Volume) (failed : Option ℕ) (disk : View) → IsSafe share from kept failed disk → IsSafeEnd share from kept.first kept.history disk
@@ -67,31 +74,43 @@ safe_end share from kept failed disk safe = by failed safe.now
     }
     by (Some faults) now = record { so_far = now.0; ends = inr now.1; acks = safe.acks }
 
+-- its turns are recorded then
+recorded_at_end : (start : ℕ) (image : ImageState) (kept : Volume) (faults : ℕ) (turns : List Turn) (failed : Option ℕ) → HasAnswersSoFar start faults kept.first kept.history failed → TurnsSoFar start image kept faults turns failed → IsRecorded kept.first kept.history image start faults turns
+recorded_at_end start image kept faults turns None answers so_far =
+    standing_are_recorded kept.first kept.history image start faults faults turns (rest_of kept so_far.used) answers.later so_far.stand
+recorded_at_end start image kept faults turns (Some count) answers so_far =
+    failed_are_recorded kept.first kept.history image start so_far.before count faults turns so_far.since (let at = answers.kept in omega (arith, at)) so_far.fail
+
 -- a run that stands may end, when its disk has stayed
-stands_end : (start : ℕ) (kept : Volume) (engine : Engine) (disk : View) → RunStands start kept engine disk → HasEnded start kept engine.volume.failed engine.entries.items disk disk
-stands_end start kept engine disk stands = record {
+stands_end : (start : ℕ) (image : ImageState) (kept : Volume) (engine : Engine) (disk : View) → RunStands start image kept engine disk → HasEnded start image kept engine.volume.failed engine.entries.items engine.turns.items disk disk
+stands_end start image kept engine disk stands = record {
   legal = subst (IsLegal kept.first) stands.history stands.remembers.stands.between.history_is.legal;
   answers =
       subst (HasAnswers start disk.faults kept.first) stands.history
       (answers_at_end start disk.faults kept.first kept.history engine.volume.failed stands.answers);
+  recorded =
+      subst (λ (h : List Entry). IsRecorded kept.first h image start disk.faults engine.turns.items) stands.history
+      (recorded_at_end start image kept disk.faults engine.turns.items engine.volume.failed stands.answers stands.turns);
   safe = λ share from counts safe.
       subst (λ (h : List Entry). IsSafeEnd share from kept.first h disk) stands.history (safe_end share from kept engine.volume.failed disk safe);
 }
 
 -- a run that ends as it stands
-pub ends_here : (old new : Engine) (disk : View) → new.entries.items ≡ old.entries.items → EndsRun old new disk disk
-ends_here old new disk same start kept stands =
-    subst (λ (h : List Entry). HasEnded start kept old.volume.failed h disk disk) (sym same) (stands_end start kept old disk stands)
+pub ends_here : (old new : Engine) (disk : View) → new.entries.items ≡ old.entries.items → new.turns.items ≡ old.turns.items → EndsRun old new disk disk
+ends_here old new disk same turns start image kept stands =
+    subst (λ (h : List Entry). HasEnded start image kept old.volume.failed h new.turns.items disk disk) (sym same)
+    (subst (λ (l : List Turn). HasEnded start image kept old.volume.failed old.entries.items l disk disk) (sym turns) (stands_end start image kept old disk stands))
 
 -- a run that has gone on ends as it then stands
 pub keeps_end : (old new : Engine) (before after : View) → KeepsInvariant old new before after → EndsRun old new before after
-keeps_end old new before after keeps start kept stands =
-    let gone = keeps start kept stands in
-    let ended = stands_end start gone.later new after gone.stands in
+keeps_end old new before after keeps start image kept stands =
+    let gone = keeps start image kept stands in
+    let ended = stands_end start image gone.later new after gone.stands in
     let tree = gone.first in
     record {
       legal = subst (λ (t : TreeState). IsLegal t new.entries.items) tree ended.legal;
       answers = subst (λ (t : TreeState). HasAnswers start after.faults t new.entries.items) tree ended.answers;
+      recorded = subst (λ (t : TreeState). IsRecorded t new.entries.items image start after.faults new.turns.items) tree ended.recorded;
       safe = λ share from counts safe.
           subst (λ (t : TreeState). IsSafeEnd share from t new.entries.items after) tree (ended.safe share from counts (gone.safe share from counts safe));
     }

@@ -8,4 +8,5 @@ pub mod Pushed
 pub mod Serving
 pub mod Steps
 pub mod Still
+pub mod Turning
 pub mod Within

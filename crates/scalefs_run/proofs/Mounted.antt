@@ -1,5 +1,5 @@
 -- A run that begins, and one that was refused before its first call.
-use Rattle.std.proofs.Common.{◌≡◌, ℕ, Bool, List, [], Option, Some, IfSome, is_some, sym, ap, subst, ◌∙◌, arith}
+use Rattle.std.proofs.Common.{◌≡◌, ℕ, Bool, List, [], Option, Some, IfSome, is_some, refl, sym, ap, subst, ◌∙◌, arith}
 use Rattle.std.specs.FinMap.{get, empty}
 use Rattle.sfs_base.specs.Ends.{HasRisen}
 use Rattle.sfs_tree.specs.declared.history.Entry.{Entry}
@@ -20,9 +20,18 @@ use Rattle.scalefs_run.specs.Begun.{RunBegins}
 use Rattle.scalefs_run.specs.Replies.{HasAnswersSoFar}
 use Rattle.scalefs_run.specs.RunInvariant.{RunStands, IsSafe, StandsNow}
 use Rattle.scalefs_run.specs.Acks.{AcksRise}
+use Rattle.sfs_tree.specs.declared.turns.Turn.{Turn}
+use Rattle.image_tree.specs.Image.{inodes_shown}
+use Rattle.image_tree.specs.Stands.{StandsForTree}
+use Rattle.flush_core.specs.Cut.{tree_at_cut}
+use Rattle.commit_turns.specs.Need.{ImageState}
+use Rattle.commit_turns.specs.OneThread.{TurnsStand}
+use Rattle.commit_turns.proofs.Standing.{turns_begin}
+use Rattle.turn_ties.specs.Plans.{image_held, rest_of}
+use Rattle.scalefs_run.specs.Turns.{TurnsSoFar, HaveTurns, IsImageAtFirst}
 use Rattle.scalefs_run.specs.declared.engine.Engine.{Engine}
 
-module _ (nodes : ℕ) (engine : Engine) (before after : View) (begins : Begins nodes before after engine.volume) (none : engine.entries.items ≡ [])
+module _ (nodes : ℕ) (engine : Engine) (before after : View) (begins : Begins nodes before after engine.volume) (none : engine.entries.items ≡ []) (no_turn : engine.turns.items ≡ [])
     (goes : Advances before after) (faults : after.faults ≡ before.faults) where
   abbrev kept : Volume
   kept = begins.kept
@@ -41,13 +50,47 @@ module _ (nodes : ℕ) (engine : Engine) (before after : View) (begins : Begins 
         later = omega (arith, faults);
       })
 
-  stands : RunStands before.faults kept engine after
+  -- what its image has to tell
+  abbrev told_at_first : ImageState
+  told_at_first = image_held kept
+
+  first_turns : HaveTurns told_at_first kept after.faults []
+  first_turns = record { used = []; below = λ commit never. absurd never; stand = stand }
+    where
+      stand : TurnsStand kept.first kept.history told_at_first after.faults [] (rest_of kept [])
+      stand =
+          let new = begins.is_new in
+          let inodes : ℕ → Bool = λ node. is_some (get kept.first.nodes node) in
+          subst (λ (i : ℕ → Bool). TurnsStand kept.first kept.history told_at_first after.faults [] (record { cut = kept.cut; inodes = i; used = []; image = told_at_first })) (sym new.all_have_inodes)
+          (subst (λ (c : Cut). TurnsStand kept.first kept.history told_at_first after.faults [] (record { cut = c; inodes = inodes; used = []; image = told_at_first })) (sym new.no_cut)
+          (subst (λ (h : List Entry). TurnsStand kept.first h told_at_first after.faults [] (record { cut = empty; inodes = inodes; used = []; image = told_at_first })) (sym new.no_call)
+          (turns_begin kept.first told_at_first after.faults begins.sound)))
+
+  image_at_first : IsImageAtFirst before after kept.first told_at_first
+  image_at_first = record {
+    num = kept.num;
+    layout = kept.layout;
+    parts = kept.parts;
+    is = refl;
+    stands =
+        subst (λ (h : List Entry). StandsForTree kept.num (tree_at_cut kept.first h empty) (inodes_shown kept.layout kept.parts)) begins.is_new.no_call
+        (subst (λ (c : Cut). StandsForTree kept.num (tree_at_cut kept.first kept.history c) (inodes_shown kept.layout kept.parts)) begins.is_new.no_cut begins.remembers.stands.between.stands);
+    told = λ content told calm counts.
+        let held = ((begins.told content told).holds calm counts).holds in
+        (after.now, goes.later, omega arith, λ left is. held.parts held.content held.tells left is);
+  }
+
+  stands : RunStands before.faults told_at_first kept engine after
   stands = record {
     remembers = begins.remembers;
     history = begins.is_new.no_call ∙ sym none;
     cores = begins.cores;
     large = let within = begins.fits.within in let size = goes.size in omega arith;
+    few = begins.few;
     answers = answers;
+    turns =
+        subst (λ (l : List Turn). TurnsSoFar before.faults told_at_first kept after.faults l engine.volume.failed) (sym no_turn)
+        (subst (TurnsSoFar before.faults told_at_first kept after.faults []) (sym begins.working) first_turns);
   }
 
   -- what a crash leaves at first
@@ -72,6 +115,8 @@ module _ (nodes : ℕ) (engine : Engine) (before after : View) (begins : Begins 
   pub run_begins : RunBegins nodes engine before after
   run_begins = record {
     kept = kept;
+    image = told_at_first;
+    image_is = image_at_first;
     stands = stands;
     none = none;
     few = begins.fits.ranges.cores_high;

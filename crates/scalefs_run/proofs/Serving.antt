@@ -42,6 +42,10 @@ use Rattle.scalefs_run.specs.Due.{Judgement, IsJudged, due, judged_status, mount
 use Rattle.scalefs_run.specs.Image.{IsImageRefused, status_of_recovery}
 use Rattle.scalefs_run.specs.Images.{IfQuiet, HasImagesBy}
 use Rattle.scalefs_run.specs.Outcome.{IsOf, HasStatus, HasHistory, HasText, HasReadFault, IsWriteStatus, IsCommand, ComesToDisk, status_of_source}
+use Rattle.sfs_tree.specs.declared.turns.Turn.{Turn}
+use Rattle.commit_turns.specs.Need.{ImageState}
+use Rattle.commit_turns.specs.Recorded.{IsRecorded}
+use Rattle.scalefs_run.specs.Turns.{IsImageAtFirst, HasTurnsBy}
 use Rattle.scalefs_run.specs.RunInvariant.{EndsRun}
 use Rattle.scalefs_run.specs.Served.{Served, ServedScript, IsCaused, was_mounted}
 use Rattle.scalefs_run.specs.WithoutCore.{worker_without_core}
@@ -94,9 +98,29 @@ write_status Sink Disk (TooManyWorkers asked have) h = absurd h
 write_status Sink Disk (TooLong measure) h = absurd h
 write_status Sink Disk (TooSmall need have) h = absurd h
 
+-- an image that stands at the begin of a call does so of a longer one
+image_on : (old mid new : View) (first : TreeState) (image : ImageState) → Advances mid new → IsImageAtFirst old mid first image → IsImageAtFirst old new first image
+image_on old mid new first image goes is = record {
+  num = is.num;
+  layout = is.layout;
+  parts = is.parts;
+  is = is.is;
+  stands = is.stands;
+  told = λ content told calm counts.
+      let later = goes.later in
+      let found = is.told content told calm (omega (arith, later, counts)) in
+      let to = found.2 in
+      (found.0, found.1, omega (arith, to, later), λ left among. found.3 left ((goes.past found.0 left (omega (arith, to, later, counts)) to).0 among));
+}
+
+-- of no call there is no turn
+none_told : (first : TreeState) (image : ImageState) (start now : ℕ) (turns : List Turn) → IsRecorded first [] image start now turns → turns ≡ []
+none_told first image start now [] recorded = refl
+none_told first image start now (turn ∷ turns) recorded = absurd (recorded.each turn (Rattle.std.proofs.Common.inl refl)).fsync.among
+
 -- no call was made, on an image that was not mounted
 pub served_unmounted : (due_by : Judgement → Status) (nodes : ℕ) (phases : List (List Line)) (Source Sink : Type 0) (before after : Option (List ℕ)) (old new : View) (status : Status) → IsCaused due_by Source Sink old new status → HasHistory phases [] status → HasText (history_text []) before after status → was_mounted status [] ≡ false → ShowsEntry old new
-    → Served due_by nodes phases Source Sink before after old new status []
+    → Served due_by nodes phases Source Sink before after old new status [] []
 served_unmounted due_by nodes phases Source Sink before after old new status caused calls text not_mounted shows = record {
   caused = caused;
   first = no_tree;
@@ -105,6 +129,7 @@ served_unmounted due_by nodes phases Source Sink before after old new status cau
   calls = calls;
   text = text;
   answers = record { answered = tt; failed = λ e. absurd (false_not_true e) };
+  turns_are = subst (λ b. HasTurnsBy b old new no_tree [] []) (sym not_mounted) refl;
   images = λ image told calm counts. subst (λ b. HasImagesBy b nodes no_tree old new [] image) (sym not_mounted) (shows image told calm counts);
 }
 
@@ -125,14 +150,14 @@ module _ (nodes : ℕ) (phases : List (List Line)) (Sink : Type 0) (written : Op
       by None = workers (worker_without_core judged.cores phases)
       by (Some fault) = (tt, tt)
 
-  ends_refused : (fault : Fault) (status : Status) → IfTold old.content (λ image. fault_of image ≡ Some fault) → Unwritten old new → BadImage (Rattle.scalefs_run.specs.Image.fault_named fault) ≡ status → Served due_by nodes phases ⊥ Sink written written old new status []
+  ends_refused : (fault : Fault) (status : Status) → IfTold old.content (λ image. fault_of image ≡ Some fault) → Unwritten old new → BadImage (Rattle.scalefs_run.specs.Image.fault_named fault) ≡ status → Served due_by nodes phases ⊥ Sink written written old new status [] []
   ends_refused fault status is unwritten same =
-      subst (λ (s : Status). Served due_by nodes phases ⊥ Sink written written old new s []) same
+      subst (λ (s : Status). Served due_by nodes phases ⊥ Sink written written old new s [] []) same
       (served_unmounted due_by nodes phases ⊥ Sink written written old new (BadImage (Rattle.scalefs_run.specs.Image.fault_named fault))
       (record { judged = record { fault = Some fault; cores = (judged_of old.content).cores }; judged_told = judged_with fault old.content is; status_is = refl; refused = λ refused. unwritten }) refl refl refl shows)
 
   pub served_refused : (fault : RecoverFault) → IfTold old.content (λ image. IsFaultOf image fault) → LeavesRefused old new fault → HasReadCause {V = Engine} is_recover_disk_fault old.faults new.faults (Err fault)
-      → Served due_by nodes phases ⊥ Sink written written old new (status_of_recovery fault) []
+      → Served due_by nodes phases ⊥ Sink written written old new (status_of_recovery fault) [] []
   served_refused recover.DiskFailed is left cause =
       served_unmounted due_by nodes phases ⊥ Sink written written old new DiskFault
       (record { judged = judged_of old.content; judged_told = judged_told old.content; status_is = (cause, (judged_comes (judged_of old.content)).0); refused = λ refused. absurd refused }) refl refl refl shows
@@ -155,7 +180,7 @@ module _ (nodes : ℕ) (phases : List (List Line)) (Sink : Type 0) (before after
 
   -- a worker has no core
   pub served_without_core : (asked have : ℕ) → have ≡ first.volume.layout.cores → worker_without_core first.volume.layout.cores phases ≡ Some asked → before ≡ after → ShowsEntry old new
-      → Served (λ judged. judged_status judged phases) nodes phases ⊥ Sink before after old new (TooManyWorkers asked have) []
+      → Served (λ judged. judged_status judged phases) nodes phases ⊥ Sink before after old new (TooManyWorkers asked have) [] []
   served_without_core asked have is none same shows =
       served_unmounted (λ judged. judged_status judged phases) nodes phases ⊥ Sink before after old new (TooManyWorkers asked have)
       (record {
@@ -183,9 +208,9 @@ module _ (nodes : ℕ) (phases : List (List Line)) (Sink : Type 0) (before after
   -- a script was run
   pub served_run : (status : Status) → EndsRun first engine mid new → Advances mid new → worker_without_core first.volume.layout.cores phases ≡ None → (made ≡ [] → ShowsEntry old new)
       → IsWriteStatus Sink status → HasHistory phases made status → HasText (history_text made) before after status
-      → Served (λ judged. judged_status judged phases) nodes phases ⊥ Sink before after old new status made
+      → Served (λ judged. judged_status judged phases) nodes phases ⊥ Sink before after old new status made engine.turns.items
   served_run status ends goes none shows is calls text =
-      let ended = ends old.faults begins.kept begins.stands in
+      let ended = ends old.faults begins.image begins.kept begins.stands in
       record {
         caused = record {
           judged = judged;
@@ -201,12 +226,23 @@ module _ (nodes : ℕ) (phases : List (List Line)) (Sink : Type 0) (before after
         calls = calls;
         text = text;
         answers = ended.answers;
+        turns_are = told (was_mounted status made) refl;
         images = λ image told calm counts. by image told calm counts (was_mounted status made) refl;
       }
     where
+      told : (was : Bool) → was_mounted status made ≡ was → HasTurnsBy was old new begins.kept.first made engine.turns.items
+      told true was = record {
+        image = begins.image;
+        image_is = image_on old mid new begins.kept.first begins.image goes begins.image_is;
+        recorded = (ends old.faults begins.image begins.kept begins.stands).recorded;
+      }
+      told false was =
+          none_told begins.kept.first begins.image old.faults new.faults engine.turns.items
+          (subst (λ (h : List Entry). IsRecorded begins.kept.first h begins.image old.faults new.faults engine.turns.items) (no_call status made is was) (ends old.faults begins.image begins.kept begins.stands).recorded)
+
       by : (image : List ℕ) → old.content ≡ Some image → IsCalm old → CountsOn new → (was : Bool) → was_mounted status made ≡ was → HasImagesBy was nodes begins.kept.first old new made image
       by image told calm counts true was =
-          let ended = ends old.faults begins.kept begins.stands in
+          let ended = ends old.faults begins.image begins.kept begins.stands in
           let share = share_of_nodes nodes (layout_of image) in
           survives share old.now begins.kept.first made new begins.sound ended.legal
           (ended.safe share old.now counts ((begins.told image told).safe calm (let later = goes.later in omega arith)))
@@ -291,7 +327,7 @@ module _ (judged : Judgement) (script : List ℕ) where
 
 -- the script could not be read
 pub served_unread : (nodes : ℕ) (left : Option (List ℕ)) (script : List ℕ) (Source Sink : Type 0) (written : Option (List ℕ)) (disk : View) (status : Status) → IsOf left script → HasReadFault script Source status
-    → ServedScript nodes left Source Sink written written disk disk status []
+    → ServedScript nodes left Source Sink written written disk disk status [] []
 served_unread nodes left script Source Sink written disk status is fault = (script, is, by status fault)
   where
     phases : List (List Line)
@@ -301,12 +337,12 @@ served_unread nodes left script Source Sink written disk status is fault = (scri
     judged = judged_of disk.content
 
     ends : (status : Status) → HasStatus (due judged script) Source Sink (HasRisen disk.faults disk.faults) status → (IsImageRefused status → Unwritten disk disk) → HasHistory phases [] status → HasText (history_text []) written written status → was_mounted status [] ≡ false
-        → Served (λ judged. due judged script) nodes phases Source Sink written written disk disk status []
+        → Served (λ judged. due judged script) nodes phases Source Sink written written disk disk status [] []
     ends status status_is refused calls text not =
         served_unmounted (λ judged. due judged script) nodes phases Source Sink written written disk disk status
         (record { judged = judged; judged_told = judged_told disk.content; status_is = status_is; refused = refused }) calls text not (shows_untouched disk)
 
-    by : (status : Status) → HasReadFault script Source status → Served (λ judged. due judged script) nodes phases Source Sink written written disk disk status []
+    by : (status : Status) → HasReadFault script Source status → Served (λ judged. due judged script) nodes phases Source Sink written written disk disk status [] []
     by (BadScript line) fault = ends (BadScript line) (due_read judged script fault.0 ∙ ap (script_status judged) fault.1) (λ refused. absurd refused) refl refl refl
     by ReadFault fault = ends ReadFault (fault, due_command judged script) (λ refused. absurd refused) refl refl refl
     by NoMemory fault = ends NoMemory (due_command judged script) (λ refused. absurd refused) (none_so_far phases) refl refl
@@ -315,9 +351,9 @@ served_unread nodes left script Source Sink written disk status is fault = (scri
     by _ fault = absurd fault
 
 -- the script was read, and run
-pub served_read : (nodes : ℕ) (left : Option (List ℕ)) (script : List ℕ) (phases : List (List Line)) (Source Sink : Type 0) (before after : Option (List ℕ)) (old new : View) (status : Status) (history : List Entry) → IsOf left script → IsShort script → phases_of script ≡ Ok phases
-    → Served (λ judged. judged_status judged phases) nodes phases ⊥ Sink before after old new status history → ServedScript nodes left Source Sink before after old new status history
-served_read nodes left script phases Source Sink before after old new status history is short read served = (
+pub served_read : (nodes : ℕ) (left : Option (List ℕ)) (script : List ℕ) (phases : List (List Line)) (Source Sink : Type 0) (before after : Option (List ℕ)) (old new : View) (status : Status) (history : List Entry) (turns : List Turn) → IsOf left script → IsShort script → phases_of script ≡ Ok phases
+    → Served (λ judged. judged_status judged phases) nodes phases ⊥ Sink before after old new status history turns → ServedScript nodes left Source Sink before after old new status history turns
+served_read nodes left script phases Source Sink before after old new status history turns is short read served = (
   script,
   is,
   record {
@@ -335,6 +371,7 @@ served_read nodes left script phases Source Sink before after old new status his
     calls = subst (λ (p : List (List Line)). HasHistory p history status) (sym (ap phases_in read)) served.calls;
     text = served.text;
     answers = served.answers;
+    turns_are = served.turns_are;
     images = served.images;
   },
 )

@@ -1,5 +1,5 @@
 -- A run goes on by one entry.
-use Rattle.std.proofs.Common.{◌≡◌, ℕ, ◌≤◌, true, false, List, [], ◌∷◌, ◌++◌, length, Option, Some, None, IfSome, is_some, inl, refl, sym, ap, subst, ◌∙◌, arith}
+use Rattle.std.proofs.Common.{◌≡◌, ℕ, ◌≤◌, ◌^◌, true, false, List, [], ◌∷◌, ◌++◌, length, Option, Some, None, IfSome, is_some, inl, refl, sym, ap, subst, ◌∙◌, arith}
 use Rattle.sfs_base.specs.declared.numbers.CoreId.{CoreId}
 use Rattle.sfs_base.specs.declared.numbers.NodeId.{NodeId}
 use Rattle.sfs_base.specs.declared.numbers.Stamp.{Stamp}
@@ -27,7 +27,16 @@ use Rattle.volume_one.specs.Fsync.{FsyncCommits, FsyncDoubts, FsyncStays, FsyncM
 use Rattle.volume_one.specs.Stands.{Remembers}
 use Rattle.volume_one.specs.declared.flushed.Flushed.{Flushed}
 use Rattle.volume_one.specs.declared.volume.OpenVolume.{OpenVolume}
-use Rattle.scalefs_run.specs.Replies.{HasAnswersSoFar, IsReplyTo, is_failed_flush}
+use Rattle.sfs_tree.specs.declared.reply.Code.TheVariants.{NoEntry}
+use Rattle.sfs_tree.specs.declared.turns.Turn.{Turn}
+use Rattle.commit_turns.specs.Need.{ImageState, node_bound}
+use Rattle.volume_one.specs.Deeds.{DidStay}
+use Rattle.volume_one.specs.declared.deed.Deed.{Deed}
+use Rattle.volume_one.specs.declared.deed.Deed.TheVariants as deeds
+use Rattle.scalefs_run.specs.Turns.{TurnsSoFar, HaveTurns, HaveFailed, turns_of}
+use Rattle.scalefs_run.specs.declared.turns.Counts.{Counts}
+use Rattle.scalefs_run.proofs.Turning.{no_error, alive_of, working_of, halted_of, no_live_error, nothing_told, halted, turns_commit, turns_doubt, turns_short, turns_back}
+use Rattle.scalefs_run.specs.Replies.{is_failure, HasAnswersSoFar, IsReplyTo, is_failed_flush}
 use Rattle.scalefs_run.specs.RunInvariant.{RunStands, StandsNow, HasGoneOn}
 use Rattle.scalefs_run.specs.declared.engine.Engine.{Engine}
 use Rattle.scalefs_run.proofs.Dated.{AcksRise-push}
@@ -59,38 +68,43 @@ now_on share from kept entry disk sound legal no_ack (Some faults) now =
 no_moment : (ack : Option ℕ) (from to : ℕ) → ack ≡ None → IfSome ack (λ a. (from ≤ a) × (a ≤ to))
 no_moment ack from to none = subst (λ (o : Option ℕ). IfSome o (λ a. (from ≤ a) × (a ≤ to))) (sym none) tt
 
-module _ (start : ℕ) (kept : Volume) (old new : Engine) (before after : View) (stands : RunStands start kept old before) (entry : Entry) (later : Volume)
+module _ (start : ℕ) (image : ImageState) (kept : Volume) (old new : Engine) (before after : View) (stands : RunStands start image kept old before) (entry : Entry) (later : Volume)
     (first : later.first ≡ kept.first) (history : later.history ≡ kept.history ++ entry ∷ []) (layout : later.layout ≡ kept.layout) (size : after.size ≡ before.size)
     (remembers : Remembers later new.volume) (entries : new.entries.items ≡ old.entries.items ++ entry ∷ [])
-    (answers : HasAnswersSoFar start after.faults kept.first (kept.history ++ entry ∷ []) new.volume.failed) where
+    (answers : HasAnswersSoFar start after.faults kept.first (kept.history ++ entry ∷ []) new.volume.failed)
+    (turns : TurnsSoFar start image later after.faults new.turns.items new.volume.failed) where
   same_layout : new.volume.layout ≡ old.volume.layout
   same_layout = remembers.disk.layout ∙ layout ∙ sym stands.remembers.disk.layout
 
   -- what stands once an entry has come
-  pub stands_on : RunStands start later new after
+  pub stands_on : RunStands start image later new after
   stands_on = record {
     remembers = remembers;
     history = history ∙ ap (λ (h : List Entry). h ++ entry ∷ []) stands.history ∙ sym entries;
     cores = ap (λ (t : TreeState). length t.made) first ∙ stands.cores ∙ ap (λ (l : Layout). l.cores) (sym same_layout);
     large = let had = stands.large in let same = ap (λ (l : Layout). l.blocks) same_layout in omega (arith, size);
+    few = subst (λ (t : TreeState). node_bound t ≤ 2 ^ 32) (sym first) stands.few;
+    turns = turns;
     answers =
         subst (λ (t : TreeState). HasAnswersSoFar start after.faults t later.history new.volume.failed) (sym first)
         (subst (λ (h : List Entry). HasAnswersSoFar start after.faults kept.first h new.volume.failed) (sym history) answers);
   }
 
 -- an entry comes that leaves the disk alone
-pub goes_on_still : (start : ℕ) (kept : Volume) (old new : Engine) (disk : View) (entry : Entry) → RunStands start kept old disk → Remembers (kept_with kept entry) new.volume
+pub goes_on_still : (start : ℕ) (image : ImageState) (kept : Volume) (old new : Engine) (disk : View) (entry : Entry) → RunStands start image kept old disk → Remembers (kept_with kept entry) new.volume
     → new.volume.failed ≡ old.volume.failed → new.entries.items ≡ old.entries.items ++ entry ∷ [] → entry.ack ≡ None → is_failed_flush entry ≡ false
     → ((count : ℕ) → IfSome old.volume.failed (λ faults. faults ≡ count) → IsReplyTo (tree_after kept.first kept.history) (is_some old.volume.failed) count entry.call entry.reply)
-    → HasGoneOn start kept old new disk disk
-goes_on_still start kept old new disk entry stands remembers failed entries no_ack fine cause =
+    → TurnsSoFar start image (kept_with kept entry) disk.faults new.turns.items old.volume.failed
+    → HasGoneOn start image kept old new disk disk
+goes_on_still start image kept old new disk entry stands remembers failed entries no_ack fine cause turns =
     let answers = answered_on start disk.faults kept.first kept.history old.volume.failed stands.answers entry cause disk.faults fine (omega arith) stands.answers.kept in
     record {
       later = kept_with kept entry;
       first = refl;
       stands =
-          stands_on start kept old new disk disk stands entry (kept_with kept entry) refl refl refl refl remembers entries
-          (subst (HasAnswersSoFar start disk.faults kept.first (kept.history ++ entry ∷ [])) (sym failed) answers);
+          stands_on start image kept old new disk disk stands entry (kept_with kept entry) refl refl refl refl remembers entries
+          (subst (HasAnswersSoFar start disk.faults kept.first (kept.history ++ entry ∷ [])) (sym failed) answers)
+          (subst (TurnsSoFar start image (kept_with kept entry) disk.faults new.turns.items) (sym failed) turns);
       safe = λ share from counts safe. record {
         now = subst (StandsNow share from (kept_with kept entry) disk) (sym failed)
             (now_on share from kept entry disk (sound_with kept old.volume stands.remembers) (legal_with (kept_with kept entry) new.volume remembers) no_ack old.volume.failed safe.now);
@@ -99,16 +113,24 @@ goes_on_still start kept old new disk entry stands remembers failed entries no_a
     }
 
 -- an fsync comes
-module _ (start : ℕ) (kept : Volume) (old new : Engine) (before after : View) (stands : RunStands start kept old before) (stamp : Stamp) (core : CoreId) (node : NodeId) (flushed : Flushed)
+module _ (start : ℕ) (image : ImageState) (kept : Volume) (old new : Engine) (before after : View) (stands : RunStands start image kept old before) (stamp : Stamp) (core : CoreId) (node : NodeId) (flushed : Flushed)
     (counted : length kept.history ≡ stamp.0) (goes : Advances before after)
     (entries : new.entries.items ≡ old.entries.items ++ entry_of stamp core (Fsync node) flushed.reply flushed.ack ∷ [])
-    (answer : IsFsyncAnswer (is_alive old.volume.tree node.0) old.volume.failed flushed.reply) where
+    (answer : IsFsyncAnswer (is_alive old.volume.tree node.0) old.volume.failed flushed.reply)
+    (counts : Counts) (own : counts.faults_before ≡ before.faults) (then_faults : counts.faults_after ≡ after.faults)
+    (told : new.turns.items ≡ old.turns.items ++ turns_of (entry_of stamp core (Fsync node) flushed.reply flushed.ack) node counts flushed.deed) where
   abbrev entry : Entry
   entry = entry_of stamp core (Fsync node) flushed.reply flushed.ack
 
+  answer_is : IsFsyncAnswer (is_alive (tree_after kept.first kept.history) node.0) old.volume.failed flushed.reply
+  answer_is = subst (λ (t : TreeState). IsFsyncAnswer (is_alive t node.0) old.volume.failed flushed.reply) stands.remembers.calls.tree answer
+
+  -- the turns before it
+  had_turns : old.volume.failed ≡ None → HaveTurns image kept counts.faults_before old.turns.items
+  had_turns none = subst (λ n. HaveTurns image kept n old.turns.items) (sym own) (subst (TurnsSoFar start image kept before.faults old.turns.items) none stands.turns)
+
   cause : (count : ℕ) → IfSome old.volume.failed (λ faults. faults ≡ count) → IsReplyTo (tree_after kept.first kept.history) (is_some old.volume.failed) count (Fsync node) flushed.reply
-  cause count same = answer_cause (is_alive (tree_after kept.first kept.history) node.0) old.volume.failed flushed.reply
-      (subst (λ (t : TreeState). IsFsyncAnswer (is_alive t node.0) old.volume.failed flushed.reply) stands.remembers.calls.tree answer) count same
+  cause count same = answer_cause (is_alive (tree_after kept.first kept.history) node.0) old.volume.failed flushed.reply answer_is count same
 
   -- it raises the cut next
   raises_next : (one : OneFsync) → made.IsOneOf kept (flush_of node stamp) one → RaisesNext kept.first kept.history kept.cut kept.inodes entry one.flush one.raised one.after
@@ -122,30 +144,37 @@ module _ (start : ℕ) (kept : Volume) (old new : Engine) (before after : View) 
   not_before failed none = subst (λ (o : Option ℕ). IfSome o (λ faults. faults ≡ after.faults)) (sym none) tt
 
   -- answered Ok
-  committed : flushed.reply ≡ reply.Ok → FsyncCommits (with_fsync core stamp node flushed) kept (flush_of node stamp) before after old.volume new.volume flushed → HasGoneOn start kept old new before after
+  committed : flushed.reply ≡ reply.Ok → FsyncCommits (with_fsync core stamp node flushed) kept (flush_of node stamp) before after old.volume new.volume flushed → HasGoneOn start image kept old new before after
   committed ok makes =
+      let had = had_turns makes.failed.0 in
       let left = volume_left kept makes.one makes.later in
       let later = kept_with left entry in
       let none = makes.failed.0 in
       let working = makes.failed.1 in
       let acked = makes.acknowledged in
-      let fine : is_failed_flush entry ≡ false = ap Rattle.scalefs_run.specs.Replies.is_failure ok in
+      let fine : is_failed_flush entry ≡ false = ap is_failure ok in
       let answers = answered_on start before.faults kept.first kept.history old.volume.failed stands.answers entry cause after.faults fine goes.never_falls (not_before old.volume.failed none) in
       record {
         later = later;
         first = refl;
         stands =
-            stands_on start kept old new before after stands entry later refl refl refl goes.size makes.remembers entries
-            (subst (HasAnswersSoFar start after.faults kept.first (kept.history ++ entry ∷ [])) (none ∙ sym working) answers);
-        safe = λ share from counts safe.
-            let had = subst (StandsNow share from kept before) none safe.now in
-            let wrote = makes.wrote counts had.1 share in
+            stands_on start image kept old new before after stands entry later refl refl refl goes.size makes.remembers entries
+            (subst (HasAnswersSoFar start after.faults kept.first (kept.history ++ entry ∷ [])) (none ∙ sym working) answers)
+            (subst (TurnsSoFar start image later after.faults new.turns.items) (sym working)
+            (subst (HaveTurns image later after.faults) (sym told)
+            (subst (λ n. HaveTurns image later n (old.turns.items ++ turns_of entry node counts flushed.deed)) (own ∙ sym makes.faultless)
+            (turns_commit start image kept old.turns.items stamp core node flushed counts (legal_with later new.volume makes.remembers) counted
+            (alive_of (is_alive (tree_after kept.first kept.history) node.0) old.volume.failed flushed.reply answer_is (λ is. no_error reply.Ok refl (sym ok ∙ is)))
+            had.used had.below had.stand (with_fsync core stamp node flushed) before after old.volume new.volume makes))));
+        safe = λ share from count_on safe.
+            let stood = subst (StandsNow share from kept before) none safe.now in
+            let wrote = makes.wrote count_on stood.1 share in
             let bounds = wrote.makes in
             record {
               now = subst (StandsNow share from later after) (sym working) (
                 commits_keep before after share from makes.moment kept.first kept.history entry kept.flushes makes.one.flush kept.cut makes.one.raised kept.inodes makes.one.after
-                    (sound_with kept old.volume stands.remembers) (legal_with later new.volume makes.remembers) ok acked (raises_next makes.one makes.is) wrote had.0,
-                holds_with left entry after (makes.holds counts had.1),
+                    (sound_with kept old.volume stands.remembers) (legal_with later new.volume makes.remembers) ok acked (raises_next makes.one makes.is) wrote stood.0,
+                holds_with left entry after (makes.holds count_on stood.1),
               );
               acks = AcksRise-push from before.now after.now kept.history entry safe.acks
                   (subst (λ (o : Option ℕ). IfSome o (λ a. (before.now ≤ a) × (a ≤ after.now))) (sym acked) (bounds.not_before, bounds.not_after)) goes.later;
@@ -153,49 +182,95 @@ module _ (start : ℕ) (kept : Volume) (old new : Engine) (before after : View) 
       }
 
   -- answered DiskFailed
-  doubted : flushed.reply ≡ reply.DiskFailed → FsyncDoubts (with_fsync core stamp node flushed) kept (flush_of node stamp) before after old.volume new.volume flushed → HasGoneOn start kept old new before after
+  doubted : flushed.reply ≡ reply.DiskFailed → FsyncDoubts (with_fsync core stamp node flushed) kept (flush_of node stamp) before after old.volume new.volume flushed → HasGoneOn start image kept old new before after
   doubted failed makes =
       let later = kept_with kept entry in
+      let had = had_turns makes.failed.0 in
       let none = makes.failed.0 in
       let halted = makes.failed.1 in
       let no_ack = makes.refused in
-      let is : is_failed_flush entry ≡ true = ap Rattle.scalefs_run.specs.Replies.is_failure failed in
+      let is : is_failed_flush entry ≡ true = ap is_failure failed in
       let answers = answered_doubt start before.faults kept.first kept.history old.volume.failed stands.answers entry cause after.faults is none makes.risen goes.never_falls in
       record {
         later = later;
         first = refl;
         stands =
-            stands_on start kept old new before after stands entry later refl refl refl goes.size makes.remembers entries
-            (subst (HasAnswersSoFar start after.faults kept.first (kept.history ++ entry ∷ [])) (sym halted) answers);
-        safe = λ share from counts safe.
-            let had = subst (StandsNow share from kept before) none safe.now in
+            stands_on start image kept old new before after stands entry later refl refl refl goes.size makes.remembers entries
+            (subst (HasAnswersSoFar start after.faults kept.first (kept.history ++ entry ∷ [])) (sym halted) answers)
+            (subst (TurnsSoFar start image later after.faults new.turns.items) (sym halted)
+            (subst (λ (l : List Turn). HaveFailed start image later l after.faults) (sym told)
+            (turns_doubt start image kept old.turns.items stamp core node flushed counts (legal_with later new.volume makes.remembers) counted
+            (alive_of (is_alive (tree_after kept.first kept.history) node.0) old.volume.failed flushed.reply answer_is (λ is. no_error reply.DiskFailed refl (sym failed ∙ is)))
+            had.used had.below had.stand (with_fsync core stamp node flushed) before after old.volume new.volume makes own then_faults stands.answers.later)));
+        safe = λ share from count_on safe.
+            let stood = subst (StandsNow share from kept before) none safe.now in
             record {
               now = subst (StandsNow share from later after) (sym halted) (
                 failures_keep before after share from kept.first kept.history entry kept.flushes makes.one.flush kept.cut makes.one.raised kept.inodes makes.one.after
-                    (sound_with kept old.volume stands.remembers) (legal_with later new.volume makes.remembers) failed (raises_next makes.one makes.is) (makes.wrote counts had.1 share) had.0,
+                    (sound_with kept old.volume stands.remembers) (legal_with later new.volume makes.remembers) failed (raises_next makes.one makes.is) (makes.wrote count_on stood.1 share) stood.0,
                 record { entry = entry; among = in_right kept.history (entry ∷ []) entry (inl refl); failed = subst Rattle.crash_laws.specs.Survives.IsFailure (sym failed) tt },
               );
               acks = AcksRise-push from before.now after.now kept.history entry safe.acks (no_moment flushed.ack before.now after.now no_ack) goes.later;
             };
       }
 
+  -- the turns of one answered otherwise
+  other_turns : IsLegal kept.first (kept.history ++ entry ∷ []) → (given : Reply) → flushed.reply ≡ given → DidStay kept (flush_of node stamp) given flushed.deed
+      → TurnsSoFar start image (kept_with kept entry) before.faults (old.turns.items ++ turns_of entry node counts flushed.deed) old.volume.failed
+  other_turns legal given is did = by given is did
+    where
+      alive_at : (given : Reply) → flushed.reply ≡ given → (given ≡ reply.Error NoEntry → ⊥) → is_alive (tree_after kept.first kept.history) node.0 ≡ true
+      alive_at given is not = alive_of (is_alive (tree_after kept.first kept.history) node.0) old.volume.failed flushed.reply answer_is (λ error. not (sym is ∙ error))
+
+      whole : (none : old.volume.failed ≡ None) → HaveTurns image (kept_with kept entry) counts.faults_before (old.turns.items ++ turns_of entry node counts flushed.deed)
+          → TurnsSoFar start image (kept_with kept entry) before.faults (old.turns.items ++ turns_of entry node counts flushed.deed) old.volume.failed
+      whole none have =
+          subst (TurnsSoFar start image (kept_with kept entry) before.faults (old.turns.items ++ turns_of entry node counts flushed.deed)) (sym none)
+          (subst (λ n. HaveTurns image (kept_with kept entry) n (old.turns.items ++ turns_of entry node counts flushed.deed)) own have)
+
+      by : (given : Reply) → flushed.reply ≡ given → DidStay kept (flush_of node stamp) given flushed.deed
+          → TurnsSoFar start image (kept_with kept entry) before.faults (old.turns.items ++ turns_of entry node counts flushed.deed) old.volume.failed
+      by (reply.NoSpace kind need free) is did =
+          let none = working_of _ old.volume.failed flushed.reply answer_is (λ e. no_error (reply.NoSpace kind need free) refl (sym is ∙ e)) (λ f e. absurd (let never : reply.NoSpace kind need free ≡ reply.Stopped f = sym is ∙ e in cc)) in
+          let had = had_turns none in
+          whole none (turns_short start image kept old.turns.items stamp core node flushed counts legal counted (alive_at (reply.NoSpace kind need free) is (no_error (reply.NoSpace kind need free) refl)) had.used had.below had.stand
+          (with_fsync core stamp node flushed) before after old.volume new.volume ⊥ stands.few kind need free is did)
+      by reply.NoMemory is did =
+          let none = working_of _ old.volume.failed flushed.reply answer_is (λ e. no_error reply.NoMemory refl (sym is ∙ e)) (λ f e. absurd (let never : reply.NoMemory ≡ reply.Stopped f = sym is ∙ e in cc)) in
+          let had = had_turns none in
+          whole none (turns_back start image kept old.turns.items stamp core node flushed counts legal counted (alive_at reply.NoMemory is (no_error reply.NoMemory refl)) had.used had.below had.stand
+          (with_fsync core stamp node flushed) before after old.volume new.volume ⊥ stands.few flushed.deed is did)
+      by (reply.Stopped faults) is did =
+          let some = halted_of _ old.volume.failed flushed.reply faults answer_is is in
+          subst (λ (d : Deed). TurnsSoFar start image (kept_with kept entry) before.faults (old.turns.items ++ turns_of entry node counts d) old.volume.failed) (sym did)
+          (subst (TurnsSoFar start image (kept_with kept entry) before.faults (old.turns.items ++ turns_of entry node counts deeds.Halted)) (sym some)
+          (halted start image kept old.turns.items stamp core node flushed counts legal counted (alive_at (reply.Stopped faults) is (no_error (reply.Stopped faults) refl)) faults before.faults
+          (subst (TurnsSoFar start image kept before.faults old.turns.items) some stands.turns) is))
+      by (reply.Error code) is did =
+          subst (λ (d : Deed). TurnsSoFar start image (kept_with kept entry) before.faults (old.turns.items ++ turns_of entry node counts d) old.volume.failed) (sym did)
+          (nothing_told start image kept old.turns.items stamp core node flushed counts legal counted before.faults old.volume.failed stands.turns
+          (λ alive. absurd (no_live_error _ old.volume.failed flushed.reply code answer_is alive is)))
+      by _ is did = absurd did
+
   module _ (disks : Type 0) (stay : disks → (P : View → Type 0) → P before → P after) where
     -- answered otherwise
-    stayed : is_failed_flush entry ≡ false → FsyncStays disks (with_fsync core stamp node flushed) kept (flush_of node stamp) old.volume new.volume flushed → HasGoneOn start kept old new before after
-    stayed fine makes =
-        stay makes.same (HasGoneOn start kept old new before)
-        (goes_on_still start kept old new before entry stands makes.remembers makes.failed entries makes.refused fine cause)
+    stayed : (given : Reply) → flushed.reply ≡ given → is_failed_flush entry ≡ false → FsyncStays disks (with_fsync core stamp node flushed) kept (flush_of node stamp) old.volume new.volume flushed → HasGoneOn start image kept old new before after
+    stayed given is fine makes =
+        stay makes.same (HasGoneOn start image kept old new before)
+        (goes_on_still start image kept old new before entry stands makes.remembers makes.failed entries makes.refused fine cause
+        (subst (λ (l : List Turn). TurnsSoFar start image (kept_with kept entry) before.faults l old.volume.failed) (sym told)
+        (other_turns (legal_with (kept_with kept entry) new.volume makes.remembers) given is (subst (λ r. DidStay kept (flush_of node stamp) r flushed.deed) is makes.did))))
 
-    pub goes_on_fsync : FsyncMakes disks (with_fsync core stamp node flushed) kept (flush_of node stamp) before after old.volume new.volume flushed flushed.reply → HasGoneOn start kept old new before after
+    pub goes_on_fsync : FsyncMakes disks (with_fsync core stamp node flushed) kept (flush_of node stamp) before after old.volume new.volume flushed flushed.reply → HasGoneOn start image kept old new before after
     goes_on_fsync makes = by flushed.reply refl makes
       where
-        fine : (given : Reply) → flushed.reply ≡ given → Rattle.scalefs_run.specs.Replies.is_failure given ≡ false → is_failed_flush entry ≡ false
-        fine given is not = ap Rattle.scalefs_run.specs.Replies.is_failure is ∙ not
+        fine : (given : Reply) → flushed.reply ≡ given → is_failure given ≡ false → is_failed_flush entry ≡ false
+        fine given is not = ap is_failure is ∙ not
 
-        by : (given : Reply) → flushed.reply ≡ given → FsyncMakes disks (with_fsync core stamp node flushed) kept (flush_of node stamp) before after old.volume new.volume flushed given → HasGoneOn start kept old new before after
+        by : (given : Reply) → flushed.reply ≡ given → FsyncMakes disks (with_fsync core stamp node flushed) kept (flush_of node stamp) before after old.volume new.volume flushed given → HasGoneOn start image kept old new before after
         by reply.Ok is makes = committed is makes
         by reply.DiskFailed is makes = doubted is makes
-        by (reply.NoSpace kind need free) is makes = stayed (fine _ is refl) makes
-        by (reply.Stopped faults) is makes = stayed (fine _ is refl) makes
-        by reply.NoMemory is makes = stayed (fine _ is refl) makes
-        by _ is makes = stayed (fine _ is refl) makes
+        by (reply.NoSpace kind need free) is makes = stayed _ is (fine _ is refl) makes
+        by (reply.Stopped faults) is makes = stayed _ is (fine _ is refl) makes
+        by reply.NoMemory is makes = stayed _ is (fine _ is refl) makes
+        by _ is makes = stayed _ is (fine _ is refl) makes

@@ -9,7 +9,9 @@ use Rattle.image_tree.specs.Image.{tree_of}
 use Rattle.journal_one.specs.Calls.{IsCalm}
 use Rattle.mount.specs.Mounted.{share_of_nodes}
 use Rattle.volume_laws.specs.Volume.{Volume}
+use Rattle.commit_turns.specs.Need.{ImageState}
 use Rattle.scalefs_run.specs.RunInvariant.{RunStands, IsSafe}
+use Rattle.scalefs_run.specs.Turns.{IsImageAtFirst}
 use Rattle.scalefs_run.specs.declared.engine.Engine.{Engine}
 
 -- What is mounted of an image: as many cores as it has, and its tree with a share of new nodes for each core. Where nothing was pending, what a
@@ -22,7 +24,9 @@ pub record IsRunOf (nodes : ℕ) (before after : View) (kept : Volume) (engine :
 -- A run begins: there are no calls, its tree is sound, and where the disk told its content, it is the image's.
 pub record RunBegins (nodes : ℕ) (engine : Engine) (before after : View) : Type 0 where
   pub kept : Volume
-  pub stands : RunStands before.faults kept engine after
+  pub image : ImageState
+  pub image_is : IsImageAtFirst before after kept.first image
+  pub stands : RunStands before.faults image kept engine after
   pub none : engine.entries.items ≡ []
   pub few : engine.volume.layout.cores ≤ 16
   pub sound : IsSoundTree kept.first

@@ -25,6 +25,7 @@ pub record Called (core : CoreId) (call : Call) (old new : List Entry) : Type 0 
 pub record IsCallAnswered (Same : Type 0) (stamp : Stamp) (core : CoreId) (call : Call) (old new : Engine) (result : Flushed) : Type 0 where
   pub still : Same
   pub entries : new.entries ≡ old.entries
+  pub turns : new.turns ≡ old.turns
   pub reply_is : result.reply ≡ (verdict old.volume.tree core.0 call).reply
   pub ack_is : result.ack ≡ None
   pub goes_on : GoesOnWith old.volume new.volume (entry_of stamp core call result.reply None)
@@ -33,5 +34,6 @@ pub record IsCallAnswered (Same : Type 0) (stamp : Stamp) (core : CoreId) (call 
 -- An fsync was made in the volume, and the calls are as they were.
 pub record IsFsyncAnswered (Same : Type 0) (stamp : Stamp) (core : CoreId) (node : NodeId) (old new : Engine) (before after : View) (result : Flushed) : Type 0 where
   pub entries : new.entries ≡ old.entries
+  pub turns : new.turns ≡ old.turns
   pub answer : IsFsyncAnswer (is_alive old.volume.tree node.0) old.volume.failed result.reply
   pub goes_on : FsyncGoesOn Same core stamp node before after old.volume new.volume result

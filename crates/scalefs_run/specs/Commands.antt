@@ -1,6 +1,7 @@
 -- What a call has done, by its words.
 use Rattle.std.specs.Prelude.{◌≡◌, ℕ, List, [], Option, Result, Ok, Err}
 use Rattle.sfs_tree.specs.declared.history.Entry.{Entry}
+use Rattle.sfs_tree.specs.declared.turns.Turn.{Turn}
 use Rattle.sfs_dev.specs.Disk.{View}
 use Rattle.scalefs_run.specs.declared.outcome.Status.{Status}
 use Rattle.scalefs_run.specs.declared.outcome.Status.TheVariants.{BadWords}
@@ -11,20 +12,21 @@ use Rattle.scalefs_run.specs.Served.{ServedScript}
 use Rattle.scalefs_run.specs.Words.{layout_asked}
 
 -- Words were refused for this place: nothing was written, and no call made.
-pub record RefusesWords (place : ℕ) (before after : Option (List ℕ)) (status : Status) (history : List Entry) : Type 0 where
+pub record RefusesWords (place : ℕ) (before after : Option (List ℕ)) (status : Status) (history : List Entry) (turns : List Turn) : Type 0 where
   pub status_is : status ≡ BadWords place
   pub text : after ≡ before
   pub none : history ≡ []
+  pub no_turn : turns ≡ []
 
 -- What a command has done. `Source` and `Sink` say that the count of faults of the source or of the sink rose; before and after are what was
 -- written to the sink, old and new are the disk. `mkfs` and `show` make no call.
-abbrev pub ServedCommand : Command → Option (List ℕ) → Type 0 → Type 0 → Option (List ℕ) → Option (List ℕ) → View → View → Status → List Entry → Type 0
-ServedCommand (Mkfs blocks inodes cores) left Source Sink before after old new status history =
-    MakesImage (layout_asked blocks inodes cores) Sink before after old new status × (history ≡ [])
-ServedCommand Show left Source Sink before after old new status history = ShowsImage Sink before after old new status × (history ≡ [])
-ServedCommand (Run nodes) left Source Sink before after old new status history = ServedScript nodes left Source Sink before after old new status history
+abbrev pub ServedCommand : Command → Option (List ℕ) → Type 0 → Type 0 → Option (List ℕ) → Option (List ℕ) → View → View → Status → List Entry → List Turn → Type 0
+ServedCommand (Mkfs blocks inodes cores) left Source Sink before after old new status history turns =
+    MakesImage (layout_asked blocks inodes cores) Sink before after old new status × (history ≡ []) × (turns ≡ [])
+ServedCommand Show left Source Sink before after old new status history turns = ShowsImage Sink before after old new status × (history ≡ []) × (turns ≡ [])
+ServedCommand (Run nodes) left Source Sink before after old new status history turns = ServedScript nodes left Source Sink before after old new status history turns
 
 -- the same of words, which may be no command
-abbrev pub ServedWords : Result Command ℕ → Option (List ℕ) → Type 0 → Type 0 → Option (List ℕ) → Option (List ℕ) → View → View → Status → List Entry → Type 0
-ServedWords (Ok command) left Source Sink before after old new status history = ServedCommand command left Source Sink before after old new status history
-ServedWords (Err place) left Source Sink before after old new status history = RefusesWords place before after status history
+abbrev pub ServedWords : Result Command ℕ → Option (List ℕ) → Type 0 → Type 0 → Option (List ℕ) → Option (List ℕ) → View → View → Status → List Entry → List Turn → Type 0
+ServedWords (Ok command) left Source Sink before after old new status history turns = ServedCommand command left Source Sink before after old new status history turns
+ServedWords (Err place) left Source Sink before after old new status history turns = RefusesWords place before after status history turns

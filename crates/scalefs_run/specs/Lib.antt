@@ -10,5 +10,6 @@ pub mod Outcome
 pub mod Replies
 pub mod RunInvariant
 pub mod Served
+pub mod Turns
 pub mod WithoutCore
 pub mod Words

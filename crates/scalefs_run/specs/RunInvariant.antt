@@ -1,10 +1,13 @@
 -- What a run has done so far.
-use Rattle.std.specs.Prelude.{◌≡◌, ◌⊎◌, ℕ, ◌≤◌, Bool, List, length, Option, None, Some}
+use Rattle.std.specs.Prelude.{◌≡◌, ◌⊎◌, ℕ, ◌≤◌, ◌^◌, Bool, List, length, Option, None, Some}
 use Rattle.sfs_tree.specs.declared.history.Entry.{Entry}
+use Rattle.sfs_tree.specs.declared.turns.Turn.{Turn}
 use Rattle.sfs_tree.specs.History.{IsLegal}
 use Rattle.sfs_tree.specs.Tree.{TreeState}
 use Rattle.sfs_dev.specs.Disk.{View}
 use Rattle.sfs_dev.specs.Run.{CountsOn}
+use Rattle.commit_turns.specs.Need.{ImageState, node_bound}
+use Rattle.commit_turns.specs.Recorded.{IsRecorded}
 use Rattle.flush_core.specs.Closure.{Flush}
 use Rattle.flush_core.specs.Cut.{Cut}
 use Rattle.crash_laws.specs.SoFar.{SoFar, Stands, StandsSoFar}
@@ -14,16 +17,20 @@ use Rattle.volume_one.specs.Fsync.{HoldsVolume}
 use Rattle.volume_one.specs.Stands.{Remembers}
 use Rattle.scalefs_run.specs.Acks.{AcksRise}
 use Rattle.scalefs_run.specs.Replies.{HasAnswers, HasAnswersSoFar}
+use Rattle.scalefs_run.specs.Turns.{TurnsSoFar}
 use Rattle.scalefs_run.specs.declared.engine.Engine.{Engine}
 
 -- What is in hand belongs to a history: the engine's volume remembers it, and its entries are those made so far. There are as many cores as
--- the layout has, which lies on the disk, and each fsync is answered for its cause, where the disk began with `start` faults.
-pub record RunStands (start : ℕ) (kept : Volume) (engine : Engine) (disk : View) : Type 0 where
+-- the layout has, which lies on the disk, and no more nodes than there are numbers for. Each fsync is answered for its cause, and the turns so far
+-- tell what each did, where the disk began with `start` faults and its image told this.
+pub record RunStands (start : ℕ) (image : ImageState) (kept : Volume) (engine : Engine) (disk : View) : Type 0 where
   pub remembers : Remembers kept engine.volume
   pub history : kept.history ≡ engine.entries.items
   pub cores : length kept.first.made ≡ engine.volume.layout.cores
   pub large : engine.volume.layout.blocks ≤ disk.size
+  pub few : node_bound kept.first ≤ 2 ^ 32
   pub answers : HasAnswersSoFar start disk.faults kept.first kept.history engine.volume.failed
+  pub turns : TurnsSoFar start image kept disk.faults engine.turns.items engine.volume.failed
 
 -- What a crash may have left so far, by whether a commit has failed: while none has, the volume stands, and the disk holds it.
 abbrev pub StandsNow : ℕ → ℕ → Volume → View → Option ℕ → Type 0
@@ -37,19 +44,20 @@ pub record IsSafe (share from : ℕ) (kept : Volume) (failed : Option ℕ) (disk
   pub acks : AcksRise from kept.history disk.now
 
 -- A run has gone on from what stood: what stands now begins with the same tree, and what was safe is safe.
-pub record HasGoneOn (start : ℕ) (kept : Volume) (old new : Engine) (before after : View) : Type 0 where
+pub record HasGoneOn (start : ℕ) (image : ImageState) (kept : Volume) (old new : Engine) (before after : View) : Type 0 where
   pub later : Volume
   pub first : later.first ≡ kept.first
-  pub stands : RunStands start later new after
+  pub stands : RunStands start image later new after
   pub safe : (share from : ℕ) → CountsOn after → IsSafe share from kept old.volume.failed before → IsSafe share from later new.volume.failed after
 
 -- it stands somehow
 abbrev pub HasInvariant : Engine → View → Type 0
-HasInvariant engine disk = (start : ℕ) × (kept : Volume) × RunStands start kept engine disk
+HasInvariant engine disk = (start : ℕ) × (image : ImageState) × (kept : Volume) × RunStands start image kept engine disk
 
 -- however it stood, it has gone on
 abbrev pub KeepsInvariant : Engine → Engine → View → View → Type 0
-KeepsInvariant old new before after = (start : ℕ) (kept : Volume) → RunStands start kept old before → HasGoneOn start kept old new before after
+KeepsInvariant old new before after =
+    (start : ℕ) (image : ImageState) (kept : Volume) → RunStands start image kept old before → HasGoneOn start image kept old new before after
 
 -- fsyncs have raised a cut, and the disk holds the tree there
 pub record StandsAtEnd (share : ℕ) (first : TreeState) (history : List Entry) (disk : View) : Type 0 where
@@ -64,13 +72,15 @@ pub record IsSafeEnd (share from : ℕ) (first : TreeState) (history : List Entr
   pub ends : StandsAtEnd share first history disk ⊎ HasFailure history
   pub acks : AcksRise from history disk.now
 
--- A run has ended that stood before: its history is legal, each fsync is answered for its cause, and what was safe is safe.
-pub record HasEnded (start : ℕ) (kept : Volume) (failed : Option ℕ) (history : List Entry) (before after : View) : Type 0 where
+-- A run has ended that stood before: its history is legal, each fsync is answered for its cause, its turns are recorded, and what was safe is safe.
+pub record HasEnded (start : ℕ) (image : ImageState) (kept : Volume) (failed : Option ℕ) (history : List Entry) (turns : List Turn) (before after : View) : Type 0 where
   pub legal : IsLegal kept.first history
   pub answers : HasAnswers start after.faults kept.first history
+  pub recorded : IsRecorded kept.first history image start after.faults turns
   pub safe : (share from : ℕ) → CountsOn after → IsSafe share from kept failed before → IsSafeEnd share from kept.first history after
 
 -- however it stood, it has ended
 abbrev pub EndsRun : Engine → Engine → View → View → Type 0
 EndsRun old new before after =
-    (start : ℕ) (kept : Volume) → RunStands start kept old before → HasEnded start kept old.volume.failed new.entries.items before after
+    (start : ℕ) (image : ImageState) (kept : Volume) → RunStands start image kept old before
+    → HasEnded start image kept old.volume.failed new.entries.items new.turns.items before after

@@ -3,6 +3,7 @@ use Rattle.std.specs.Prelude.{◌≡◌, ℕ, Bool, true, false, List, [], ◌�
 use Rattle.sfs_base.specs.Ends.{HasRisen}
 use Rattle.sfs_image.specs.Settled.{layout_of}
 use Rattle.sfs_tree.specs.declared.history.Entry.{Entry}
+use Rattle.sfs_tree.specs.declared.turns.Turn.{Turn}
 use Rattle.sfs_tree.specs.History.{IsLegal}
 use Rattle.sfs_tree.specs.Laws.{IsSoundTree}
 use Rattle.sfs_tree.specs.Tree.{TreeState}
@@ -21,6 +22,7 @@ use Rattle.scalefs_run.specs.Image.{IsImageRefused}
 use Rattle.scalefs_run.specs.Images.{IfQuiet, HasImagesBy}
 use Rattle.scalefs_run.specs.Outcome.{IsOf, HasStatus, HasHistory, HasText}
 use Rattle.scalefs_run.specs.Replies.{HasAnswers}
+use Rattle.scalefs_run.specs.Turns.{HasTurnsBy}
 
 -- whether the image was mounted and the script begun: memory may have been refused before its first call
 abbrev pub was_mounted : Status → List Entry → Bool
@@ -43,10 +45,10 @@ pub record IsFirstTree (nodes : ℕ) (old : View) (first : TreeState) : Type 0 w
   pub sound : IsSoundTree first
   pub told : IfTold old.content (λ image. tree_of image (share_of_nodes nodes (layout_of image)) ≡ Some first)
 
--- A run over a script with these phases, in which so many nodes may be made, ended with this status and this history.
+-- A run over a script with these phases, in which so many nodes may be made, ended with this status, this history and these turns.
 -- `Source` and `Sink` say that the count of faults of the source or of the sink rose; before and after are what was
 -- written to the sink, old and new are the disk.
-pub record Served (due_by : Judgement → Status) (nodes : ℕ) (phases : List (List Line)) (Source Sink : Type 0) (before after : Option (List ℕ)) (old new : View) (status : Status) (history : List Entry) : Type 0 where
+pub record Served (due_by : Judgement → Status) (nodes : ℕ) (phases : List (List Line)) (Source Sink : Type 0) (before after : Option (List ℕ)) (old new : View) (status : Status) (history : List Entry) (turns : List Turn) : Type 0 where
   -- the status has its cause
   pub caused : IsCaused due_by Source Sink old new status
   -- the tree of the image that was mounted
@@ -60,10 +62,12 @@ pub record Served (due_by : Judgement → Status) (nodes : ℕ) (phases : List (
   pub text : HasText (history_text history) before after status
   -- each fsync is answered as it is for its cause
   pub answers : HasAnswers old.faults new.faults first history
+  -- its turns at the disk tell what each fsync did
+  pub turns_are : HasTurnsBy (was_mounted status history) old new first history turns
   -- what a crash leaves at each moment, and what a read gives at the end
   pub images : IfQuiet old new (HasImagesBy (was_mounted status history) nodes first old new history)
 
 -- the same of the script that the source gave
-abbrev pub ServedScript : ℕ → Option (List ℕ) → Type 0 → Type 0 → Option (List ℕ) → Option (List ℕ) → View → View → Status → List Entry → Type 0
-ServedScript nodes left Source Sink before after old new status history =
-    (script : List ℕ) × IsOf left script × Served (λ judged. due judged script) nodes (phases_in (phases_of script)) Source Sink before after old new status history
+abbrev pub ServedScript : ℕ → Option (List ℕ) → Type 0 → Type 0 → Option (List ℕ) → Option (List ℕ) → View → View → Status → List Entry → List Turn → Type 0
+ServedScript nodes left Source Sink before after old new status history turns =
+    (script : List ℕ) × IsOf left script × Served (λ judged. due judged script) nodes (phases_in (phases_of script)) Source Sink before after old new status history turns

@@ -20,19 +20,21 @@ ghost use Rattle.scalefs_run.specs.Made.{Grown, ByWorker, ByWorkerWhole};
 ghost use Rattle.scalefs_run.specs.RunInvariant.{HasInvariant, KeepsInvariant, EndsRun};
 ghost use Rattle.scalefs_run.specs.WithoutCore.{HaveCores};
 
+use crate::turns::{Counts, add_turns};
 use recovery::RecoverFault;
 use script::{Phase, Worker};
 use sfs_base::{CoreId, NoMemory, Stamp};
 use sfs_dev::Disk;
-use sfs_tree::{Call, Entry};
+use sfs_tree::{Call, Entry, Turns};
 use std::alloc::Global;
 use volume_one::{Deed, Flushed, OpenVolume, open};
 
-/// What a run has in hand: its volume, and the calls so far.
+/// What a run has in hand: its volume, the calls so far, and the turns of their fsyncs at the disk.
 #[derive(Drop)]
 pub struct Engine {
     pub volume: OpenVolume,
     pub entries: Vec<Entry>,
+    pub turns: Turns,
 }
 
 /// Mounts a disk: a volume in whose tree `nodes` new nodes may be made, shared among the cores, and no
@@ -50,6 +52,7 @@ pub fn mount<D: Disk>(alloc: Global, nodes: u32, disk: &mut D) -> Result<Engine,
     Ok(Engine {
         volume,
         entries: Vec::new(alloc),
+        turns: Turns::new(alloc),
     })
 }
 
@@ -140,7 +143,7 @@ fn answer<D: Disk>(
     ensures other { is_fsync call.now ≡ false → IfOk result (IsCallAnswered (disk.new ≡ disk.old) stamp core call.now engine.old engine.new) }
     ensures fsync { (node : NodeId) → call.now ≡ Fsync node
         → IfOk result (IsFsyncAnswered (disk.new ≡ disk.old) stamp core node engine.old engine.new (D.view disk.old) (D.view disk.new)) }
-    ensures err { OnErr result ((disk.new ≡ disk.old) × (engine.new.entries ≡ engine.old.entries)) }
+    ensures err { OnErr result ((disk.new ≡ disk.old) × (engine.new.entries ≡ engine.old.entries) × (engine.new.turns ≡ engine.old.turns)) }
     ensures advances { Advances (D.view disk.old) (D.view disk.new) }
 {
     match call {
@@ -170,14 +173,24 @@ fn serve_call<D: Disk>(
     ensures advances { Advances (D.view disk.old) (D.view disk.new) }
 {
     engine.entries.reserve(1)?;
+    engine.turns.reserve(4)?;
     let stamp = Stamp(engine.entries.len() as u64);
+    let (calls_before, faults_before) = (disk.now(), disk.faults());
     let flushed = answer(engine, disk, stamp, core, &call)?;
-    engine.entries.push_reserved(Entry {
+    let entry = Entry {
         stamp,
         core,
         call,
         reply: flushed.reply,
         ack: flushed.ack,
-    });
+    };
+    let counts = Counts {
+        calls_before,
+        calls_after: disk.now(),
+        faults_before,
+        faults_after: disk.faults(),
+    };
+    add_turns(&mut engine.turns, &entry, &counts, flushed.deed);
+    engine.entries.push_reserved(entry);
     Ok(())
 }

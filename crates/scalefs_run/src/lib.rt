@@ -5,6 +5,7 @@ mod engine;
 mod image;
 mod outcome;
 mod top;
+mod turns;
 mod without_core;
 mod words;
 

@@ -12,7 +12,7 @@ ghost use Rattle.scalefs_run.specs.Outcome.{IsOf, HasText, IsWriteStatus, HasRea
 ghost use Rattle.scalefs_run.specs.Words.{MOST_NODES, IsInRange, command_asked};
 ghost use Rattle.scalefs_run.specs.Served.{Served, ServedScript};
 
-use crate::engine::{core_count, mount, serve};
+use crate::engine::{Engine, core_count, mount, serve};
 use crate::image::{make_image, show_image, status_of_recovery, write_text};
 use crate::without_core::first_worker_without_core;
 use crate::words::{Command, command_asked};
@@ -41,36 +41,38 @@ pub fn run<R: Threads + Wait + Sync, S: Source, K: Sink, D: Disk, G: Gate>(
     _gate: &G,
 ) -> Outcome<D>
     ensures served { ServedWords (command_asked (map string_bytes words.now)) (S.left source.old) (HasRisen (S.faults source.old) (S.faults source.new)) (HasRisen (K.faults sink.old) (K.faults sink.new))
-        (K.written sink.old) (K.written sink.new) (D.view disk) (D.view result.disk) result.status result.history }
+        (K.written sink.old) (K.written sink.new) (D.view disk) (D.view result.disk) result.status result.history result.turns.items }
     ensures untouched { reaches_disk result.status ≡ false → result.disk ≡ disk }
-    ensures turns { result.turns.items ≡ [] }
     ensures advances { Advances (D.view disk) (D.view result.disk) }
 {
-    let (status, history) = serve_words(alloc, words, source, sink, &mut disk);
+    let (status, history, turns) = serve_words(alloc, words, source, sink, &mut disk);
     Outcome {
         status,
         history,
-        turns: Turns::new(alloc),
+        turns,
         disk,
     }
 }
 
-// The status and the history of a call.
+// The status, the history and the turns of a call.
 fn serve_words<S: Source, K: Sink, D: Disk>(
     alloc: Global,
     words: &[String],
     source: &mut S,
     sink: &mut K,
     disk: &mut D,
-) -> (Status, History)
+) -> (Status, History, Turns)
     ensures served { ServedWords (command_asked (map string_bytes words.now)) (S.left source.old) (HasRisen (S.faults source.old) (S.faults source.new)) (HasRisen (K.faults sink.old) (K.faults sink.new))
-        (K.written sink.old) (K.written sink.new) (D.view disk.old) (D.view disk.new) result.0 result.1 }
+        (K.written sink.old) (K.written sink.new) (D.view disk.old) (D.view disk.new) result.0 result.1 result.2.items }
     ensures untouched { reaches_disk result.0 ≡ false → disk.new ≡ disk.old }
     ensures advances { Advances (D.view disk.old) (D.view disk.new) }
 {
     match command_asked(words) {
         Ok(command) => serve_command(alloc, command, source, sink, disk),
-        Err(place) => (Status::BadWords { place }, History::new(alloc)),
+        Err(place) => {
+            let status = Status::BadWords { place };
+            (status, History::new(alloc), Turns::new(alloc))
+        },
     }
 }
 
@@ -81,10 +83,10 @@ fn serve_command<S: Source, K: Sink, D: Disk>(
     source: &mut S,
     sink: &mut K,
     disk: &mut D,
-) -> (Status, History)
+) -> (Status, History, Turns)
     requires ranges { IsInRange command }
     ensures served { ServedCommand command (S.left source.old) (HasRisen (S.faults source.old) (S.faults source.new)) (HasRisen (K.faults sink.old) (K.faults sink.new))
-        (K.written sink.old) (K.written sink.new) (D.view disk.old) (D.view disk.new) result.0 result.1 }
+        (K.written sink.old) (K.written sink.new) (D.view disk.old) (D.view disk.new) result.0 result.1 result.2.items }
     ensures untouched { reaches_disk result.0 ≡ false → disk.new ≡ disk.old }
     ensures advances { Advances (D.view disk.old) (D.view disk.new) }
 {
@@ -101,11 +103,11 @@ fn serve_command<S: Source, K: Sink, D: Disk>(
                 slots: 1,
             };
             let status = make_image(alloc, &layout, sink, disk);
-            (status, History::new(alloc))
+            (status, History::new(alloc), Turns::new(alloc))
         }
         Command::Show => {
             let status = show_image(alloc, sink, disk);
-            (status, History::new(alloc))
+            (status, History::new(alloc), Turns::new(alloc))
         }
         Command::Run { nodes } => serve_source(alloc, nodes, source, sink, disk),
     }
@@ -118,15 +120,15 @@ fn serve_source<S: Source, K: Sink, D: Disk>(
     source: &mut S,
     sink: &mut K,
     disk: &mut D,
-) -> (Status, History)
+) -> (Status, History, Turns)
     requires most { nodes ≤ MOST_NODES }
     ensures served { ServedScript nodes (S.left source.old) (HasRisen (S.faults source.old) (S.faults source.new)) (HasRisen (K.faults sink.old) (K.faults sink.new))
-        (K.written sink.old) (K.written sink.new) (D.view disk.old) (D.view disk.new) result.0 result.1 }
+        (K.written sink.old) (K.written sink.new) (D.view disk.old) (D.view disk.new) result.0 result.1 result.2.items }
     ensures untouched { reaches_disk result.0 ≡ false → disk.new ≡ disk.old }
     ensures advances { Advances (D.view disk.old) (D.view disk.new) }
 {
     match read_script(alloc, source) {
-        Err(status) => (status, History::new(alloc)),
+        Err(status) => (status, History::new(alloc), Turns::new(alloc)),
         Ok(script) => serve_script(alloc, nodes, &script, sink, disk),
     }
 }
@@ -177,17 +179,20 @@ fn serve_script<K: Sink, D: Disk>(
     script: &Script,
     sink: &mut K,
     disk: &mut D,
-) -> (Status, History)
+) -> (Status, History, Turns)
     requires most { nodes ≤ MOST_NODES }
     requires ready { All LinesMayRun script.now }
     ensures served { Served (λ judged. judged_status judged script.now) nodes script.now ⊥ (HasRisen (K.faults sink.old) (K.faults sink.new))
-        (K.written sink.old) (K.written sink.new) (D.view disk.old) (D.view disk.new) result.0 result.1 }
+        (K.written sink.old) (K.written sink.new) (D.view disk.old) (D.view disk.new) result.0 result.1 result.2.items }
     ensures reached { reaches_disk result.0 ≡ true }
     ensures advances { Advances (D.view disk.old) (D.view disk.new) }
 {
     let mut engine = match mount(alloc, nodes, disk) {
         Ok(engine) => engine,
-        Err(fault) => return (status_of_recovery(fault), History::new(alloc)),
+        Err(fault) => {
+            let status = status_of_recovery(fault);
+            return (status, History::new(alloc), Turns::new(alloc));
+        }
     };
     let have = core_count(&engine);
     if let Some(asked) = first_worker_without_core(script.phases(), have) {
@@ -195,15 +200,20 @@ fn serve_script<K: Sink, D: Disk>(
             asked: u32::from(asked),
             have: u32::from(have),
         };
-        return (status, History::new(alloc));
+        return (status, History::new(alloc), Turns::new(alloc));
     }
     let served = serve(&mut engine, disk, script.phases());
-    let history = History::from_entries(engine.entries);
+    let Engine {
+        volume: _,
+        entries,
+        turns,
+    } = engine;
+    let history = History::from_entries(entries);
     let status = match served {
         Err(_) => Status::NoMemory,
         Ok(()) => write_history(alloc, &history, sink),
     };
-    (status, history)
+    (status, history, turns)
 }
 
 // Writes the text of a history.

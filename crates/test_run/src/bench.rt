@@ -2,7 +2,7 @@
 use scalefs_run::{Outcome, Status, run};
 use sfs_base::{BytesSink, BytesSource, NoGate};
 use sfs_dev::{Act, Disk, Memory};
-use sfs_tree::History;
+use sfs_tree::{History, Turns};
 use std::alloc::Global;
 use std::process::Abort;
 use std::sync::Wait;
@@ -14,6 +14,7 @@ use std::thread::Threads;
 pub struct Ran<D> {
     pub status: Status,
     pub history: History,
+    pub turns: Turns,
     pub text: Vec<u8>,
     pub disk: D,
 }
@@ -117,11 +118,11 @@ pub fn run_between<R: Threads + Wait + Sync + Abort, D: Disk + Drop>(
         turns,
         disk,
     } = run(rt, alloc, words, &mut source, &mut sink, disk, &NoGate);
-    assert!(rt; turns.is_empty());
     let text = Vec::from_slice(alloc, sink.bytes())?;
     Ok(Ran {
         status,
         history,
+        turns,
         text,
         disk,
     })

@@ -24,4 +24,6 @@ mod sweeps;
 #[cfg(test)]
 mod table;
 #[cfg(test)]
+mod turns;
+#[cfg(test)]
 mod words;

@@ -11,7 +11,7 @@ use Rattle.sfs_base.proofs.BasicOptions.{on_err}
 
 pub core_count-core-end-requires : goal.core_count-core-end-requires
 core_count-core-end-requires g c =
-    let disk = c.requires.invariant.2.remembers.disk in
+    let disk = c.requires.invariant.3.remembers.disk in
     subst (λ (l : Layout). l.cores ≤ 16) (sym disk.layout) disk.fits.ranges.cores_high
 
 pub serve_worker-requires-clause-invariant : goal.serve_worker-requires-clause-invariant

@@ -1,0 +1,116 @@
+-- The turns at the disk of one fsync, by what it did, and those of a run.
+use Rattle.std.specs.Prelude.{◌≡◌, ℕ, ◌+◌, ◌-◌, ◌≤◌, Bool, true, false, List, [], ◌∷◌, length, unwrap_or, Option, None, Some}
+use Rattle.std.specs.FinMap.{empty}
+use Rattle.sfs_base.specs.declared.numbers.NodeId.{NodeId}
+use Rattle.sfs_image.specs.ImageOf.{IsImageOf}
+use Rattle.sfs_image.specs.Part.{Part}
+use Rattle.sfs_image.specs.Super.{Layout}
+use Rattle.sfs_tree.specs.declared.call.Call.{Call}
+use Rattle.sfs_tree.specs.declared.call.Call.TheVariants as call
+use Rattle.sfs_tree.specs.declared.history.Entry.{Entry}
+use Rattle.sfs_tree.specs.declared.reply.Reply.{Reply}
+use Rattle.sfs_tree.specs.declared.reply.Reply.TheVariants as reply
+use Rattle.sfs_tree.specs.declared.turns.Turn.{Turn}
+use Rattle.sfs_tree.specs.declared.turns.TurnAct.TheVariants as act
+use Rattle.sfs_tree.specs.Tree.{TreeState}
+use Rattle.sfs_dev.specs.Disk.{View}
+use Rattle.image_tree.specs.Image.{inodes_shown}
+use Rattle.image_tree.specs.Renamed.{Numbering}
+use Rattle.image_tree.specs.Stands.{StandsForTree}
+use Rattle.commit_one.specs.Change.{nothing_open}
+use Rattle.flush_core.specs.Cut.{tree_at_cut}
+use Rattle.flush_core.specs.Rules.{IsOneOf}
+use Rattle.commit_turns.specs.Need.{ImageState}
+use Rattle.commit_turns.specs.OneThread.{TurnsStand, TurnsFailed, turn_of}
+use Rattle.commit_turns.specs.Recorded.{IsRecorded}
+use Rattle.space_laws.specs.Laws.{state_of_parts}
+use Rattle.turn_ties.specs.Plans.{rest_of}
+use Rattle.volume_laws.specs.Volume.{Volume}
+use Rattle.volume_one.specs.declared.deed.Deed.{Deed}
+use Rattle.volume_one.specs.declared.deed.Deed.TheVariants as deed
+use Rattle.scalefs_run.specs.Images.{IfQuiet}
+use Rattle.scalefs_run.specs.declared.turns.Counts.{Counts}
+
+-- the number of the commit of an fsync: no two fsyncs have one stamp
+abbrev pub commit_of : Entry → ℕ
+commit_of entry = entry.stamp.0 + 1
+
+-- the moment at which an entry was acknowledged, or 0
+abbrev pub moment_of : Entry → ℕ
+moment_of entry = unwrap_or entry.ack 0
+
+-- the turn of an fsync that found too little
+abbrev pub short_turns : Entry → NodeId → Counts → Reply → List Turn
+short_turns entry node counts (reply.NoSpace kind need free) = turn_of entry node 0 counts.calls_before counts.faults_before (act.Short kind need free) ∷ []
+short_turns entry node counts _ = []
+
+-- The turns of an fsync of a node, by what it did. What was reserved was so at its begin, and so its cut was taken; the gate was opened by
+-- the device call before the sync by which the commit was durable, at the moment of the acknowledgement.
+abbrev pub turns_of : Entry → NodeId → Counts → Deed → List Turn
+turns_of entry node counts deed.Nothing = []
+turns_of entry node counts deed.Halted = turn_of entry node 0 counts.calls_before counts.faults_before act.Halted ∷ []
+turns_of entry node counts deed.Short = short_turns entry node counts entry.reply
+turns_of entry node counts deed.GivenBack =
+    turn_of entry node 0 counts.calls_before counts.faults_before act.Granted
+    ∷ turn_of entry node 0 counts.calls_before counts.faults_before act.GivenBack ∷ []
+turns_of entry node counts deed.Empty =
+    turn_of entry node (commit_of entry) (moment_of entry) counts.faults_before act.CutAt
+    ∷ turn_of entry node (commit_of entry) (moment_of entry) counts.faults_before act.Opened
+    ∷ turn_of entry node (commit_of entry) (moment_of entry) counts.faults_before act.Durable ∷ []
+turns_of entry node counts deed.Committed =
+    turn_of entry node (commit_of entry) counts.calls_before counts.faults_before act.Granted
+    ∷ turn_of entry node (commit_of entry) counts.calls_before counts.faults_before act.CutAt
+    ∷ turn_of entry node (commit_of entry) (moment_of entry - 1) counts.faults_before act.Opened
+    ∷ turn_of entry node (commit_of entry) (moment_of entry) counts.faults_before act.Durable ∷ []
+turns_of entry node counts (deed.Failed opened) =
+    turn_of entry node (commit_of entry) counts.calls_before counts.faults_before act.Granted
+    ∷ turn_of entry node (commit_of entry) counts.calls_before counts.faults_before act.CutAt
+    ∷ turn_of entry node (commit_of entry) counts.calls_after counts.faults_after act.Fail ∷ []
+
+-- the turns that an entry takes: a call other than an fsync takes none
+abbrev pub turns_by : Call → Entry → Counts → Deed → List Turn
+turns_by (call.Fsync node) entry counts did = turns_of entry node counts did
+turns_by _ entry counts did = []
+
+abbrev pub turns_told : Entry → Counts → Deed → List Turn
+turns_told entry counts did = turns_by entry.call entry counts did
+
+-- While no commit has failed, the turns so far stand over the volume, where the disk has this count of faults, and no commit has a number past
+-- the count of calls.
+pub record HaveTurns (image : ImageState) (kept : Volume) (faults : ℕ) (turns : List Turn) : Type 0 where
+  pub used : List ℕ
+  pub below : (commit : ℕ) → IsOneOf used commit → commit ≤ length kept.history
+  pub stand : TurnsStand kept.first kept.history image faults turns (rest_of kept used)
+
+-- Once one has failed, the turns have failed with that count, from a count on that is not below `start`.
+pub record HaveFailed (start : ℕ) (image : ImageState) (kept : Volume) (turns : List Turn) (failed : ℕ) : Type 0 where
+  pub before : ℕ
+  pub since : start ≤ before
+  pub fail : TurnsFailed kept.first kept.history image before failed turns
+
+-- what is known of the turns so far, by whether a commit has failed
+abbrev pub TurnsSoFar : ℕ → ImageState → Volume → ℕ → List Turn → Option ℕ → Type 0
+TurnsSoFar start image kept faults turns None = HaveTurns image kept faults turns
+TurnsSoFar start image kept faults turns (Some failed) = HaveFailed start image kept turns failed
+
+-- What an image has to tell at the begin of a run: some parts that stand for its tree, under some numbering of its nodes; and where the disk told
+-- its content and nothing was pending, at some moment of the call each image that a crash may leave stands for these parts.
+pub record IsImageAtFirst (old new : View) (first : TreeState) (image : ImageState) : Type 0 where
+  pub num : Numbering
+  pub layout : Layout
+  pub parts : ℕ → Part
+  pub is : image ≡ state_of_parts num layout parts
+  pub stands : StandsForTree num (tree_at_cut first [] empty) (inodes_shown layout parts)
+  pub told : IfQuiet old new (λ content. (moment : ℕ) × (old.now ≤ moment) × (moment ≤ new.now)
+      × ((left : List ℕ) → new.crash_images moment left → IsImageOf layout nothing_open parts left))
+
+-- The turns of a run are recorded, over an image that stands at its begin.
+pub record HasTurns (old new : View) (first : TreeState) (history : List Entry) (turns : List Turn) : Type 0 where
+  pub image : ImageState
+  pub image_is : IsImageAtFirst old new first image
+  pub recorded : IsRecorded first history image old.faults new.faults turns
+
+-- the same by whether the image was mounted: where it was not, there are none
+abbrev pub HasTurnsBy : Bool → View → View → TreeState → List Entry → List Turn → Type 0
+HasTurnsBy true old new first history turns = HasTurns old new first history turns
+HasTurnsBy false old new first history turns = turns ≡ []
