@@ -32,7 +32,7 @@ fn main(rt: HostRuntime) -> io::Result<()> {
         };
         let start = Instant::now(&rt)?;
         let found = measured(&rt, alloc, script, disk);
-        let passed = start.elapsed(&rt)?.as_micros() as u64;
+        let passed = start.elapsed(&rt)?.as_micros();
         let Ok(figures) = found else {
             println!(rt; "{name}: no memory")?;
             return Ok(());
@@ -71,8 +71,8 @@ fn is_measure(words: &[String]) -> bool {
 }
 
 // How many a second, where so many took so many microseconds.
-fn a_second(count: u64, micros: u64) -> u64 {
-    count.saturating_mul(1_000_000) / micros.max(1)
+fn a_second(count: u64, micros: u128) -> u128 {
+    u128::from(count).saturating_mul(1_000_000) / micros.max(1)
 }
 
 // How many in a hundred items, where so many items took so many.

@@ -1,8 +1,7 @@
 // How many device calls a run makes besides those of its mount. A commit that writes b blocks and r inode records makes b + r + 9:
 // besides these the numbers, the records and the head of its journal slot, a sync, the gate, a sync, and after the records in
 // the table a sync, the gate, a sync. An fsync with nothing to write makes none.
-use crate::bench::{SMALL, assert_text, copy_of, image, run_script};
-use scalefs_run::Status;
+use crate::bench::{SMALL, copy_of, image, run_script};
 use sfs_dev::{Act, Disk, Memory};
 use sfs_tree::History;
 use std::alloc::Global;
@@ -89,40 +88,42 @@ fn assert_at_end(moment: u64, disk: &Memory) -> Result<(), Fail> {
     }
 }
 
-// Asserts the calls of each of these.
-fn assert_runs<R: Threads + Wait + Sync + Abort>(
+// How many device calls a mount of this disk makes.
+fn calls_of_mount<R: Threads + Wait + Sync + Abort>(
     rt: &R,
     alloc: Global,
+    disk: &Memory,
+) -> Result<u64, Fail> {
+    let ran = run_script(rt, alloc, b"".as_slice(), copy_of(alloc, disk)?)?;
+    Ok(ran.disk.now())
+}
+
+// Asserts the calls of each of these on a copy of this disk.
+fn assert_counts<R: Threads + Wait + Sync + Abort>(
+    rt: &R,
+    alloc: Global,
+    disk: &Memory,
     cases: &[(&str, &[u64])],
 ) -> Result<(), Fail> {
-    let image = image(rt, alloc, SMALL)?;
-    let mount = run_script(rt, alloc, b"".as_slice(), copy_of(alloc, &image)?)?
-        .disk
-        .now();
+    let mount = calls_of_mount(rt, alloc, disk)?;
     for (script, due) in cases {
-        let ran = run_script(rt, alloc, script.as_bytes(), copy_of(alloc, &image)?)?;
-        assert_eq!(rt; ran.status, Status::Done, "{script}");
+        let ran = run_script(rt, alloc, script.as_bytes(), copy_of(alloc, disk)?)?;
         let counts = calls_of_commits(alloc, &ran.disk, mount)?;
-        assert_eq!(rt; counts.as_slice(), *due, "{script}");
+        assert!(rt; counts.as_slice() == *due, "{script}");
     }
     Ok(())
 }
 
 #[test]
 fn a_commit_makes_nine_calls_besides_its_blocks_and_records(rt: HostRuntime) -> Result<(), Fail> {
-    assert_runs(&rt, rt.alloc(), &FIRST_RUNS)
+    let disk = image(&rt, rt.alloc(), SMALL)?;
+    assert_counts(&rt, rt.alloc(), &disk, &FIRST_RUNS)
 }
 
-// A disk with this tree: a directory `a` and a file `f` of one byte.
-fn flushed<R: Threads + Wait + Sync + Abort>(rt: &R, alloc: Global) -> Result<Memory, Fail> {
-    let script = "0 mkdir /a\n0 create /f\n0 write /f 0 61\n0 fsync /f\n";
-    let text =
-        "0 0 mkdir 0 a = node 64 dir\n1 0 create 0 f = node 65 file\n2 0 look 0 f = node 65 file\n3 0 write 65 0 61 = ok\n4 0 look 0 f = node 65 file\n5 0 fsync 65 = ok\n";
-    let disk = assert_text(rt, alloc, script, image(rt, alloc, SMALL)?, text)?;
-    copy_of(alloc, &disk)
-}
+// A directory `a` and a file `f` of one byte.
+static TWO_NODES: &str = "0 mkdir /a\n0 create /f\n0 write /f 0 61\n0 fsync /f\n";
 
-// Scripts on that disk with the calls of each of their commits.
+// Scripts on the disk that has these, with the calls of each of their commits.
 static SECOND_RUNS: [(&str, &[u64]); 5] = [
     ("0 fsync /\n0 fsync /a\n0 fsync /f\n", &[]),
     // What went and came back.
@@ -141,44 +142,33 @@ static SECOND_RUNS: [(&str, &[u64]); 5] = [
 #[test]
 fn a_second_run_writes_what_is_not_there_yet(rt: HostRuntime) -> Result<(), Fail> {
     let alloc = rt.alloc();
-    let disk = flushed(&rt, alloc)?;
-    let mount = run_script(&rt, alloc, b"".as_slice(), copy_of(alloc, &disk)?)?
-        .disk
-        .now();
-    assert_again(&rt, alloc, &disk, mount, &SECOND_RUNS)
+    let ran = run_script(&rt, alloc, TWO_NODES.as_bytes(), image(&rt, alloc, SMALL)?)?;
+    let disk = copy_of(alloc, &ran.disk)?;
+    assert_counts(&rt, alloc, &disk, &SECOND_RUNS)
 }
 
-fn assert_again<R: Threads + Wait + Sync + Abort>(
-    rt: &R,
-    alloc: Global,
-    disk: &Memory,
-    mount: u64,
-    cases: &[(&str, &[u64])],
-) -> Result<(), Fail> {
-    for (script, due) in cases {
-        let ran = run_script(rt, alloc, script.as_bytes(), copy_of(alloc, disk)?)?;
-        let counts = calls_of_commits(alloc, &ran.disk, mount)?;
-        assert_eq!(rt; counts.as_slice(), *due, "{script}");
-    }
-    Ok(())
-}
+// An fsync with nothing to write, one that brings a directory, one with nothing again, one that brings another.
+static FOUR_FSYNCS: &str = "0 fsync /\n0 mkdir /a\n0 fsync /\n0 fsync /\n0 mkdir /b\n0 fsync /b\n";
+
+// Behind the mount: at once; after a block, three writes of the slot, a sync, the gate and a sync; at the end of that commit; and
+// the same again.
+static ACKNOWLEDGED: [u64; 4] = [0, 7, 12, 19];
 
 #[test]
 fn an_fsync_is_acknowledged_at_the_sync_behind_its_gate(rt: HostRuntime) -> Result<(), Fail> {
     let alloc = rt.alloc();
     let image = image(&rt, alloc, SMALL)?;
-    let mount = run_script(&rt, alloc, b"".as_slice(), copy_of(alloc, &image)?)?
-        .disk
-        .now();
-    let script =
-        b"0 fsync /\n0 mkdir /a\n0 fsync /\n0 fsync /\n0 mkdir /b\n0 fsync /b\n".as_slice();
-    let ran = run_script(&rt, alloc, script, image)?;
-    // A block, three writes of the slot, a sync, the gate and a sync; or at once.
-    let due = [0, 7, 12, 19].map(|calls: u64| calls.saturating_add(mount));
-    assert_eq!(rt;
-        acknowledged(alloc, &ran.history)?.as_slice(),
-        due.as_slice()
-    );
-    assert_eq!(rt; ran.disk.now(), mount.saturating_add(24));
+    let mount = calls_of_mount(&rt, alloc, &image)?;
+    let ran = run_script(&rt, alloc, FOUR_FSYNCS.as_bytes(), image)?;
+    let moments = acknowledged(alloc, &ran.history)?;
+    assert_behind(&rt, mount, &moments, &ACKNOWLEDGED);
     Ok(())
+}
+
+// Asserts that the moments are these, counted from the end of the mount on.
+fn assert_behind(rt: &impl Abort, mount: u64, moments: &[u64], due: &[u64]) {
+    assert_eq!(rt; moments.len(), due.len());
+    for (moment, due) in moments.iter().zip(due) {
+        assert_eq!(rt; moment.saturating_sub(mount), *due);
+    }
 }

@@ -1,5 +1,6 @@
 // Scripts over the image with few inodes, with their texts and the tree that is shown afterwards, worked out by hand.
 use crate::bench::{SMALL, assert_shown, assert_text, image, run_script};
+use sfs_dev::Memory;
 use std::alloc::Global;
 use std::process::Abort;
 use std::sync::Wait;
@@ -91,25 +92,44 @@ fn what_was_removed_is_gone(rt: HostRuntime) -> Result<(), Fail> {
     assert_rows(&rt, rt.alloc(), &REMOVALS)
 }
 
-// A file that is flushed, given a name in another directory, and loses its first one.
-const MOVED: &str =
-    "0 mkdir /p\n0 mkdir /q\n0 create /p/f\n0 write /p/f 0 6869\n0 fsync /p/f\n0 link /p/f /q/f\n0 unlink /p/f\n0 fsync /p\n";
+// A file that is flushed, given a name in another directory, and loses its first one: the first directory is flushed, then both.
+static MOVED: [Row; 1] = [(
+    "0 mkdir /p\n0 mkdir /q\n0 create /p/f\n0 write /p/f 0 6869\n0 fsync /p/f\n0 link /p/f /q/f\n0 unlink /p/f\n0 fsync /p\n",
+    "0 0 mkdir 0 p = node 64 dir\n1 0 mkdir 0 q = node 65 dir\n2 0 look 0 p = node 64 dir\n3 0 create 64 f = node 66 file\n4 0 look 0 p = node 64 dir\n5 0 look 64 f = node 66 file\n6 0 write 66 0 6869 = ok\n7 0 look 0 p = node 64 dir\n8 0 look 64 f = node 66 file\n9 0 fsync 66 = ok\n10 0 look 0 p = node 64 dir\n11 0 look 64 f = node 66 file\n12 0 look 0 q = node 65 dir\n13 0 link 66 65 f = ok\n14 0 look 0 p = node 64 dir\n15 0 unlink 64 f = ok\n16 0 look 0 p = node 64 dir\n17 0 fsync 64 = ok\n",
+    "dir 4 2 /\ndir 2 0 /p\ndir 2 0 /q\n",
+)];
 
-const MOVED_TEXT: &str =
-    "0 0 mkdir 0 p = node 64 dir\n1 0 mkdir 0 q = node 65 dir\n2 0 look 0 p = node 64 dir\n3 0 create 64 f = node 66 file\n4 0 look 0 p = node 64 dir\n5 0 look 64 f = node 66 file\n6 0 write 66 0 6869 = ok\n7 0 look 0 p = node 64 dir\n8 0 look 64 f = node 66 file\n9 0 fsync 66 = ok\n10 0 look 0 p = node 64 dir\n11 0 look 64 f = node 66 file\n12 0 look 0 q = node 65 dir\n13 0 link 66 65 f = ok\n14 0 look 0 p = node 64 dir\n15 0 unlink 64 f = ok\n16 0 look 0 p = node 64 dir\n17 0 fsync 64 = ok\n";
+// The same with both, and what a later run finds.
+static FOUND: [Row; 2] = [
+    (
+        "0 mkdir /p\n0 mkdir /q\n0 create /p/f\n0 write /p/f 0 6869\n0 fsync /p/f\n0 link /p/f /q/f\n0 unlink /p/f\n0 fsync /p\n0 fsync /q\n",
+        "0 0 mkdir 0 p = node 64 dir\n1 0 mkdir 0 q = node 65 dir\n2 0 look 0 p = node 64 dir\n3 0 create 64 f = node 66 file\n4 0 look 0 p = node 64 dir\n5 0 look 64 f = node 66 file\n6 0 write 66 0 6869 = ok\n7 0 look 0 p = node 64 dir\n8 0 look 64 f = node 66 file\n9 0 fsync 66 = ok\n10 0 look 0 p = node 64 dir\n11 0 look 64 f = node 66 file\n12 0 look 0 q = node 65 dir\n13 0 link 66 65 f = ok\n14 0 look 0 p = node 64 dir\n15 0 unlink 64 f = ok\n16 0 look 0 p = node 64 dir\n17 0 fsync 64 = ok\n18 0 look 0 q = node 65 dir\n19 0 fsync 65 = ok\n",
+        "dir 4 2 /\ndir 2 0 /p\ndir 2 1 /q\nfile 1 2 0 /q/f\n",
+    ),
+    (
+        "0 read /q/f 0 10\n",
+        "0 0 look 0 q = node 2 dir\n1 0 look 2 f = node 3 file\n2 0 read 3 0 10 = bytes 6869\n",
+        "dir 4 2 /\ndir 2 0 /p\ndir 2 1 /q\nfile 1 2 0 /q/f\n",
+    ),
+];
+
+// Asserts the text and the tree of each of these, one after another on the same disk.
+fn assert_in_turn<R: Threads + Wait + Sync + Abort>(
+    rt: &R,
+    alloc: Global,
+    rows: &[Row],
+) -> Result<Memory, Fail> {
+    let mut disk = image(rt, alloc, SMALL)?;
+    for (script, text, tree) in rows {
+        disk = assert_text(rt, alloc, script, disk, text)?;
+        disk = assert_shown(rt, alloc, disk, tree)?;
+    }
+    Ok(disk)
+}
 
 #[test]
 fn bytes_outlive_a_name(rt: HostRuntime) -> Result<(), Fail> {
-    let alloc = rt.alloc();
-    let script = format!(in alloc; "{MOVED}0 fsync /q\n")?;
-    let text = format!(in alloc; "{MOVED_TEXT}18 0 look 0 q = node 65 dir\n19 0 fsync 65 = ok\n")?;
-    let disk = image(&rt, alloc, SMALL)?;
-    let disk = assert_text(&rt, alloc, script.as_str(), disk, text.as_str())?;
-    let tree = "dir 4 2 /\ndir 2 0 /p\ndir 2 1 /q\nfile 1 2 0 /q/f\n";
-    let disk = assert_shown(&rt, alloc, disk, tree)?;
-    let text =
-        "0 0 look 0 q = node 2 dir\n1 0 look 2 f = node 3 file\n2 0 read 3 0 10 = bytes 6869\n";
-    assert_text(&rt, alloc, "0 read /q/f 0 10\n", disk, text)?;
+    assert_in_turn(&rt, rt.alloc(), &FOUND)?;
     Ok(())
 }
 
@@ -126,9 +146,7 @@ fn directories(alloc: Global, count: u32) -> Result<String, Fail> {
 #[test]
 fn a_file_without_a_name_is_freed(rt: HostRuntime) -> Result<(), Fail> {
     let alloc = rt.alloc();
-    let disk = assert_text(&rt, alloc, MOVED, image(&rt, alloc, SMALL)?, MOVED_TEXT)?;
-    let tree = "dir 4 2 /\ndir 2 0 /p\ndir 2 0 /q\n";
-    let disk = assert_shown(&rt, alloc, disk, tree)?;
+    let disk = assert_in_turn(&rt, alloc, &MOVED)?;
     // 61 of the 64 inodes are free.
     let ran = run_script(&rt, alloc, directories(alloc, 62)?.as_bytes(), disk)?;
     assert!(rt;
