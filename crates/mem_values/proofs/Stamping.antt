@@ -48,7 +48,7 @@ share_stays first [] = refl
 share_stays first (e ∷ history) = share_stays (tree_after_entry first e) history
 
 -- a value that stands for a cell shows it
-shows : (given : ℕ → Option OldKept) (first : TreeState) (account : Account) (which : CellId) (value : Cell) → StandsForCell given first account which value → ShowsCell (tree_after first account.calls) which value
+pub shows : (given : ℕ → Option OldKept) (first : TreeState) (account : Account) (which : CellId) (value : Cell) → StandsForCell given first account which value → ShowsCell (tree_after first account.calls) which value
 shows given first account id.Lock (cell.Lock lock) stood = tt
 shows given first account id.Lock (cell.Bucket b) stood = tt
 shows given first account id.Lock (cell.File f) stood = tt
@@ -80,12 +80,12 @@ module _ (given : ℕ → Option OldKept) (view : View TreeState (Event Fact)) (
   pub still_stands : (known : HeldCell Cell) → KnowsCell given view known → StandsAt given view.first log known.place known.value
   still_stands known knows = past.held known.place (Some known.value) knows.holds knows.stood
 
-  all_show : (cells : List (HeldCell Cell)) → KnowsCells given view cells → ShowCells view.first (tree_after view.first (calls_in log)) cells
+  pub all_show : (cells : List (HeldCell Cell)) → KnowsCells given view cells → ShowCells view.first (tree_after view.first (calls_in log)) cells
   all_show [] knows = tt
   all_show (known ∷ cells) knows =
       ((λ which is at. shows given view.first (account_of log) which known.value (still_stands known knows.0 which is at)), all_show cells knows.1)
 
-  met : (cells : List (HeldCell Cell)) → IsSoundTree view.first → KnowsCells given view cells → MayMeet view cells (tree_after view.first (calls_in log))
+  pub met : (cells : List (HeldCell Cell)) → IsSoundTree view.first → KnowsCells given view cells → MayMeet view cells (tree_after view.first (calls_in log))
   met cells sound knows = record {
     sound = sound_after view.first 0 (calls_in log) sound past.legal_log.legal_calls;
     first = first_stays view.first (calls_in log);
@@ -115,7 +115,7 @@ module _ (given : ℕ → Option OldKept) (view : View TreeState (Event Fact)) (
       | inr has ↦ absurd (not (subst (λ p. Has view.held p) at has))
     ]
 
-    follows : MayFollow (IsLawfulLog given) (StandsAt given) view log entry
+    pub follows : MayFollow (IsLawfulLog given) (StandsAt given) view log entry
     follows = record {
       may_come = comes;
       told = lawful_push given view.first log (Called entry) past.legal_log.told tt;

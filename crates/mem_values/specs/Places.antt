@@ -17,6 +17,10 @@ cell_place nodes (File node) = 24 + 9 * node.0
 cell_place nodes (Pending node) = 16 + 9 * nodes + node.0
 cell_place nodes (Part core) = 32 + 10 * nodes + 16 * core.0
 
+-- how many places a table of so many nodes and cores has
+abbrev pub place_count : ℕ → ℕ → ℕ
+place_count nodes cores = 32 + 10 * nodes + 16 * cores
+
 -- a cell of a table of so many nodes and cores
 abbrev pub IsCell : ℕ → ℕ → CellId → Type 0
 IsCell nodes cores Lock = Unit {0}

@@ -10,7 +10,7 @@ use Rattle.sfs_tree.specs.History.{tree_after}
 use Rattle.sfs_dev.specs.Disk.{View}
 use Rattle.sfs_dev.specs.Run.{Advances}
 use Rattle.volume_laws.specs.Volume.{Volume}
-use Rattle.volume_one.specs.Calls.{entry_of, is_fsync, kept_with}
+use Rattle.volume_one.specs.Calls.{call_entry, is_fsync, kept_with}
 use Rattle.volume_one.specs.Stands.{Remembers}
 use Rattle.volume_one.specs.declared.flushed.Flushed.{Flushed}
 use Rattle.sfs_base.specs.Lists.{Roomy}
@@ -19,6 +19,7 @@ use Rattle.sfs_tree.specs.declared.turns.Turn.{Turn}
 use Rattle.commit_turns.specs.Need.{ImageState}
 use Rattle.commit_turns.specs.OneThread.{ComesNext}
 use Rattle.volume_one.specs.declared.deed.Deed.{Deed}
+use Rattle.scalefs_run.specs.Acks.{MomentsRise}
 use Rattle.scalefs_run.specs.Turns.{TurnsSoFar, turns_by, turns_told}
 use Rattle.scalefs_run.specs.declared.turns.Counts.{Counts}
 use Rattle.scalefs_run.proofs.Turning.{turns_none}
@@ -71,10 +72,11 @@ module _ (old : Engine) (reserved : Vec Entry Global) (room : Roomy Turn) (new :
   turns_kept = ⊎_elim (λ none. (other none).turns) (λ is. (fsync is.0 is.1).turns) (fsync_or call)
 
   abbrev entry : Entry
-  entry = entry_of stamp core call flushed.reply flushed.ack
+  entry = call_entry stamp core call flushed.reply flushed.ack
 
   module _ (start : ℕ) (image : ImageState) (kept : Volume) (stands : RunStands start image kept old before) (counted : length kept.history ≡ stamp.0) (goes : Advances before after)
       (stay : Same → (P : View → Type 0) → P before → P after) (counts : Counts) (own : counts.faults_before ≡ before.faults) (then_faults : counts.faults_after ≡ after.faults)
+      (began : counts.calls_before ≡ before.now) (ended : counts.calls_after ≡ after.now)
       (all : Vec Entry Global) (pushed : all.items ≡ old.entries.items ++ entry ∷ []) (turns : Roomy Turn) (told : turns.items ≡ old.turns.items ++ turns_told entry counts flushed.deed) where
     abbrev done : Engine
     done = record new { entries = all; turns = turns }
@@ -83,7 +85,7 @@ module _ (old : Engine) (reserved : Vec Entry Global) (room : Roomy Turn) (new :
     called none =
         let answered = other none in
         let remembers : Remembers (kept_with kept entry) new.volume =
-        subst (λ (ack : Option ℕ). Remembers (kept_with kept (entry_of stamp core call flushed.reply ack)) new.volume) (sym answered.ack_is) (answered.goes_on kept stands.remembers counted) in
+        subst (λ (ack : Option ℕ). Remembers (kept_with kept (call_entry stamp core call flushed.reply ack)) new.volume) (sym answered.ack_is) (answered.goes_on kept stands.remembers counted) in
         let turns_are : turns.items ≡ old.turns.items = told ∙ ap (λ (l : List Turn). old.turns.items ++ l) (no_turns call entry counts flushed.deed none) ∙ append-nil old.turns.items in
         let comes : ComesNext kept.first kept.history entry = record { stamped = sym counted; legal = remembers.stands.between.history_is.legal } in
         stay answered.still (HasGoneOn start image kept old done before)
@@ -92,15 +94,16 @@ module _ (old : Engine) (reserved : Vec Entry Global) (room : Roomy Turn) (new :
         (λ count same. no_cause (tree_after kept.first kept.history) (is_some old.volume.failed) count call flushed.reply none)
         (subst (λ (l : List Turn). TurnsSoFar start image (kept_with kept entry) before.faults l old.volume.failed) (sym turns_are)
         (turns_none start image kept before.faults old.turns.items old.volume.failed entry comes
-        (λ node is alive. absurd (false_not_true (sym none ∙ ap is_fsync is))) stands.turns)))
+        (λ node is alive. absurd (false_not_true (sym none ∙ ap is_fsync is))) stands.turns))
+        (λ from rise. subst (λ (l : List Turn). MomentsRise from l before.now) (sym turns_are) rise))
 
     flushed_node : (node : NodeId) → call ≡ Fsync node → HasGoneOn start image kept old done before after
     flushed_node node is =
         let answered = fsync node is in
         goes_on_fsync start image kept old done before after stands stamp core node flushed counted goes
-        (pushed ∙ ap (λ (c : Call). old.entries.items ++ entry_of stamp core c flushed.reply flushed.ack ∷ []) is)
-        answered.answer counts own then_faults
-        (told ∙ ap (λ (c : Call). old.turns.items ++ turns_by c (entry_of stamp core c flushed.reply flushed.ack) counts flushed.deed) is)
+        (pushed ∙ ap (λ (c : Call). old.entries.items ++ call_entry stamp core c flushed.reply flushed.ack ∷ []) is)
+        answered.answer counts own then_faults began ended
+        (told ∙ ap (λ (c : Call). old.turns.items ++ turns_by c (call_entry stamp core c flushed.reply flushed.ack) counts flushed.deed) is)
         Same stay (answered.goes_on kept stands.remembers counted)
 
     pub call_goes_on : HasGoneOn start image kept old done before after

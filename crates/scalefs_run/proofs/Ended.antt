@@ -9,6 +9,7 @@ use Rattle.sfs_dev.specs.Disk.{View}
 use Rattle.sfs_dev.specs.Run.{Advances}
 use Rattle.crash_laws.proofs.Ends.{images_survive, runs_read_back}
 use Rattle.volume_laws.specs.Volume.{Volume}
+use Rattle.scalefs_run.specs.Acks.{AcksRise}
 use Rattle.scalefs_run.specs.Images.{SurvivesRun}
 use Rattle.scalefs_run.specs.Replies.{HasAnswers, HasAnswersSoFar}
 use Rattle.sfs_tree.specs.declared.turns.Turn.{Turn}
@@ -17,13 +18,14 @@ use Rattle.commit_turns.specs.Recorded.{IsRecorded}
 use Rattle.commit_turns.proofs.Failed.{standing_are_recorded, failed_are_recorded}
 use Rattle.turn_ties.specs.Plans.{rest_of}
 use Rattle.scalefs_run.specs.Turns.{TurnsSoFar}
-use Rattle.scalefs_run.specs.RunInvariant.{RunStands, IsSafe, StandsNow, IsSafeEnd, StandsAtEnd, HasInvariant, KeepsInvariant, HasEnded, EndsRun}
+use Rattle.scalefs_run.specs.RunInvariant.{RunStands, StandsNow, IsSafeEnd, StandsAtEnd, HasInvariant, KeepsInvariant, HasEnded, EndsRun}
 use Rattle.scalefs_run.specs.declared.engine.Engine.{Engine}
+use Rattle.scalefs_run.proofs.Dated.{rising_both}
 use Rattle.scalefs_run.proofs.Pushed.{answers_at_end}
 
 -- nothing was done
 pub keeps_none : (engine : Engine) (disk : View) → KeepsInvariant engine engine disk disk
-keeps_none engine disk start image kept stands = record { later = kept; first = refl; stands = stands; safe = λ share from counts safe. safe }
+keeps_none engine disk start image kept stands = record { later = kept; first = refl; stands = stands; dated = λ counts. record { acks = λ from rise. rise; turns = λ from rise. rise }; safe = λ share from counts safe. safe }
 
 -- one thing was done, and then another
 pub keeps_both : (old mid new : Engine) (before between after : View) → Advances between after → KeepsInvariant old mid before between → KeepsInvariant mid new between after → KeepsInvariant old new before after
@@ -34,6 +36,9 @@ keeps_both old mid new before between after goes one other start image kept stan
       later = second.later;
       first = second.first ∙ first.first;
       stands = second.stands;
+      dated = λ counts.
+          rising_both kept.history first.later.history second.later.history old.turns.items mid.turns.items new.turns.items before.now between.now after.now
+          (first.dated (let later = goes.later in omega arith)) (second.dated counts);
       safe = λ share from counts safe. second.safe share from counts (first.safe share from (let later = goes.later in omega arith) safe);
     }
 
@@ -47,6 +52,9 @@ ends_after old mid new before between after goes one ends start image kept stand
       legal = subst (λ (t : TreeState). IsLegal t new.entries.items) tree ended.legal;
       answers = subst (λ (t : TreeState). HasAnswers start after.faults t new.entries.items) tree ended.answers;
       recorded = subst (λ (t : TreeState). IsRecorded t new.entries.items image start after.faults new.turns.items) tree ended.recorded;
+      dated = λ counts.
+          rising_both kept.history first.later.history new.entries.items old.turns.items mid.turns.items new.turns.items before.now between.now after.now
+          (first.dated (let later = goes.later in omega arith)) (ended.dated counts);
       safe = λ share from counts safe.
           subst (λ (t : TreeState). IsSafeEnd share from t new.entries.items after) tree
           (ended.safe share from counts (first.safe share from (let later = goes.later in omega arith) safe));
@@ -63,16 +71,12 @@ cores_kept old new before after keeps has =
     sym gone.stands.cores ∙ ap (λ (t : TreeState). length t.made) gone.first ∙ has.3.cores
 
 -- the safe end of what is safe
-safe_end : (share from : ℕ) (kept : Volume) (failed : Option ℕ) (disk : View) → IsSafe share from kept failed disk → IsSafeEnd share from kept.first kept.history disk
-safe_end share from kept failed disk safe = by failed safe.now
-  where
-    by : (failed : Option ℕ) → StandsNow share from kept disk failed → IsSafeEnd share from kept.first kept.history disk
-    by None now = record {
-      so_far = now.0.so_far;
-      ends = inl (record { flushes = kept.flushes; cut = kept.cut; inodes = kept.inodes; stands = now.0.stands });
-      acks = safe.acks;
-    }
-    by (Some faults) now = record { so_far = now.0; ends = inr now.1; acks = safe.acks }
+safe_end : (share from : ℕ) (kept : Volume) (failed : Option ℕ) (disk : View) → StandsNow share from kept disk failed → IsSafeEnd share from kept.first kept.history disk
+safe_end share from kept None disk now = record {
+  so_far = now.0.so_far;
+  ends = inl (record { flushes = kept.flushes; cut = kept.cut; inodes = kept.inodes; stands = now.0.stands });
+}
+safe_end share from kept (Some faults) disk now = record { so_far = now.0; ends = inr now.1 }
 
 -- its turns are recorded then
 recorded_at_end : (start : ℕ) (image : ImageState) (kept : Volume) (faults : ℕ) (turns : List Turn) (failed : Option ℕ) → HasAnswersSoFar start faults kept.first kept.history failed → TurnsSoFar start image kept faults turns failed → IsRecorded kept.first kept.history image start faults turns
@@ -82,7 +86,7 @@ recorded_at_end start image kept faults turns (Some count) answers so_far =
     failed_are_recorded kept.first kept.history image start so_far.before count faults turns so_far.since (let at = answers.kept in omega (arith, at)) so_far.fail
 
 -- a run that stands may end, when its disk has stayed
-stands_end : (start : ℕ) (image : ImageState) (kept : Volume) (engine : Engine) (disk : View) → RunStands start image kept engine disk → HasEnded start image kept engine.volume.failed engine.entries.items engine.turns.items disk disk
+stands_end : (start : ℕ) (image : ImageState) (kept : Volume) (engine : Engine) (disk : View) → RunStands start image kept engine disk → HasEnded start image kept engine.volume.failed engine.turns.items engine.entries.items engine.turns.items disk disk
 stands_end start image kept engine disk stands = record {
   legal = subst (IsLegal kept.first) stands.history stands.remembers.stands.between.history_is.legal;
   answers =
@@ -91,6 +95,7 @@ stands_end start image kept engine disk stands = record {
   recorded =
       subst (λ (h : List Entry). IsRecorded kept.first h image start disk.faults engine.turns.items) stands.history
       (recorded_at_end start image kept disk.faults engine.turns.items engine.volume.failed stands.answers stands.turns);
+  dated = λ counts. record { acks = λ from rise. subst (λ (h : List Entry). AcksRise from h disk.now) stands.history rise; turns = λ from rise. rise };
   safe = λ share from counts safe.
       subst (λ (h : List Entry). IsSafeEnd share from kept.first h disk) stands.history (safe_end share from kept engine.volume.failed disk safe);
 }
@@ -98,8 +103,8 @@ stands_end start image kept engine disk stands = record {
 -- a run that ends as it stands
 pub ends_here : (old new : Engine) (disk : View) → new.entries.items ≡ old.entries.items → new.turns.items ≡ old.turns.items → EndsRun old new disk disk
 ends_here old new disk same turns start image kept stands =
-    subst (λ (h : List Entry). HasEnded start image kept old.volume.failed h new.turns.items disk disk) (sym same)
-    (subst (λ (l : List Turn). HasEnded start image kept old.volume.failed old.entries.items l disk disk) (sym turns) (stands_end start image kept old disk stands))
+    subst (λ (h : List Entry). HasEnded start image kept old.volume.failed old.turns.items h new.turns.items disk disk) (sym same)
+    (subst (λ (l : List Turn). HasEnded start image kept old.volume.failed old.turns.items old.entries.items l disk disk) (sym turns) (stands_end start image kept old disk stands))
 
 -- a run that has gone on ends as it then stands
 pub keeps_end : (old new : Engine) (before after : View) → KeepsInvariant old new before after → EndsRun old new before after
@@ -111,6 +116,9 @@ keeps_end old new before after keeps start image kept stands =
       legal = subst (λ (t : TreeState). IsLegal t new.entries.items) tree ended.legal;
       answers = subst (λ (t : TreeState). HasAnswers start after.faults t new.entries.items) tree ended.answers;
       recorded = subst (λ (t : TreeState). IsRecorded t new.entries.items image start after.faults new.turns.items) tree ended.recorded;
+      dated = λ counts.
+          rising_both kept.history gone.later.history new.entries.items old.turns.items new.turns.items new.turns.items before.now after.now after.now
+          (gone.dated counts) (ended.dated counts);
       safe = λ share from counts safe.
           subst (λ (t : TreeState). IsSafeEnd share from t new.entries.items after) tree (ended.safe share from counts (gone.safe share from counts safe));
     }
@@ -122,5 +130,4 @@ survives share from first history disk sound legal safe = record {
   reads_back = ⊎_elim
       (λ (ends : StandsAtEnd share first history disk). runs_read_back disk share first history ends.flushes ends.cut ends.inodes sound legal (inl ends.stands))
       (λ has. runs_read_back disk share first history [] empty (λ node. false) sound legal (inr has)) safe.ends;
-  acks = safe.acks;
 }

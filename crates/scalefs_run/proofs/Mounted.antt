@@ -18,8 +18,7 @@ use Rattle.volume_laws.specs.Volume.{Volume}
 use Rattle.volume_one.specs.Begins.{Begins, HoldsNew}
 use Rattle.scalefs_run.specs.Begun.{RunBegins}
 use Rattle.scalefs_run.specs.Replies.{HasAnswersSoFar}
-use Rattle.scalefs_run.specs.RunInvariant.{RunStands, IsSafe, StandsNow}
-use Rattle.scalefs_run.specs.Acks.{AcksRise}
+use Rattle.scalefs_run.specs.RunInvariant.{RunStands, StandsNow}
 use Rattle.sfs_tree.specs.declared.turns.Turn.{Turn}
 use Rattle.image_tree.specs.Image.{inodes_shown}
 use Rattle.image_tree.specs.Stands.{StandsForTree}
@@ -94,11 +93,8 @@ module _ (nodes : ℕ) (engine : Engine) (before after : View) (begins : Begins 
   }
 
   -- what a crash leaves at first
-  safe : (share : ℕ) → (held : HoldsNew nodes before after kept) → share ≡ share_of_nodes nodes kept.layout → IsSafe share before.now kept engine.volume.failed after
-  safe share held is = record {
-    now = subst (StandsNow share before.now kept after) (sym begins.working) (now, held.holds);
-    acks = subst (λ (h : List Entry). AcksRise before.now h after.now) (sym begins.is_new.no_call) goes.later;
-  }
+  safe : (share : ℕ) → (held : HoldsNew nodes before after kept) → share ≡ share_of_nodes nodes kept.layout → StandsNow share before.now kept after engine.volume.failed
+  safe share held is = subst (StandsNow share before.now kept after) (sym begins.working) (now, held.holds)
     where
       begun : StandsSoFar share before.now kept.first [] [] empty (λ node. is_some (get kept.first.nodes node)) after
       begun = runs_begin after share before.now kept.first begins.sound (subst (λ s. Mounts s before.now kept.first after) (sym is) held.mounts)
@@ -119,6 +115,7 @@ module _ (nodes : ℕ) (engine : Engine) (before after : View) (begins : Begins 
     image_is = image_at_first;
     stands = stands;
     none = none;
+    no_turn = no_turn;
     few = begins.fits.ranges.cores_high;
     sound = begins.sound;
     told = λ image told.

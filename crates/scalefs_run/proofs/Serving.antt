@@ -37,6 +37,7 @@ use borrow.Author.Tests.{lt-ltb, le-ltb}
 use Rattle.scalefs_run.specs.declared.engine.Engine.{Engine}
 use Rattle.scalefs_run.specs.declared.outcome.Status.{Status}
 use Rattle.scalefs_run.specs.declared.outcome.Status.TheVariants.{Done, BadWords, BadScript, ReadFault, WriteFault, DiskFault, BadImage, NoMemory, TooManyWorkers, TooLong, TooSmall}
+use Rattle.scalefs_run.specs.Acks.{AcksRise, MomentsRise}
 use Rattle.scalefs_run.specs.Begun.{RunBegins}
 use Rattle.scalefs_run.specs.Due.{Judgement, IsJudged, due, judged_status, mounted_status, workers_status, script_status, phases_in}
 use Rattle.scalefs_run.specs.Image.{IsImageRefused, status_of_recovery}
@@ -119,9 +120,9 @@ none_told first image start now [] recorded = refl
 none_told first image start now (turn ∷ turns) recorded = absurd (recorded.each turn (Rattle.std.proofs.Common.inl refl)).fsync.among
 
 -- no call was made, on an image that was not mounted
-pub served_unmounted : (due_by : Judgement → Status) (nodes : ℕ) (phases : List (List Line)) (Source Sink : Type 0) (before after : Option (List ℕ)) (old new : View) (status : Status) → IsCaused due_by Source Sink old new status → HasHistory phases [] status → HasText (history_text []) before after status → was_mounted status [] ≡ false → ShowsEntry old new
+pub served_unmounted : (due_by : Judgement → Status) (nodes : ℕ) (phases : List (List Line)) (Source Sink : Type 0) (before after : Option (List ℕ)) (old new : View) (status : Status) → IsCaused due_by Source Sink old new status → HasHistory phases [] status → HasText (history_text []) before after status → was_mounted status [] ≡ false → ShowsEntry old new → old.now ≤ new.now
     → Served due_by nodes phases Source Sink before after old new status [] []
-served_unmounted due_by nodes phases Source Sink before after old new status caused calls text not_mounted shows = record {
+served_unmounted due_by nodes phases Source Sink before after old new status caused calls text not_mounted shows later = record {
   caused = caused;
   first = no_tree;
   first_is = λ was. absurd (false_not_true (sym not_mounted ∙ was));
@@ -129,12 +130,13 @@ served_unmounted due_by nodes phases Source Sink before after old new status cau
   calls = calls;
   text = text;
   answers = record { answered = tt; failed = λ e. absurd (false_not_true e) };
+  acks = λ counts. later;
   turns_are = subst (λ b. HasTurnsBy b old new no_tree [] []) (sym not_mounted) refl;
   images = λ image told calm counts. subst (λ b. HasImagesBy b nodes no_tree old new [] image) (sym not_mounted) (shows image told calm counts);
 }
 
 -- a refused image: its status is due
-module _ (nodes : ℕ) (phases : List (List Line)) (Sink : Type 0) (written : Option (List ℕ)) (old new : View) (shows : ShowsEntry old new) where
+module _ (nodes : ℕ) (phases : List (List Line)) (Sink : Type 0) (written : Option (List ℕ)) (old new : View) (shows : ShowsEntry old new) (later : old.now ≤ new.now) where
   abbrev due_by : Judgement → Status
   due_by judged = judged_status judged phases
 
@@ -154,19 +156,19 @@ module _ (nodes : ℕ) (phases : List (List Line)) (Sink : Type 0) (written : Op
   ends_refused fault status is unwritten same =
       subst (λ (s : Status). Served due_by nodes phases ⊥ Sink written written old new s [] []) same
       (served_unmounted due_by nodes phases ⊥ Sink written written old new (BadImage (Rattle.scalefs_run.specs.Image.fault_named fault))
-      (record { judged = record { fault = Some fault; cores = (judged_of old.content).cores }; judged_told = judged_with fault old.content is; status_is = refl; refused = λ refused. unwritten }) refl refl refl shows)
+      (record { judged = record { fault = Some fault; cores = (judged_of old.content).cores }; judged_told = judged_with fault old.content is; status_is = refl; refused = λ refused. unwritten }) refl refl refl shows later)
 
   pub served_refused : (fault : RecoverFault) → IfTold old.content (λ image. IsFaultOf image fault) → LeavesRefused old new fault → HasReadCause {V = Engine} is_recover_disk_fault old.faults new.faults (Err fault)
       → Served due_by nodes phases ⊥ Sink written written old new (status_of_recovery fault) [] []
   served_refused recover.DiskFailed is left cause =
       served_unmounted due_by nodes phases ⊥ Sink written written old new DiskFault
-      (record { judged = judged_of old.content; judged_told = judged_told old.content; status_is = (cause, (judged_comes (judged_of old.content)).0); refused = λ refused. absurd refused }) refl refl refl shows
+      (record { judged = judged_of old.content; judged_told = judged_told old.content; status_is = (cause, (judged_comes (judged_of old.content)).0); refused = λ refused. absurd refused }) refl refl refl shows later
   served_refused (recover.BadSuper at) is left cause = ends_refused (SuperFault at) _ is left refl
   served_refused (recover.BadJournal core slot at) is left cause = ends_refused (JournalFault (record { core = core; slot = slot; at = at })) _ is left refl
   served_refused (recover.BadImage inode rule) is left cause = ends_refused (TreeFault (record { rule = rule; inode = inode })) _ is left refl
   served_refused recover.NoMemory is left cause =
       served_unmounted due_by nodes phases ⊥ Sink written written old new NoMemory
-      (record { judged = judged_of old.content; judged_told = judged_told old.content; status_is = (judged_comes (judged_of old.content)).1; refused = λ refused. absurd refused }) (none_so_far phases) refl refl shows
+      (record { judged = judged_of old.content; judged_told = judged_told old.content; status_is = (judged_comes (judged_of old.content)).1; refused = λ refused. absurd refused }) (none_so_far phases) refl refl shows later
 
 -- a mounted image has no fault, and as many cores as there are
 module _ (nodes : ℕ) (phases : List (List Line)) (Sink : Type 0) (before after : Option (List ℕ)) (first engine : Engine) (old mid new : View) (begins : RunBegins nodes first old mid) where
@@ -179,16 +181,16 @@ module _ (nodes : ℕ) (phases : List (List Line)) (Sink : Type 0) (before after
       record { fault_is = sym (has_no_fault image (share_of_nodes nodes (layout_of image)) begins.kept.first is.tree); cores_are = ap (λ (l : Layout). l.cores) is.layout_is }
 
   -- a worker has no core
-  pub served_without_core : (asked have : ℕ) → have ≡ first.volume.layout.cores → worker_without_core first.volume.layout.cores phases ≡ Some asked → before ≡ after → ShowsEntry old new
+  pub served_without_core : (asked have : ℕ) → have ≡ first.volume.layout.cores → worker_without_core first.volume.layout.cores phases ≡ Some asked → before ≡ after → ShowsEntry old new → old.now ≤ new.now
       → Served (λ judged. judged_status judged phases) nodes phases ⊥ Sink before after old new (TooManyWorkers asked have) [] []
-  served_without_core asked have is none same shows =
+  served_without_core asked have is none same shows later =
       served_unmounted (λ judged. judged_status judged phases) nodes phases ⊥ Sink before after old new (TooManyWorkers asked have)
       (record {
         judged = judged;
         judged_told = judged_is;
         status_is = ap (workers_status first.volume.layout.cores) none ∙ ap (TooManyWorkers asked) (sym is);
         refused = λ refused. absurd refused;
-      }) refl (sym same) refl shows
+      }) refl (sym same) refl shows later
 
   not_refused : (status : Status) → IsWriteStatus Sink status → IsImageRefused status → Unwritten old new
   not_refused (BadImage fault) is refused = absurd is
@@ -206,10 +208,10 @@ module _ (nodes : ℕ) (phases : List (List Line)) (Sink : Type 0) (before after
   made = engine.entries.items
 
   -- a script was run
-  pub served_run : (status : Status) → EndsRun first engine mid new → Advances mid new → worker_without_core first.volume.layout.cores phases ≡ None → (made ≡ [] → ShowsEntry old new)
+  pub served_run : (status : Status) → EndsRun first engine mid new → old.now ≤ mid.now → Advances mid new → worker_without_core first.volume.layout.cores phases ≡ None → (made ≡ [] → ShowsEntry old new)
       → IsWriteStatus Sink status → HasHistory phases made status → HasText (history_text made) before after status
       → Served (λ judged. judged_status judged phases) nodes phases ⊥ Sink before after old new status made engine.turns.items
-  served_run status ends goes none shows is calls text =
+  served_run status ends begun goes none shows is calls text =
       let ended = ends old.faults begins.image begins.kept begins.stands in
       record {
         caused = record {
@@ -226,15 +228,23 @@ module _ (nodes : ℕ) (phases : List (List Line)) (Sink : Type 0) (before after
         calls = calls;
         text = text;
         answers = ended.answers;
+        acks = λ counts. (ended.dated counts).acks old.now (no_ack_yet (begins.stands.history ∙ begins.none));
         turns_are = told (was_mounted status made) refl;
         images = λ image told calm counts. by image told calm counts (was_mounted status made) refl;
       }
     where
+      no_ack_yet : begins.kept.history ≡ [] → AcksRise old.now begins.kept.history mid.now
+      no_ack_yet none = subst (λ (h : List Entry). AcksRise old.now h mid.now) (sym none) begun
+
+      no_turn_yet : first.turns.items ≡ [] → MomentsRise old.now first.turns.items mid.now
+      no_turn_yet none = subst (λ (l : List Turn). MomentsRise old.now l mid.now) (sym none) begun
+
       told : (was : Bool) → was_mounted status made ≡ was → HasTurnsBy was old new begins.kept.first made engine.turns.items
       told true was = record {
         image = begins.image;
         image_is = image_on old mid new begins.kept.first begins.image goes begins.image_is;
         recorded = (ends old.faults begins.image begins.kept begins.stands).recorded;
+        dated = λ counts. ((ends old.faults begins.image begins.kept begins.stands).dated counts).turns old.now (no_turn_yet begins.no_turn);
       }
       told false was =
           none_told begins.kept.first begins.image old.faults new.faults engine.turns.items
@@ -340,7 +350,7 @@ served_unread nodes left script Source Sink written disk status is fault = (scri
         → Served (λ judged. due judged script) nodes phases Source Sink written written disk disk status [] []
     ends status status_is refused calls text not =
         served_unmounted (λ judged. due judged script) nodes phases Source Sink written written disk disk status
-        (record { judged = judged; judged_told = judged_told disk.content; status_is = status_is; refused = refused }) calls text not (shows_untouched disk)
+        (record { judged = judged; judged_told = judged_told disk.content; status_is = status_is; refused = refused }) calls text not (shows_untouched disk) (omega arith)
 
     by : (status : Status) → HasReadFault script Source status → Served (λ judged. due judged script) nodes phases Source Sink written written disk disk status [] []
     by (BadScript line) fault = ends (BadScript line) (due_read judged script fault.0 ∙ ap (script_status judged) fault.1) (λ refused. absurd refused) refl refl refl
@@ -371,6 +381,7 @@ served_read nodes left script phases Source Sink before after old new status his
     calls = subst (λ (p : List (List Line)). HasHistory p history status) (sym (ap phases_in read)) served.calls;
     text = served.text;
     answers = served.answers;
+    acks = served.acks;
     turns_are = served.turns_are;
     images = served.images;
   },

@@ -1,5 +1,6 @@
 -- A run goes on by one entry.
-use Rattle.std.proofs.Common.{◌≡◌, ℕ, ◌≤◌, ◌^◌, true, false, List, [], ◌∷◌, ◌++◌, length, Option, Some, None, IfSome, is_some, inl, refl, sym, ap, subst, ◌∙◌, arith}
+use Rattle.std.proofs.Common.{◌≡◌, ℕ, ◌+◌, ◌≤◌, ◌^◌, nat_lt, if◌then◌else◌, unwrap_or, Bool, true, false, List, [], ◌∷◌, ◌++◌, length, Option, Some, None, IfSome, is_some, inl, refl, sym, ap, subst, ◌∙◌, arith}
+use borrow.Author.Tests.{ltb-true}
 use Rattle.sfs_base.specs.declared.numbers.CoreId.{CoreId}
 use Rattle.sfs_base.specs.declared.numbers.NodeId.{NodeId}
 use Rattle.sfs_base.specs.declared.numbers.Stamp.{Stamp}
@@ -21,25 +22,27 @@ use Rattle.crash_laws.proofs.Steps.{calls_keep, stopped_keep}
 use Rattle.crash_laws.proofs.Untouched.{disks_stay}
 use Rattle.volume_laws.specs.Stores.{volume_left}
 use Rattle.volume_laws.specs.Volume.{Volume, OneFsync}
-use Rattle.volume_one.specs.Calls.{entry_of, kept_with}
+use Rattle.volume_one.specs.Calls.{call_entry, kept_with}
 use Rattle.volume_one.specs.Fsync as made
-use Rattle.volume_one.specs.Fsync.{FsyncCommits, FsyncDoubts, FsyncStays, FsyncMakes, HoldsVolume, IsFsyncAnswer, flush_of, with_fsync}
+use Rattle.volume_one.specs.Fsync.{FsyncCommits, FsyncDoubts, FsyncStays, FsyncMakes, HoldsVolume, IsFsyncAnswer, fsync_at, with_fsync}
 use Rattle.volume_one.specs.Stands.{Remembers}
 use Rattle.volume_one.specs.declared.flushed.Flushed.{Flushed}
 use Rattle.volume_one.specs.declared.volume.OpenVolume.{OpenVolume}
 use Rattle.sfs_tree.specs.declared.reply.Code.TheVariants.{NoEntry}
 use Rattle.sfs_tree.specs.declared.turns.Turn.{Turn}
 use Rattle.commit_turns.specs.Need.{ImageState, node_bound}
-use Rattle.volume_one.specs.Deeds.{DidStay}
+use Rattle.commit_one.specs.Carried.{sealed_at}
+use Rattle.volume_one.specs.Deeds.{DidStay, IsDurableDeed}
 use Rattle.volume_one.specs.declared.deed.Deed.{Deed}
 use Rattle.volume_one.specs.declared.deed.Deed.TheVariants as deeds
-use Rattle.scalefs_run.specs.Turns.{TurnsSoFar, HaveTurns, HaveFailed, turns_of}
+use Rattle.scalefs_run.specs.Turns.{TurnsSoFar, HaveTurns, HaveFailed, moment_of, turns_of}
 use Rattle.scalefs_run.specs.declared.turns.Counts.{Counts}
 use Rattle.scalefs_run.proofs.Turning.{no_error, alive_of, working_of, halted_of, no_live_error, nothing_told, halted, turns_commit, turns_doubt, turns_short, turns_back}
 use Rattle.scalefs_run.specs.Replies.{is_failure, HasAnswersSoFar, IsReplyTo, is_failed_flush}
 use Rattle.scalefs_run.specs.RunInvariant.{RunStands, StandsNow, HasGoneOn}
 use Rattle.scalefs_run.specs.declared.engine.Engine.{Engine}
-use Rattle.scalefs_run.proofs.Dated.{AcksRise-push}
+use Rattle.scalefs_run.specs.Acks.{MomentsRise}
+use Rattle.scalefs_run.proofs.Dated.{AcksRise-push, MomentsRise-append, IsDatedDeed, turns_rise, stayed_dated}
 use Rattle.scalefs_run.proofs.Pushed.{answered_on, answered_doubt, answer_cause}
 
 -- a disk that holds a volume holds it with one more entry
@@ -95,8 +98,9 @@ pub goes_on_still : (start : ℕ) (image : ImageState) (kept : Volume) (old new 
     → new.volume.failed ≡ old.volume.failed → new.entries.items ≡ old.entries.items ++ entry ∷ [] → entry.ack ≡ None → is_failed_flush entry ≡ false
     → ((count : ℕ) → IfSome old.volume.failed (λ faults. faults ≡ count) → IsReplyTo (tree_after kept.first kept.history) (is_some old.volume.failed) count entry.call entry.reply)
     → TurnsSoFar start image (kept_with kept entry) disk.faults new.turns.items old.volume.failed
+    → ((from : ℕ) → MomentsRise from old.turns.items disk.now → MomentsRise from new.turns.items disk.now)
     → HasGoneOn start image kept old new disk disk
-goes_on_still start image kept old new disk entry stands remembers failed entries no_ack fine cause turns =
+goes_on_still start image kept old new disk entry stands remembers failed entries no_ack fine cause turns moments =
     let answers = answered_on start disk.faults kept.first kept.history old.volume.failed stands.answers entry cause disk.faults fine (omega arith) stands.answers.kept in
     record {
       later = kept_with kept entry;
@@ -105,22 +109,25 @@ goes_on_still start image kept old new disk entry stands remembers failed entrie
           stands_on start image kept old new disk disk stands entry (kept_with kept entry) refl refl refl refl remembers entries
           (subst (HasAnswersSoFar start disk.faults kept.first (kept.history ++ entry ∷ [])) (sym failed) answers)
           (subst (TurnsSoFar start image (kept_with kept entry) disk.faults new.turns.items) (sym failed) turns);
-      safe = λ share from counts safe. record {
-        now = subst (StandsNow share from (kept_with kept entry) disk) (sym failed)
-            (now_on share from kept entry disk (sound_with kept old.volume stands.remembers) (legal_with (kept_with kept entry) new.volume remembers) no_ack old.volume.failed safe.now);
-        acks = AcksRise-push from disk.now disk.now kept.history entry safe.acks (no_moment entry.ack disk.now disk.now no_ack) (omega arith);
+      dated = λ counts. record {
+        acks = λ from rise. AcksRise-push from disk.now disk.now kept.history entry rise (no_moment entry.ack disk.now disk.now no_ack) (omega arith);
+        turns = moments;
       };
+      safe = λ share from counts safe.
+          subst (StandsNow share from (kept_with kept entry) disk) (sym failed)
+          (now_on share from kept entry disk (sound_with kept old.volume stands.remembers) (legal_with (kept_with kept entry) new.volume remembers) no_ack old.volume.failed safe);
     }
 
 -- an fsync comes
 module _ (start : ℕ) (image : ImageState) (kept : Volume) (old new : Engine) (before after : View) (stands : RunStands start image kept old before) (stamp : Stamp) (core : CoreId) (node : NodeId) (flushed : Flushed)
     (counted : length kept.history ≡ stamp.0) (goes : Advances before after)
-    (entries : new.entries.items ≡ old.entries.items ++ entry_of stamp core (Fsync node) flushed.reply flushed.ack ∷ [])
+    (entries : new.entries.items ≡ old.entries.items ++ call_entry stamp core (Fsync node) flushed.reply flushed.ack ∷ [])
     (answer : IsFsyncAnswer (is_alive old.volume.tree node.0) old.volume.failed flushed.reply)
     (counts : Counts) (own : counts.faults_before ≡ before.faults) (then_faults : counts.faults_after ≡ after.faults)
-    (told : new.turns.items ≡ old.turns.items ++ turns_of (entry_of stamp core (Fsync node) flushed.reply flushed.ack) node counts flushed.deed) where
+    (began : counts.calls_before ≡ before.now) (ended : counts.calls_after ≡ after.now)
+    (told : new.turns.items ≡ old.turns.items ++ turns_of (call_entry stamp core (Fsync node) flushed.reply flushed.ack) node counts flushed.deed) where
   abbrev entry : Entry
-  entry = entry_of stamp core (Fsync node) flushed.reply flushed.ack
+  entry = call_entry stamp core (Fsync node) flushed.reply flushed.ack
 
   answer_is : IsFsyncAnswer (is_alive (tree_after kept.first kept.history) node.0) old.volume.failed flushed.reply
   answer_is = subst (λ (t : TreeState). IsFsyncAnswer (is_alive t node.0) old.volume.failed flushed.reply) stands.remembers.calls.tree answer
@@ -133,18 +140,47 @@ module _ (start : ℕ) (image : ImageState) (kept : Volume) (old new : Engine) (
   cause count same = answer_cause (is_alive (tree_after kept.first kept.history) node.0) old.volume.failed flushed.reply answer_is count same
 
   -- it raises the cut next
-  raises_next : (one : OneFsync) → made.IsOneOf kept (flush_of node stamp) one → RaisesNext kept.first kept.history kept.cut kept.inodes entry one.flush one.raised one.after
+  raises_next : (one : OneFsync) → made.IsComingFsync kept (fsync_at node stamp) one → RaisesNext kept.first kept.history kept.cut kept.inodes entry one.flush one.raised one.after
   raises_next one is = record {
     fsync = record { node = node; asked = refl; own = is.flush_is };
     raise = is.planned.raises;
     inodes_after = is.planned.inodes_after;
   }
 
+  -- its turns go on to rise
+  turns_go_on : IsDatedDeed before.now after.now (moment_of entry) flushed.deed → (from : ℕ) → MomentsRise from old.turns.items before.now → MomentsRise from new.turns.items after.now
+  turns_go_on dated from rise =
+      subst (λ (l : List Turn). MomentsRise from l after.now) (sym told)
+      (MomentsRise-append from before.now after.now old.turns.items (turns_of entry node counts flushed.deed) rise
+      (subst (λ n. MomentsRise n (turns_of entry node counts flushed.deed) after.now) began
+      (subst (λ n. MomentsRise counts.calls_before (turns_of entry node counts flushed.deed) n) ended
+      (turns_rise entry node counts flushed.deed (let later = goes.later in omega (arith, began, ended, later))
+      (subst (λ n. IsDatedDeed n counts.calls_after (moment_of entry) flushed.deed) (sym began) (subst (λ n. IsDatedDeed before.now n (moment_of entry) flushed.deed) (sym ended) dated)))))
+      goes.later)
+
+  -- the moments of a commit that is durable
+  durable_dated : (one : OneFsync) (moment : ℕ) (did : Deed) → IsDurableDeed kept one before after moment did → (before.now ≤ moment) × (moment ≤ after.now) → IsDatedDeed before.now after.now moment did
+  durable_dated one moment deeds.Empty is bounds = bounds
+  durable_dated one moment deeds.Committed is bounds = bounds
+  durable_dated one moment deeds.Nothing is bounds = tt
+  durable_dated one moment deeds.Halted is bounds = tt
+  durable_dated one moment deeds.Short is bounds = tt
+  durable_dated one moment deeds.GivenBack is bounds = tt
+  durable_dated one moment (deeds.Failed opened) is bounds = absurd is
+
+  -- that of a gate that was written
+  gate_dated : (sealed : ℕ) → before.now ≤ sealed → IsDatedDeed before.now after.now (moment_of entry) (deeds.Failed (if nat_lt sealed after.now then Some (sealed + 1) else None))
+  gate_dated sealed from = by (nat_lt sealed after.now) refl
+    where
+      by : (past : Bool) → nat_lt sealed after.now ≡ past → IsDatedDeed before.now after.now (moment_of entry) (deeds.Failed (if past then Some (sealed + 1) else None))
+      by true is = let lt = ltb-true sealed after.now is in (omega (arith, from), omega (arith, lt))
+      by false is = tt
+
   not_before : (failed : Option ℕ) → old.volume.failed ≡ None → IfSome old.volume.failed (λ faults. faults ≡ after.faults)
   not_before failed none = subst (λ (o : Option ℕ). IfSome o (λ faults. faults ≡ after.faults)) (sym none) tt
 
   -- answered Ok
-  committed : flushed.reply ≡ reply.Ok → FsyncCommits (with_fsync core stamp node flushed) kept (flush_of node stamp) before after old.volume new.volume flushed → HasGoneOn start image kept old new before after
+  committed : flushed.reply ≡ reply.Ok → FsyncCommits (with_fsync core stamp node flushed) kept (fsync_at node stamp) before after old.volume new.volume flushed → HasGoneOn start image kept old new before after
   committed ok makes =
       let had = had_turns makes.failed.0 in
       let left = volume_left kept makes.one makes.later in
@@ -166,23 +202,29 @@ module _ (start : ℕ) (image : ImageState) (kept : Volume) (old new : Engine) (
             (turns_commit start image kept old.turns.items stamp core node flushed counts (legal_with later new.volume makes.remembers) counted
             (alive_of (is_alive (tree_after kept.first kept.history) node.0) old.volume.failed flushed.reply answer_is (λ is. no_error reply.Ok refl (sym ok ∙ is)))
             had.used had.below had.stand (with_fsync core stamp node flushed) before after old.volume new.volume makes))));
-        safe = λ share from count_on safe.
-            let stood = subst (StandsNow share from kept before) none safe.now in
-            let wrote = makes.wrote count_on stood.1 share in
-            let bounds = wrote.makes in
+        dated = λ count_on.
+            let bounds = makes.on_disk count_on in
+            let at : moment_of entry ≡ makes.moment = ap (λ (a : Option ℕ). unwrap_or a 0) acked in
             record {
-              now = subst (StandsNow share from later after) (sym working) (
-                commits_keep before after share from makes.moment kept.first kept.history entry kept.flushes makes.one.flush kept.cut makes.one.raised kept.inodes makes.one.after
-                    (sound_with kept old.volume stands.remembers) (legal_with later new.volume makes.remembers) ok acked (raises_next makes.one makes.is) wrote stood.0,
-                holds_with left entry after (makes.holds count_on stood.1),
-              );
-              acks = AcksRise-push from before.now after.now kept.history entry safe.acks
+              acks = λ from rise.
+                  AcksRise-push from before.now after.now kept.history entry rise
                   (subst (λ (o : Option ℕ). IfSome o (λ a. (before.now ≤ a) × (a ≤ after.now))) (sym acked) (bounds.not_before, bounds.not_after)) goes.later;
+              turns = turns_go_on
+                  (subst (λ n. IsDatedDeed before.now after.now n flushed.deed) (sym at)
+                  (durable_dated makes.one makes.moment flushed.deed makes.did.did (bounds.not_before, bounds.not_after)));
             };
+        safe = λ share from count_on safe.
+            let stood = subst (StandsNow share from kept before) none safe in
+            let on_disk = makes.on_disk count_on in
+            subst (StandsNow share from later after) (sym working) (
+              commits_keep before after share from makes.moment kept.first kept.history entry kept.flushes makes.one.flush kept.cut makes.one.raised kept.inodes makes.one.after
+                  (sound_with kept old.volume stands.remembers) (legal_with later new.volume makes.remembers) ok acked (raises_next makes.one makes.is) (on_disk.wrote stood.1 share) stood.0,
+              holds_with left entry after (on_disk.holds stood.1),
+            );
       }
 
   -- answered DiskFailed
-  doubted : flushed.reply ≡ reply.DiskFailed → FsyncDoubts (with_fsync core stamp node flushed) kept (flush_of node stamp) before after old.volume new.volume flushed → HasGoneOn start image kept old new before after
+  doubted : flushed.reply ≡ reply.DiskFailed → FsyncDoubts (with_fsync core stamp node flushed) kept (fsync_at node stamp) before after old.volume new.volume flushed → HasGoneOn start image kept old new before after
   doubted failed makes =
       let later = kept_with kept entry in
       let had = had_turns makes.failed.0 in
@@ -202,20 +244,22 @@ module _ (start : ℕ) (image : ImageState) (kept : Volume) (old new : Engine) (
             (turns_doubt start image kept old.turns.items stamp core node flushed counts (legal_with later new.volume makes.remembers) counted
             (alive_of (is_alive (tree_after kept.first kept.history) node.0) old.volume.failed flushed.reply answer_is (λ is. no_error reply.DiskFailed refl (sym failed ∙ is)))
             had.used had.below had.stand (with_fsync core stamp node flushed) before after old.volume new.volume makes own then_faults stands.answers.later)));
+        dated = λ count_on. record {
+          acks = λ from rise. AcksRise-push from before.now after.now kept.history entry rise (no_moment flushed.ack before.now after.now no_ack) goes.later;
+          turns = turns_go_on
+              (subst (IsDatedDeed before.now after.now (moment_of entry)) (sym makes.did.did) (gate_dated (sealed_at before.now makes.did.job) (omega arith)));
+        };
         safe = λ share from count_on safe.
-            let stood = subst (StandsNow share from kept before) none safe.now in
-            record {
-              now = subst (StandsNow share from later after) (sym halted) (
-                failures_keep before after share from kept.first kept.history entry kept.flushes makes.one.flush kept.cut makes.one.raised kept.inodes makes.one.after
-                    (sound_with kept old.volume stands.remembers) (legal_with later new.volume makes.remembers) failed (raises_next makes.one makes.is) (makes.wrote count_on stood.1 share) stood.0,
-                record { entry = entry; among = in_right kept.history (entry ∷ []) entry (inl refl); failed = subst Rattle.crash_laws.specs.Survives.IsFailure (sym failed) tt },
-              );
-              acks = AcksRise-push from before.now after.now kept.history entry safe.acks (no_moment flushed.ack before.now after.now no_ack) goes.later;
-            };
+            let stood = subst (StandsNow share from kept before) none safe in
+            subst (StandsNow share from later after) (sym halted) (
+              failures_keep before after share from kept.first kept.history entry kept.flushes makes.one.flush kept.cut makes.one.raised kept.inodes makes.one.after
+                  (sound_with kept old.volume stands.remembers) (legal_with later new.volume makes.remembers) failed (raises_next makes.one makes.is) (makes.wrote count_on stood.1 share) stood.0,
+              record { entry = entry; among = in_right kept.history (entry ∷ []) entry (inl refl); failed = subst Rattle.crash_laws.specs.Survives.IsFailure (sym failed) tt },
+            );
       }
 
   -- the turns of one answered otherwise
-  other_turns : IsLegal kept.first (kept.history ++ entry ∷ []) → (given : Reply) → flushed.reply ≡ given → DidStay kept (flush_of node stamp) given flushed.deed
+  other_turns : IsLegal kept.first (kept.history ++ entry ∷ []) → (given : Reply) → flushed.reply ≡ given → DidStay kept (fsync_at node stamp) given flushed.deed
       → TurnsSoFar start image (kept_with kept entry) before.faults (old.turns.items ++ turns_of entry node counts flushed.deed) old.volume.failed
   other_turns legal given is did = by given is did
     where
@@ -228,7 +272,7 @@ module _ (start : ℕ) (image : ImageState) (kept : Volume) (old new : Engine) (
           subst (TurnsSoFar start image (kept_with kept entry) before.faults (old.turns.items ++ turns_of entry node counts flushed.deed)) (sym none)
           (subst (λ n. HaveTurns image (kept_with kept entry) n (old.turns.items ++ turns_of entry node counts flushed.deed)) own have)
 
-      by : (given : Reply) → flushed.reply ≡ given → DidStay kept (flush_of node stamp) given flushed.deed
+      by : (given : Reply) → flushed.reply ≡ given → DidStay kept (fsync_at node stamp) given flushed.deed
           → TurnsSoFar start image (kept_with kept entry) before.faults (old.turns.items ++ turns_of entry node counts flushed.deed) old.volume.failed
       by (reply.NoSpace kind need free) is did =
           let none = working_of _ old.volume.failed flushed.reply answer_is (λ e. no_error (reply.NoSpace kind need free) refl (sym is ∙ e)) (λ f e. absurd (let never : reply.NoSpace kind need free ≡ reply.Stopped f = sym is ∙ e in cc)) in
@@ -253,21 +297,28 @@ module _ (start : ℕ) (image : ImageState) (kept : Volume) (old new : Engine) (
       by _ is did = absurd did
 
   module _ (disks : Type 0) (stay : disks → (P : View → Type 0) → P before → P after) where
+    -- the turns of one answered otherwise rise
+    stays_rising : disks → DidStay kept (fsync_at node stamp) flushed.reply flushed.deed → (from : ℕ) → MomentsRise from old.turns.items before.now → MomentsRise from new.turns.items before.now
+    stays_rising same did from rise =
+        subst (λ n. MomentsRise from new.turns.items n) (sym (stay same (λ (v : View). before.now ≡ v.now) refl))
+        (turns_go_on (stayed_dated kept (fsync_at node stamp) flushed.reply before.now after.now (moment_of entry) flushed.deed did) from rise)
+
     -- answered otherwise
-    stayed : (given : Reply) → flushed.reply ≡ given → is_failed_flush entry ≡ false → FsyncStays disks (with_fsync core stamp node flushed) kept (flush_of node stamp) old.volume new.volume flushed → HasGoneOn start image kept old new before after
+    stayed : (given : Reply) → flushed.reply ≡ given → is_failed_flush entry ≡ false → FsyncStays disks (with_fsync core stamp node flushed) kept (fsync_at node stamp) old.volume new.volume flushed → HasGoneOn start image kept old new before after
     stayed given is fine makes =
         stay makes.same (HasGoneOn start image kept old new before)
         (goes_on_still start image kept old new before entry stands makes.remembers makes.failed entries makes.refused fine cause
         (subst (λ (l : List Turn). TurnsSoFar start image (kept_with kept entry) before.faults l old.volume.failed) (sym told)
-        (other_turns (legal_with (kept_with kept entry) new.volume makes.remembers) given is (subst (λ r. DidStay kept (flush_of node stamp) r flushed.deed) is makes.did))))
+        (other_turns (legal_with (kept_with kept entry) new.volume makes.remembers) given is (subst (λ r. DidStay kept (fsync_at node stamp) r flushed.deed) is makes.did)))
+        (stays_rising makes.same makes.did))
 
-    pub goes_on_fsync : FsyncMakes disks (with_fsync core stamp node flushed) kept (flush_of node stamp) before after old.volume new.volume flushed flushed.reply → HasGoneOn start image kept old new before after
+    pub goes_on_fsync : FsyncMakes disks (with_fsync core stamp node flushed) kept (fsync_at node stamp) before after old.volume new.volume flushed flushed.reply → HasGoneOn start image kept old new before after
     goes_on_fsync makes = by flushed.reply refl makes
       where
         fine : (given : Reply) → flushed.reply ≡ given → is_failure given ≡ false → is_failed_flush entry ≡ false
         fine given is not = ap is_failure is ∙ not
 
-        by : (given : Reply) → flushed.reply ≡ given → FsyncMakes disks (with_fsync core stamp node flushed) kept (flush_of node stamp) before after old.volume new.volume flushed given → HasGoneOn start image kept old new before after
+        by : (given : Reply) → flushed.reply ≡ given → FsyncMakes disks (with_fsync core stamp node flushed) kept (fsync_at node stamp) before after old.volume new.volume flushed given → HasGoneOn start image kept old new before after
         by reply.Ok is makes = committed is makes
         by reply.DiskFailed is makes = doubted is makes
         by (reply.NoSpace kind need free) is makes = stayed _ is (fine _ is refl) makes

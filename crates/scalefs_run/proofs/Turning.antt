@@ -1,5 +1,5 @@
 -- The turns of a run go on by one entry.
-use Rattle.std.proofs.Common.{◌≡◌, ⊎_elim, ℕ, ◌-◌, ◌≤◌, ◌^◌, Bool, true, false, List, [], ◌∷◌, ◌++◌, length, Option, Some, None, unwrap_or, refl, sym, ap, subst, ◌∙◌, arith, append_assoc, append-nil}
+use Rattle.std.proofs.Common.{◌≡◌, ⊎_elim, ℕ, ◌-◌, ◌≤◌, ◌^◌, max, Bool, true, false, List, [], ◌∷◌, ◌++◌, length, Option, Some, None, unwrap_or, refl, sym, ap, subst, ◌∙◌, arith, append_assoc, append-nil}
 use Rattle.std.proofs.lemmas.List.{length-append}
 use Rattle.sfs_base.specs.Ends.{HasRisen}
 use Rattle.sfs_base.specs.declared.numbers.CoreId.{CoreId}
@@ -27,20 +27,20 @@ use Rattle.commit_turns.specs.Need.{ImageState, IsMadeBy, node_bound}
 use Rattle.commit_turns.specs.OneThread.{Resting, TurnsStand, TurnsFailed, ComesNext, IsNextFsync, MayBegin, fsync_of, turn_of}
 use Rattle.commit_turns.proofs.Failed.{calls_fail, halts_fail}
 use Rattle.commit_turns.proofs.Standing.{calls_stand}
-use Rattle.commit_turns.proofs.WholeFsyncs.{commits_stand, empty_commits_stand, shorts_stand, given_back_stand, doubts_fail}
-use Rattle.turn_ties.specs.Plans.{Planning, planning_of, image_left, rest_of, machine_of, made_of, HasPlan}
+use Rattle.commit_turns.proofs.WholeFsyncs.{commits_stand, empty_commits_stand, shorts_stand, given_back_stand, doubts_fail, opened_doubts_fail}
+use Rattle.turn_ties.specs.Plans.{Planning, planning_of, image_once_left, rest_of, machine_of_rest, made_of, HasPlan}
 use Rattle.turn_ties.proofs.Leaves.{commits_leave_images, empty_commits_leave_images}
 use Rattle.turn_ties.proofs.Made.{plans_are_made, rests_go_on}
 use Rattle.volume_laws.specs.Stores.{volume_left}
 use Rattle.volume_laws.specs.Volume.{Volume, OneFsync}
-use Rattle.volume_one.specs.Calls.{entry_of, kept_with}
-use Rattle.volume_one.specs.Deeds.{BeginsByBooks, IsDurableDeed, DidStay}
-use Rattle.volume_one.specs.Fsync.{FsyncCommits, FsyncDoubts, IsFsyncAnswer, IsLiveAnswer, flush_of}
+use Rattle.volume_one.specs.Calls.{call_entry, kept_with}
+use Rattle.volume_one.specs.Deeds.{BeginsByBooks, IsDurableDeed, DidStay, gate_moment}
+use Rattle.volume_one.specs.Fsync.{FsyncCommits, FsyncDoubts, IsFsyncAnswer, IsLiveAnswer, fsync_at}
 use Rattle.volume_one.specs.declared.deed.Deed.{Deed}
 use Rattle.volume_one.specs.declared.deed.Deed.TheVariants as deeds
 use Rattle.volume_one.specs.declared.flushed.Flushed.{Flushed}
 use Rattle.volume_one.specs.declared.volume.OpenVolume.{OpenVolume}
-use Rattle.scalefs_run.specs.Turns.{TurnsSoFar, HaveTurns, HaveFailed, turns_of, short_turns, moment_of, commit_of}
+use Rattle.scalefs_run.specs.Turns.{TurnsSoFar, HaveTurns, HaveFailed, turns_of, short_turns, moment_of, commit_number}
 use Rattle.scalefs_run.specs.declared.turns.Counts.{Counts}
 
 -- items one by one behind a list
@@ -112,9 +112,9 @@ alive_of true failed given is not = refl
 alive_of false failed given is not = absurd (not is)
 
 module _ (start : ℕ) (image : ImageState) (kept : Volume) (turns : List Turn) (stamp : Stamp) (core : CoreId) (node : NodeId) (flushed : Flushed) (counts : Counts)
-    (legal : IsLegal kept.first (kept.history ++ entry_of stamp core (Fsync node) flushed.reply flushed.ack ∷ [])) (counted : length kept.history ≡ stamp.0) where
+    (legal : IsLegal kept.first (kept.history ++ call_entry stamp core (Fsync node) flushed.reply flushed.ack ∷ [])) (counted : length kept.history ≡ stamp.0) where
   abbrev entry : Entry
-  entry = entry_of stamp core (Fsync node) flushed.reply flushed.ack
+  entry = call_entry stamp core (Fsync node) flushed.reply flushed.ack
 
   comes : ComesNext kept.first kept.history entry
   comes = record { stamped = sym counted; legal = legal }
@@ -142,59 +142,59 @@ module _ (start : ℕ) (image : ImageState) (kept : Volume) (turns : List Turn) 
     }
 
     module _ (used : List ℕ) (below : (commit : ℕ) → Among used commit → commit ≤ length kept.history) (stand : TurnsStand kept.first kept.history image counts.faults_before turns (rest_of kept used)) where
-      made_is : (planning : Planning) → planning.flush ≡ flush_of node stamp → HasPlan kept planning → IsMadeBy (machine_of kept used) (fsync_of entry node) (made_of planning)
-      made_is planning same has = subst (λ (f : Flush). IsMadeBy (machine_of kept used) f (made_of planning)) same (plans_are_made kept used planning has)
+      made_is : (planning : Planning) → planning.flush ≡ fsync_at node stamp → HasPlan kept planning → IsMadeBy (machine_of_rest kept used) (fsync_of entry node) (made_of planning)
+      made_is planning same has = subst (λ (f : Flush). IsMadeBy (machine_of_rest kept used) f (made_of planning)) same (plans_are_made kept used planning has)
 
-      fresh : Among used (commit_of entry) → ⊥
-      fresh among = let low = below (commit_of entry) among in absurd (omega (arith, low, counted))
+      fresh : Among used (commit_number entry) → ⊥
+      fresh among = let low = below (commit_number entry) among in absurd (omega (arith, low, counted))
 
-      begins : (one : OneFsync) → one.flush ≡ flush_of node stamp → (books : BeginsByBooks kept (flush_of node stamp) one)
-          → MayBegin kept.first kept.history (rest_of kept used) (fsync_of entry node) (commit_of entry) (made_of (planning_of one)) books.members
+      begins : (one : OneFsync) → one.flush ≡ fsync_at node stamp → (books : BeginsByBooks kept (fsync_at node stamp) one)
+          → MayBegin kept.first kept.history (rest_of kept used) (fsync_of entry node) (commit_number entry) (made_of (planning_of one)) books.members
       begins one same books = record { number = fresh; is_made = made_is (planning_of one) same books.tied.has; members_are = books.members_are }
 
-      below_next : (commit : ℕ) → Among (used ++ commit_of entry ∷ []) commit → commit ≤ length (kept.history ++ entry ∷ [])
+      below_next : (commit : ℕ) → Among (used ++ commit_number entry ∷ []) commit → commit ≤ length (kept.history ++ entry ∷ [])
       below_next commit among =
           let long = length-append kept.history (entry ∷ []) in
           ⊎_elim (λ old. below_more used kept.history entry below commit old)
-          (λ new. ⊎_elim (λ same. omega (arith, long, counted, same)) (λ never. absurd never) new) (in_either used (commit_of entry ∷ []) commit among)
+          (λ new. ⊎_elim (λ same. omega (arith, long, counted, same)) (λ never. absurd never) new) (in_either used (commit_number entry ∷ []) commit among)
 
       module _ (grown : Volume → Volume) (before after : View) (old new : OpenVolume) where
-        module _ (is : FsyncCommits grown kept (flush_of node stamp) before after old new flushed) where
+        module _ (is : FsyncCommits grown kept (fsync_at node stamp) before after old new flushed) where
           abbrev left : Volume
           left = volume_left kept is.one is.later
 
           abbrev Stand : List Turn → Type 0
-          Stand l = TurnsStand kept.first (kept.history ++ entry ∷ []) image counts.faults_before l (rest_of left (used ++ commit_of entry ∷ []))
+          Stand l = TurnsStand kept.first (kept.history ++ entry ∷ []) image counts.faults_before l (rest_of left (used ++ commit_number entry ∷ []))
 
           at_moment : flushed.ack ≡ Some (moment_of entry)
           at_moment = is.acknowledged ∙ ap Some (sym (ap (λ (a : Option ℕ). unwrap_or a 0) is.acknowledged))
 
           have : (l : List Turn) → Stand l → HaveTurns image (kept_with left entry) counts.faults_before l
-          have l stands = record { used = used ++ commit_of entry ∷ []; below = below_next; stand = stands }
+          have l stands = record { used = used ++ commit_number entry ∷ []; below = below_next; stand = stands }
 
           durable : (did : Deed) → IsDurableDeed kept is.one before after is.moment did → HaveTurns image (kept_with left entry) counts.faults_before (turns ++ turns_of entry node counts did)
           durable deeds.Committed did =
-              let g = turn_of entry node (commit_of entry) counts.calls_before counts.faults_before act.Granted in
-              let c = turn_of entry node (commit_of entry) counts.calls_before counts.faults_before act.CutAt in
-              let o = turn_of entry node (commit_of entry) (moment_of entry - 1) counts.faults_before act.Opened in
-              let d = turn_of entry node (commit_of entry) (moment_of entry) counts.faults_before act.Durable in
+              let g = turn_of entry node (commit_number entry) counts.calls_before counts.faults_before act.Granted in
+              let c = turn_of entry node (commit_number entry) counts.calls_before counts.faults_before act.CutAt in
+              let o = turn_of entry node (commit_number entry) (max counts.calls_before (moment_of entry - 1)) counts.faults_before act.Opened in
+              let d = turn_of entry node (commit_number entry) (moment_of entry) counts.faults_before act.Durable in
               have (turns ++ g ∷ c ∷ o ∷ d ∷ [])
               (subst Stand (four turns g c o d)
-              (subst (λ (r : Resting). TurnsStand kept.first (kept.history ++ entry ∷ []) image counts.faults_before ((((turns ++ g ∷ []) ++ c ∷ []) ++ o ∷ []) ++ d ∷ []) r) (sym (rests_go_on kept used is.one is.later (commit_of entry)))
-              (commits_stand kept.first kept.history image counts.faults_before turns (rest_of kept used) entry node (commit_of entry) (commit_of entry) counts.calls_before counts.calls_before (moment_of entry - 1) (moment_of entry)
-              (made_of (planning_of is.one)) is.did.books.members (image_left kept is.one)
+              (subst (λ (r : Resting). TurnsStand kept.first (kept.history ++ entry ∷ []) image counts.faults_before ((((turns ++ g ∷ []) ++ c ∷ []) ++ o ∷ []) ++ d ∷ []) r) (sym (rests_go_on kept used is.one is.later (commit_number entry)))
+              (commits_stand kept.first kept.history image counts.faults_before turns (rest_of kept used) entry node (commit_number entry) (commit_number entry) counts.calls_before counts.calls_before (max counts.calls_before (moment_of entry - 1)) (moment_of entry)
+              (made_of (planning_of is.one)) is.did.books.members (image_once_left kept is.one)
               next (begins is.one is.is.flush_is is.did.books) (is.did.books.fits used)
               (commits_leave_images kept used is.one is.did.books.tied.has.stands is.is.planned is.did.books.tied.touched (is.did.books.least used))
               is.reply_is at_moment stand)))
           durable deeds.Empty did =
-              let c = turn_of entry node (commit_of entry) (moment_of entry) counts.faults_before act.CutAt in
-              let o = turn_of entry node (commit_of entry) (moment_of entry) counts.faults_before act.Opened in
-              let d = turn_of entry node (commit_of entry) (moment_of entry) counts.faults_before act.Durable in
+              let c = turn_of entry node (commit_number entry) (moment_of entry) counts.faults_before act.CutAt in
+              let o = turn_of entry node (commit_number entry) (moment_of entry) counts.faults_before act.Opened in
+              let d = turn_of entry node (commit_number entry) (moment_of entry) counts.faults_before act.Durable in
               have (turns ++ c ∷ o ∷ d ∷ [])
               (subst Stand (three turns c o d)
-              (subst (λ (r : Resting). TurnsStand kept.first (kept.history ++ entry ∷ []) image counts.faults_before (((turns ++ c ∷ []) ++ o ∷ []) ++ d ∷ []) r) (sym (rests_go_on kept used is.one is.later (commit_of entry)))
-              (empty_commits_stand kept.first kept.history image counts.faults_before turns (rest_of kept used) entry node (commit_of entry) (moment_of entry)
-              (made_of (planning_of is.one)) is.did.books.members (image_left kept is.one)
+              (subst (λ (r : Resting). TurnsStand kept.first (kept.history ++ entry ∷ []) image counts.faults_before (((turns ++ c ∷ []) ++ o ∷ []) ++ d ∷ []) r) (sym (rests_go_on kept used is.one is.later (commit_number entry)))
+              (empty_commits_stand kept.first kept.history image counts.faults_before turns (rest_of kept used) entry node (commit_number entry) (moment_of entry)
+              (made_of (planning_of is.one)) is.did.books.members (image_once_left kept is.one)
               next (begins is.one is.is.flush_is is.did.books) (did.needs_nothing used)
               (empty_commits_leave_images kept used is.one is.did.books.tied.has.stands is.is.planned is.did.books.tied.touched (did.needs_nothing used))
               is.reply_is at_moment stand)))
@@ -207,31 +207,51 @@ module _ (start : ℕ) (image : ImageState) (kept : Volume) (turns : List Turn) 
           pub turns_commit : HaveTurns image (kept_with left entry) counts.faults_before (turns ++ turns_of entry node counts flushed.deed)
           turns_commit = durable flushed.deed is.did.did
 
-        pub turns_doubt : (is : FsyncDoubts grown kept (flush_of node stamp) before after old new flushed) → counts.faults_before ≡ before.faults → counts.faults_after ≡ after.faults → start ≤ before.faults
+        abbrev Fails : ℕ → List Turn → Type 0
+        Fails n l = TurnsFailed kept.first (kept.history ++ entry ∷ []) image counts.faults_before n l
+
+        abbrev granted : Turn
+        granted = turn_of entry node (commit_number entry) counts.calls_before counts.faults_before act.Granted
+
+        abbrev begun : Turn
+        begun = turn_of entry node (commit_number entry) counts.calls_before counts.faults_before act.CutAt
+
+        abbrev failed : Turn
+        failed = turn_of entry node (commit_number entry) counts.calls_after counts.faults_after act.Fail
+
+        pub turns_doubt : (is : FsyncDoubts grown kept (fsync_at node stamp) before after old new flushed) → counts.faults_before ≡ before.faults → counts.faults_after ≡ after.faults → start ≤ before.faults
             → HaveFailed start image (kept_with kept entry) (turns ++ turns_of entry node counts flushed.deed) after.faults
-        turns_doubt is own later since =
-            let g = turn_of entry node (commit_of entry) counts.calls_before counts.faults_before act.Granted in
-            let c = turn_of entry node (commit_of entry) counts.calls_before counts.faults_before act.CutAt in
-            let f = turn_of entry node (commit_of entry) counts.calls_after counts.faults_after act.Fail in
-            let failed : TurnsFailed kept.first (kept.history ++ entry ∷ []) image counts.faults_before counts.faults_after (((turns ++ g ∷ []) ++ c ∷ []) ++ f ∷ []) =
-            doubts_fail kept.first kept.history image counts.faults_before turns (rest_of kept used) entry node (commit_of entry) (commit_of entry) counts.calls_before counts.calls_before counts.calls_after counts.faults_after
-            (made_of (planning_of is.one)) is.did.books.members
-            next (begins is.one is.is.flush_is is.did.books) (is.did.books.fits used)
-            (subst (λ n. HasRisen counts.faults_before n) (sym later) (subst (λ n. HasRisen n after.faults) (sym own) is.risen)) is.reply_is stand in
-            record {
-              before = counts.faults_before;
-              since = omega (arith, own, since);
-              fail =
-                  subst (λ (did : Deed). TurnsFailed kept.first (kept.history ++ entry ∷ []) image counts.faults_before after.faults (turns ++ turns_of entry node counts did)) (sym is.did.did)
-                  (subst (λ n. TurnsFailed kept.first (kept.history ++ entry ∷ []) image counts.faults_before n (turns ++ g ∷ c ∷ f ∷ [])) later
-                  (subst (TurnsFailed kept.first (kept.history ++ entry ∷ []) image counts.faults_before counts.faults_after) (three turns g c f) failed));
-            }
+        turns_doubt is own later since = record {
+          before = counts.faults_before;
+          since = omega (arith, own, since);
+          fail =
+              subst (λ (did : Deed). Fails after.faults (turns ++ turns_of entry node counts did)) (sym is.did.did)
+              (subst (λ n. Fails n (turns ++ turns_of entry node counts (deeds.Failed (gate_moment before.now is.did.job after.now)))) later
+              (by (gate_moment before.now is.did.job after.now)));
+        }
+          where
+            risen : HasRisen counts.faults_before counts.faults_after
+            risen = subst (λ n. HasRisen counts.faults_before n) (sym later) (subst (λ n. HasRisen n after.faults) (sym own) is.risen)
+
+            -- whether its gate was written or not
+            by : (opened : Option ℕ) → Fails counts.faults_after (turns ++ turns_of entry node counts (deeds.Failed opened))
+            by None =
+                subst (Fails counts.faults_after) (three turns granted begun failed)
+                (doubts_fail kept.first kept.history image counts.faults_before turns (rest_of kept used) entry node (commit_number entry) (commit_number entry) counts.calls_before counts.calls_before counts.calls_after counts.faults_after
+                (made_of (planning_of is.one)) is.did.books.members
+                next (begins is.one is.is.flush_is is.did.books) (is.did.books.fits used) risen is.reply_is stand)
+            by (Some opened) =
+                let o = turn_of entry node (commit_number entry) opened counts.faults_before act.Opened in
+                subst (Fails counts.faults_after) (four turns granted begun o failed)
+                (opened_doubts_fail kept.first kept.history image counts.faults_before turns (rest_of kept used) entry node (commit_number entry) (commit_number entry) counts.calls_before counts.calls_before opened counts.calls_after counts.faults_after
+                (made_of (planning_of is.one)) is.did.books.members
+                next (begins is.one is.is.flush_is is.did.books) (is.did.books.fits used) risen is.reply_is stand)
 
         module _ (Same : Type 0) (few : node_bound kept.first ≤ 2 ^ 32) where
           have_still : (l : List Turn) → TurnsStand kept.first (kept.history ++ entry ∷ []) image counts.faults_before l (rest_of kept used) → HaveTurns image (kept_with kept entry) counts.faults_before l
           have_still l stands = record { used = used; below = below_more used kept.history entry below; stand = stands }
 
-          pub turns_short : (kind : SpaceKind) (need free : ℕ) → flushed.reply ≡ reply.NoSpace kind need free → DidStay kept (flush_of node stamp) (reply.NoSpace kind need free) flushed.deed
+          pub turns_short : (kind : SpaceKind) (need free : ℕ) → flushed.reply ≡ reply.NoSpace kind need free → DidStay kept (fsync_at node stamp) (reply.NoSpace kind need free) flushed.deed
               → HaveTurns image (kept_with kept entry) counts.faults_before (turns ++ turns_of entry node counts flushed.deed)
           turns_short kind need free given did =
               let was = did.1 in
@@ -240,7 +260,7 @@ module _ (start : ℕ) (image : ImageState) (kept : Volume) (turns : List Turn) 
               (have_still _ (shorts_stand kept.first kept.history image counts.faults_before turns (rest_of kept used) entry node 0 counts.calls_before (made_of was.planning) kind need free
               next (made_is was.planning was.flush_is was.tied.has) (was.exceeds few used) given stand)))
 
-          pub turns_back : (did : Deed) → flushed.reply ≡ reply.NoMemory → DidStay kept (flush_of node stamp) reply.NoMemory did → HaveTurns image (kept_with kept entry) counts.faults_before (turns ++ turns_of entry node counts did)
+          pub turns_back : (did : Deed) → flushed.reply ≡ reply.NoMemory → DidStay kept (fsync_at node stamp) reply.NoMemory did → HaveTurns image (kept_with kept entry) counts.faults_before (turns ++ turns_of entry node counts did)
           turns_back deeds.Nothing given did = nothing_told counts.faults_before None (record { used = used; below = below; stand = stand }) (λ is. given)
           turns_back deeds.GivenBack given did =
               let g = turn_of entry node 0 counts.calls_before counts.faults_before act.Granted in

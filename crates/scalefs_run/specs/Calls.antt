@@ -8,7 +8,7 @@ use Rattle.sfs_tree.specs.declared.history.Entry.{Entry}
 use Rattle.sfs_tree.specs.Tree.{is_alive}
 use Rattle.sfs_tree.specs.Verdict.{verdict}
 use Rattle.sfs_dev.specs.Disk.{View}
-use Rattle.volume_one.specs.Calls.{GoesOnWith, entry_of}
+use Rattle.volume_one.specs.Calls.{GoesOnWith, call_entry}
 use Rattle.volume_one.specs.Fsync.{FsyncGoesOn, IsFsyncAnswer}
 use Rattle.volume_one.specs.declared.flushed.Flushed.{Flushed}
 use Rattle.scalefs_run.specs.declared.engine.Engine.{Engine}
@@ -28,7 +28,7 @@ pub record IsCallAnswered (Same : Type 0) (stamp : Stamp) (core : CoreId) (call 
   pub turns : new.turns ≡ old.turns
   pub reply_is : result.reply ≡ (verdict old.volume.tree core.0 call).reply
   pub ack_is : result.ack ≡ None
-  pub goes_on : GoesOnWith old.volume new.volume (entry_of stamp core call result.reply None)
+  pub goes_on : GoesOnWith old.volume new.volume (call_entry stamp core call result.reply None)
   pub failed : new.volume.failed ≡ old.volume.failed
 
 -- An fsync was made in the volume, and the calls are as they were.

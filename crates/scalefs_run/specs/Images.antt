@@ -10,7 +10,6 @@ use Rattle.journal_one.specs.Calls.{IsCalm}
 use Rattle.crash_laws.specs.Survives.{SurvivesAll, ReadsBack}
 use Rattle.mount.specs.Mounted.{share_of_nodes}
 use Rattle.recovery.specs.Recovered.{ShowsTheSame}
-use Rattle.scalefs_run.specs.Acks.{AcksRise}
 
 -- This holds of the image at the entry of a disk that told it and on which nothing was pending, while the count of its device calls has not
 -- come to its last value.
@@ -19,12 +18,10 @@ IfQuiet old new P = IfTold old.content (λ image. IsCalm old → CountsOn new �
 
 -- A run from moment `from` on survives each crash. For each of its moments, every image that a crash then or later may leave is read as the tree
 -- at a closed cut that covers the history at the moment, and that a list of its fsyncs has raised which begins with those acknowledged by
--- then. Where no fsync has failed, what a read gives at the end is the tree at the cut that exactly those answered Ok have raised. The
--- moments of acknowledgement do not fall, and lie within the run.
+-- then. Where no fsync has failed, what a read gives at the end is the tree at the cut that exactly those answered Ok have raised.
 pub record SurvivesRun (share from : ℕ) (first : TreeState) (history : List Entry) (disk : View) : Type 0 where
   pub images : SurvivesAll share from first history disk
   pub reads_back : ReadsBack share first history disk
-  pub acks : AcksRise from history disk.now
 
 -- What a crash during a call leaves, by whether the image was mounted: a run that survives, or else at each moment what the image at the entry
 -- shows, its first fault or its tree.

@@ -15,7 +15,7 @@ use Rattle.crash_laws.specs.Survives.{HasFailure}
 use Rattle.volume_laws.specs.Volume.{Volume}
 use Rattle.volume_one.specs.Fsync.{HoldsVolume}
 use Rattle.volume_one.specs.Stands.{Remembers}
-use Rattle.scalefs_run.specs.Acks.{AcksRise}
+use Rattle.scalefs_run.specs.Acks.{GoOnRising}
 use Rattle.scalefs_run.specs.Replies.{HasAnswers, HasAnswersSoFar}
 use Rattle.scalefs_run.specs.Turns.{TurnsSoFar}
 use Rattle.scalefs_run.specs.declared.engine.Engine.{Engine}
@@ -38,17 +38,14 @@ StandsNow share from kept disk None =
     StandsSoFar share from kept.first kept.history kept.flushes kept.cut kept.inodes disk × HoldsVolume kept disk
 StandsNow share from kept disk (Some faults) = SoFar share from kept.first kept.history disk × HasFailure kept.history
 
--- Whatever a crash may have left is safe so far, and the moments of acknowledgement don't fall.
-pub record IsSafe (share from : ℕ) (kept : Volume) (failed : Option ℕ) (disk : View) : Type 0 where
-  pub now : StandsNow share from kept disk failed
-  pub acks : AcksRise from kept.history disk.now
-
--- A run has gone on from what stood: what stands now begins with the same tree, and what was safe is safe.
+-- A run has gone on from what stood: what stands now begins with the same tree, the moments of acknowledgements and of turns go on to rise,
+-- and what was safe is safe.
 pub record HasGoneOn (start : ℕ) (image : ImageState) (kept : Volume) (old new : Engine) (before after : View) : Type 0 where
   pub later : Volume
   pub first : later.first ≡ kept.first
   pub stands : RunStands start image later new after
-  pub safe : (share from : ℕ) → CountsOn after → IsSafe share from kept old.volume.failed before → IsSafe share from later new.volume.failed after
+  pub dated : CountsOn after → GoOnRising kept.history old.turns.items before.now later.history new.turns.items after.now
+  pub safe : (share from : ℕ) → CountsOn after → StandsNow share from kept before old.volume.failed → StandsNow share from later after new.volume.failed
 
 -- it stands somehow
 abbrev pub HasInvariant : Engine → View → Type 0
@@ -70,17 +67,18 @@ pub record StandsAtEnd (share : ℕ) (first : TreeState) (history : List Entry) 
 pub record IsSafeEnd (share from : ℕ) (first : TreeState) (history : List Entry) (disk : View) : Type 0 where
   pub so_far : SoFar share from first history disk
   pub ends : StandsAtEnd share first history disk ⊎ HasFailure history
-  pub acks : AcksRise from history disk.now
 
--- A run has ended that stood before: its history is legal, each fsync is answered for its cause, its turns are recorded, and what was safe is safe.
-pub record HasEnded (start : ℕ) (image : ImageState) (kept : Volume) (failed : Option ℕ) (history : List Entry) (turns : List Turn) (before after : View) : Type 0 where
+-- A run has ended that stood before: its history is legal, each fsync is answered for its cause, its turns are recorded, the moments of
+-- acknowledgements and of turns go on to rise, and what was safe is safe. `had` are the turns before.
+pub record HasEnded (start : ℕ) (image : ImageState) (kept : Volume) (failed : Option ℕ) (had : List Turn) (history : List Entry) (turns : List Turn) (before after : View) : Type 0 where
   pub legal : IsLegal kept.first history
   pub answers : HasAnswers start after.faults kept.first history
   pub recorded : IsRecorded kept.first history image start after.faults turns
-  pub safe : (share from : ℕ) → CountsOn after → IsSafe share from kept failed before → IsSafeEnd share from kept.first history after
+  pub dated : CountsOn after → GoOnRising kept.history had before.now history turns after.now
+  pub safe : (share from : ℕ) → CountsOn after → StandsNow share from kept before failed → IsSafeEnd share from kept.first history after
 
 -- however it stood, it has ended
 abbrev pub EndsRun : Engine → Engine → View → View → Type 0
 EndsRun old new before after =
     (start : ℕ) (image : ImageState) (kept : Volume) → RunStands start image kept old before
-    → HasEnded start image kept old.volume.failed new.entries.items new.turns.items before after
+    → HasEnded start image kept old.volume.failed old.turns.items new.entries.items new.turns.items before after

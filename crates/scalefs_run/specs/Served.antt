@@ -8,7 +8,7 @@ use Rattle.sfs_tree.specs.History.{IsLegal}
 use Rattle.sfs_tree.specs.Laws.{IsSoundTree}
 use Rattle.sfs_tree.specs.Tree.{TreeState}
 use Rattle.sfs_dev.specs.Disk.{View}
-use Rattle.sfs_dev.specs.Run.{Unwritten}
+use Rattle.sfs_dev.specs.Run.{CountsOn, Unwritten}
 use Rattle.sfs_dev.specs.Steps.{IfTold}
 use Rattle.image_tree.specs.Image.{tree_of}
 use Rattle.mount.specs.Mounted.{share_of_nodes}
@@ -17,6 +17,7 @@ use Rattle.script.specs.Phases.{phases_of}
 use Rattle.script.specs.Texts.{history_text}
 use Rattle.scalefs_run.specs.declared.outcome.Status.{Status}
 use Rattle.scalefs_run.specs.declared.outcome.Status.TheVariants.{Done, WriteFault, NoMemory}
+use Rattle.scalefs_run.specs.Acks.{AcksRise}
 use Rattle.scalefs_run.specs.Due.{Judgement, IsJudged, due, phases_in}
 use Rattle.scalefs_run.specs.Image.{IsImageRefused}
 use Rattle.scalefs_run.specs.Images.{IfQuiet, HasImagesBy}
@@ -62,6 +63,8 @@ pub record Served (due_by : Judgement → Status) (nodes : ℕ) (phases : List (
   pub text : HasText (history_text history) before after status
   -- each fsync is answered as it is for its cause
   pub answers : HasAnswers old.faults new.faults first history
+  -- the moments of acknowledgement do not fall, and lie within the run
+  pub acks : CountsOn new → AcksRise old.now history new.now
   -- its turns at the disk tell what each fsync did
   pub turns_are : HasTurnsBy (was_mounted status history) old new first history turns
   -- what a crash leaves at each moment, and what a read gives at the end

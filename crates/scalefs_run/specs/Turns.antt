@@ -1,5 +1,5 @@
 -- The turns at the disk of one fsync, by what it did, and those of a run.
-use Rattle.std.specs.Prelude.{◌≡◌, ℕ, ◌+◌, ◌-◌, ◌≤◌, Bool, true, false, List, [], ◌∷◌, length, unwrap_or, Option, None, Some}
+use Rattle.std.specs.Prelude.{◌≡◌, ℕ, ◌+◌, ◌-◌, ◌≤◌, max, Bool, true, false, List, [], ◌∷◌, length, unwrap_or, Option, None, Some}
 use Rattle.std.specs.FinMap.{empty}
 use Rattle.sfs_base.specs.declared.numbers.NodeId.{NodeId}
 use Rattle.sfs_image.specs.ImageOf.{IsImageOf}
@@ -14,6 +14,7 @@ use Rattle.sfs_tree.specs.declared.turns.Turn.{Turn}
 use Rattle.sfs_tree.specs.declared.turns.TurnAct.TheVariants as act
 use Rattle.sfs_tree.specs.Tree.{TreeState}
 use Rattle.sfs_dev.specs.Disk.{View}
+use Rattle.sfs_dev.specs.Run.{CountsOn}
 use Rattle.image_tree.specs.Image.{inodes_shown}
 use Rattle.image_tree.specs.Renamed.{Numbering}
 use Rattle.image_tree.specs.Stands.{StandsForTree}
@@ -28,12 +29,13 @@ use Rattle.turn_ties.specs.Plans.{rest_of}
 use Rattle.volume_laws.specs.Volume.{Volume}
 use Rattle.volume_one.specs.declared.deed.Deed.{Deed}
 use Rattle.volume_one.specs.declared.deed.Deed.TheVariants as deed
+use Rattle.scalefs_run.specs.Acks.{MomentsRise}
 use Rattle.scalefs_run.specs.Images.{IfQuiet}
 use Rattle.scalefs_run.specs.declared.turns.Counts.{Counts}
 
 -- the number of the commit of an fsync: no two fsyncs have one stamp
-abbrev pub commit_of : Entry → ℕ
-commit_of entry = entry.stamp.0 + 1
+abbrev pub commit_number : Entry → ℕ
+commit_number entry = entry.stamp.0 + 1
 
 -- the moment at which an entry was acknowledged, or 0
 abbrev pub moment_of : Entry → ℕ
@@ -43,6 +45,18 @@ moment_of entry = unwrap_or entry.ack 0
 abbrev pub short_turns : Entry → NodeId → Counts → Reply → List Turn
 short_turns entry node counts (reply.NoSpace kind need free) = turn_of entry node 0 counts.calls_before counts.faults_before (act.Short kind need free) ∷ []
 short_turns entry node counts _ = []
+
+-- the turns of an fsync that the disk failed: it began its commit, which was opened at a moment, or was not
+abbrev pub failed_turns : Entry → NodeId → Counts → Option ℕ → List Turn
+failed_turns entry node counts (Some opened) =
+    turn_of entry node (commit_number entry) counts.calls_before counts.faults_before act.Granted
+    ∷ turn_of entry node (commit_number entry) counts.calls_before counts.faults_before act.CutAt
+    ∷ turn_of entry node (commit_number entry) opened counts.faults_before act.Opened
+    ∷ turn_of entry node (commit_number entry) counts.calls_after counts.faults_after act.Fail ∷ []
+failed_turns entry node counts None =
+    turn_of entry node (commit_number entry) counts.calls_before counts.faults_before act.Granted
+    ∷ turn_of entry node (commit_number entry) counts.calls_before counts.faults_before act.CutAt
+    ∷ turn_of entry node (commit_number entry) counts.calls_after counts.faults_after act.Fail ∷ []
 
 -- The turns of an fsync of a node, by what it did. What was reserved was so at its begin, and so its cut was taken; the gate was opened by
 -- the device call before the sync by which the commit was durable, at the moment of the acknowledgement.
@@ -54,18 +68,15 @@ turns_of entry node counts deed.GivenBack =
     turn_of entry node 0 counts.calls_before counts.faults_before act.Granted
     ∷ turn_of entry node 0 counts.calls_before counts.faults_before act.GivenBack ∷ []
 turns_of entry node counts deed.Empty =
-    turn_of entry node (commit_of entry) (moment_of entry) counts.faults_before act.CutAt
-    ∷ turn_of entry node (commit_of entry) (moment_of entry) counts.faults_before act.Opened
-    ∷ turn_of entry node (commit_of entry) (moment_of entry) counts.faults_before act.Durable ∷ []
+    turn_of entry node (commit_number entry) (moment_of entry) counts.faults_before act.CutAt
+    ∷ turn_of entry node (commit_number entry) (moment_of entry) counts.faults_before act.Opened
+    ∷ turn_of entry node (commit_number entry) (moment_of entry) counts.faults_before act.Durable ∷ []
 turns_of entry node counts deed.Committed =
-    turn_of entry node (commit_of entry) counts.calls_before counts.faults_before act.Granted
-    ∷ turn_of entry node (commit_of entry) counts.calls_before counts.faults_before act.CutAt
-    ∷ turn_of entry node (commit_of entry) (moment_of entry - 1) counts.faults_before act.Opened
-    ∷ turn_of entry node (commit_of entry) (moment_of entry) counts.faults_before act.Durable ∷ []
-turns_of entry node counts (deed.Failed opened) =
-    turn_of entry node (commit_of entry) counts.calls_before counts.faults_before act.Granted
-    ∷ turn_of entry node (commit_of entry) counts.calls_before counts.faults_before act.CutAt
-    ∷ turn_of entry node (commit_of entry) counts.calls_after counts.faults_after act.Fail ∷ []
+    turn_of entry node (commit_number entry) counts.calls_before counts.faults_before act.Granted
+    ∷ turn_of entry node (commit_number entry) counts.calls_before counts.faults_before act.CutAt
+    ∷ turn_of entry node (commit_number entry) (max counts.calls_before (moment_of entry - 1)) counts.faults_before act.Opened
+    ∷ turn_of entry node (commit_number entry) (moment_of entry) counts.faults_before act.Durable ∷ []
+turns_of entry node counts (deed.Failed opened) = failed_turns entry node counts opened
 
 -- the turns that an entry takes: a call other than an fsync takes none
 abbrev pub turns_by : Call → Entry → Counts → Deed → List Turn
@@ -104,11 +115,12 @@ pub record IsImageAtFirst (old new : View) (first : TreeState) (image : ImageSta
   pub told : IfQuiet old new (λ content. (moment : ℕ) × (old.now ≤ moment) × (moment ≤ new.now)
       × ((left : List ℕ) → new.crash_images moment left → IsImageOf layout nothing_open parts left))
 
--- The turns of a run are recorded, over an image that stands at its begin.
+-- The turns of a run are recorded, over an image that stands at its begin, and their moments do not fall, and lie within the run.
 pub record HasTurns (old new : View) (first : TreeState) (history : List Entry) (turns : List Turn) : Type 0 where
   pub image : ImageState
   pub image_is : IsImageAtFirst old new first image
   pub recorded : IsRecorded first history image old.faults new.faults turns
+  pub dated : CountsOn new → MomentsRise old.now turns new.now
 
 -- the same by whether the image was mounted: where it was not, there are none
 abbrev pub HasTurnsBy : Bool → View → View → TreeState → List Entry → List Turn → Type 0

@@ -1,7 +1,7 @@
 // The turns at the disk that an fsync took, by what it did.
 ghost use Rattle.std.specs.Prelude.{◌≡◌, ◌≤◌, ◌<◌, ◌-◌, ◌^◌, ◌++◌};
 ghost use Rattle.commit_turns.specs.OneThread.{turn_of};
-ghost use Rattle.scalefs_run.specs.Turns.{turns_of, turns_told, short_turns, moment_of};
+ghost use Rattle.scalefs_run.specs.Turns.{turns_of, turns_told, short_turns, failed_turns, moment_of};
 
 use sfs_base::NodeId;
 use sfs_tree::{Call, Entry, Reply, Turn, TurnAct, Turns};
@@ -53,25 +53,31 @@ fn add_fsync(turns: &mut Turns, entry: &Entry, node: NodeId, counts: &Counts, de
         Deed::Committed => {
             turns.push(turn(entry, node, commit, before, faults, TurnAct::Granted));
             turns.push(turn(entry, node, commit, before, faults, TurnAct::CutAt));
-            let opened = durable.saturating_sub(1);
-            turns.push(turn(entry, node, commit, opened, faults, TurnAct::Opened));
+            let gate = before.max(durable.saturating_sub(1));
+            turns.push(turn(entry, node, commit, gate, faults, TurnAct::Opened));
             turns.push(turn(entry, node, commit, durable, faults, TurnAct::Durable));
         }
-        Deed::Failed { opened: _ } => {
-            turns.push(turn(entry, node, commit, before, faults, TurnAct::Granted));
-            turns.push(turn(entry, node, commit, before, faults, TurnAct::CutAt));
-            let after = counts.calls_after;
-            let fail = turn(
-                entry,
-                node,
-                commit,
-                after,
-                counts.faults_after,
-                TurnAct::Fail,
-            );
-            turns.push(fail);
-        }
+        Deed::Failed { opened } => add_failed(turns, entry, node, counts, opened),
     }
+}
+
+// Adds the turns of an fsync that the disk failed, whose gate was opened at a moment, or was not.
+fn add_failed(turns: &mut Turns, entry: &Entry, node: NodeId, counts: &Counts, opened: Option<u64>)
+    requires room { 4 ≤ turns.old.spare }
+    requires few { entry.now.stamp.0 < 2 ^ 64 - 1 }
+    ensures { turns.new.items ≡ turns.old.items ++ failed_turns entry.now node counts.now opened }
+{
+    let commit = entry.stamp.0 + 1;
+    let before = counts.calls_before;
+    let faults = counts.faults_before;
+    turns.push(turn(entry, node, commit, before, faults, TurnAct::Granted));
+    turns.push(turn(entry, node, commit, before, faults, TurnAct::CutAt));
+    if let Some(opened) = opened {
+        turns.push(turn(entry, node, commit, opened, faults, TurnAct::Opened));
+    }
+    let after = counts.calls_after;
+    let now = counts.faults_after;
+    turns.push(turn(entry, node, commit, after, now, TurnAct::Fail));
 }
 
 // Adds the turn of an fsync that found too little, as its reply says.

@@ -1,5 +1,5 @@
 // A core, and the cells that it holds.
-ghost use Rattle.std.specs.Prelude.{◌≡◌, ◌<◌, ◌≤◌, ◌++◌, ◌∷◌, ◌↔◌, [], length, reverse, OnOk, Some, None, IsSome, IsTrue, if◌then◌else◌};
+ghost use Rattle.std.specs.Prelude.{◌≡◌, ◌<◌, ◌≤◌, ◌^◌, ◌++◌, ◌∷◌, ◌↔◌, [], length, reverse, OnOk, Some, None, IsSome, IsTrue, if◌then◌else◌};
 ghost use Rattle.sfs_tree.specs.History.{IsFsyncReply, is_ok_reply};
 ghost use Rattle.stamp_table.specs.Answered.{waits_for_answer};
 ghost use Rattle.stamp_table.specs.declared.held.HeldCell.{HeldCell};
@@ -74,6 +74,13 @@ impl<C: Drop, X> Core<C, X> {
         ensures { result.0 ≡ self.now.view.core }
     {
         self.number
+    }
+
+    /// A core has at most 2^50 events: its calls, and what it told.
+    pub fn events_are_few(&self)
+        ensures { length self.now.view.mine ≤ 2 ^ 50 }
+    {
+        let _events = self.events;
     }
 
     /// Makes room for so many further entries and cells. Where it is refused, the core is as before.

@@ -16,6 +16,8 @@ mod images;
 #[cfg(test)]
 mod rows;
 #[cfg(test)]
+mod small_trees;
+#[cfg(test)]
 mod space;
 #[cfg(test)]
 mod statuses;
@@ -23,6 +25,10 @@ mod statuses;
 mod sweeps;
 #[cfg(test)]
 mod table;
+#[cfg(test)]
+mod table_calls;
+#[cfg(test)]
+mod table_tree;
 #[cfg(test)]
 mod turns;
 #[cfg(test)]

@@ -90,6 +90,25 @@ static REFUSED: [Row; 2] = [
     ),
 ];
 
+const LARGEST: &str =
+    "0 create /f\n0 trunc /f 67551231\n0 write /f 67551231 ff\n0 write /f 67551232 00\n0 fsync /f\n";
+
+// The largest file, of zeros but for its last byte, and one byte more: it needs its last block and two besides.
+static LARGEST_FILES: [Row; 2] = [
+    (
+        (31, 64, 2),
+        LARGEST,
+        "\n2 0 trunc 64 67551231 = ok\n3 0 look 0 f = node 64 file\n4 0 write 64 67551231 ff = ok\n5 0 look 0 f = node 64 file\n6 0 write 64 67551232 00 = error FileTooBig\n7 0 look 0 f = node 64 file\n8 0 fsync 64 = nospace blocks need 3 free 2\n",
+        "dir 2 0 /\n",
+    ),
+    (
+        (32, 64, 2),
+        LARGEST,
+        "\n2 0 trunc 64 67551231 = ok\n3 0 look 0 f = node 64 file\n4 0 write 64 67551231 ff = ok\n5 0 look 0 f = node 64 file\n6 0 write 64 67551232 00 = error FileTooBig\n7 0 look 0 f = node 64 file\n8 0 fsync 64 = ok\n",
+        "dir 2 1 /\nfile 1 67551232 0 /f\n",
+    ),
+];
+
 // Asserts the end of the text and the tree of each of these.
 fn assert_rows<R: Threads + Wait + Sync + Abort>(
     rt: &R,
@@ -118,4 +137,9 @@ fn files_need_the_blocks_that_were_touched(rt: HostRuntime) -> Result<(), Fail> 
 #[test]
 fn a_refused_fsync_changes_nothing(rt: HostRuntime) -> Result<(), Fail> {
     assert_rows(&rt, rt.alloc(), &REFUSED)
+}
+
+#[test]
+fn the_largest_file_needs_three_blocks(rt: HostRuntime) -> Result<(), Fail> {
+    assert_rows(&rt, rt.alloc(), &LARGEST_FILES)
 }

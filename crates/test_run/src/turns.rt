@@ -37,6 +37,39 @@ const FAILED: [Told; 4] = [
     (5, 0, 0, 13, 1, TurnAct::Halted),
 ];
 
+// What the second commit and the next fsync did where a device call fails: the sync before the gate, the gate, the sync behind it.
+static FAILED_LATE: [(u64, &[Told]); 3] = [
+    (
+        16,
+        &[
+            (3, 0, 4, 12, 0, TurnAct::Granted),
+            (3, 0, 4, 12, 0, TurnAct::CutAt),
+            (3, 0, 4, 17, 1, TurnAct::Fail),
+            (5, 0, 0, 17, 1, TurnAct::Halted),
+        ],
+    ),
+    (
+        17,
+        &[
+            (3, 0, 4, 12, 0, TurnAct::Granted),
+            (3, 0, 4, 12, 0, TurnAct::CutAt),
+            (3, 0, 4, 18, 0, TurnAct::Opened),
+            (3, 0, 4, 18, 1, TurnAct::Fail),
+            (5, 0, 0, 18, 1, TurnAct::Halted),
+        ],
+    ),
+    (
+        18,
+        &[
+            (3, 0, 4, 12, 0, TurnAct::Granted),
+            (3, 0, 4, 12, 0, TurnAct::CutAt),
+            (3, 0, 4, 18, 0, TurnAct::Opened),
+            (3, 0, 4, 19, 1, TurnAct::Fail),
+            (5, 0, 0, 19, 1, TurnAct::Halted),
+        ],
+    ),
+];
+
 // A block is needed, and the only one holds the root's rows.
 const SHORT: [Told; 1] = [(
     3,
@@ -99,12 +132,29 @@ fn a_commit_takes_four_turns_and_one_without_need_three(rt: HostRuntime) -> Resu
 
 #[test]
 fn a_commit_that_fails_stops_the_later_ones(rt: HostRuntime) -> Result<(), Fail> {
-    let alloc = rt.alloc();
-    let mount = calls_of_mount(&rt, alloc, SMALL)?;
-    let number = mount.saturating_add(12);
-    let disk = FailAt::new(image(&rt, alloc, SMALL)?, vec![in alloc; number]?);
-    let ran = run_script(&rt, alloc, THREE_DIRECTORIES.as_bytes(), disk)?;
-    assert_told(&rt, &ran.turns, mount, &[&FIRST, &FAILED]);
+    assert_failing(&rt, rt.alloc(), 12, &FAILED)
+}
+
+// Asserts the turns where this device call behind the mount fails.
+fn assert_failing<R: Threads + Wait + Sync + Abort>(
+    rt: &R,
+    alloc: Global,
+    call: u64,
+    due: &[Told],
+) -> Result<(), Fail> {
+    let mount = calls_of_mount(rt, alloc, SMALL)?;
+    let number = mount.saturating_add(call);
+    let disk = FailAt::new(image(rt, alloc, SMALL)?, vec![in alloc; number]?);
+    let ran = run_script(rt, alloc, THREE_DIRECTORIES.as_bytes(), disk)?;
+    assert_told(rt, &ran.turns, mount, &[&FIRST, due]);
+    Ok(())
+}
+
+#[test]
+fn a_commit_is_opened_once_its_gate_is_written(rt: HostRuntime) -> Result<(), Fail> {
+    for (call, due) in &FAILED_LATE {
+        assert_failing(&rt, rt.alloc(), *call, due)?;
+    }
     Ok(())
 }
 

@@ -40,7 +40,7 @@ use Rattle.space_laws.proofs.Asked.{enters_counted}
 use Rattle.space_laws.proofs.Counted.{maps_count_free}
 use Rattle.volume_laws.specs.Volume.{Volume}
 use Rattle.turn_ties.specs.Laws.{FitsAreTheBooks, ShortsAreTheBooks, CountedNodesFit}
-use Rattle.turn_ties.specs.Plans.{image_held, rest_of, HasPlan, HasTouchedPages, amount_planned, need_planned, EntersFit, IsRestingMap, Planning, made_of, machine_of, books_of_rest, need_of_planning}
+use Rattle.turn_ties.specs.Plans.{image_held, rest_of, HasPlan, HasTouchedPages, amount_planned, need_planned, EntersFit, IsRestingMap, Planning, made_of, machine_of_rest, books_of_rest, need_of_planning}
 use Rattle.turn_ties.proofs.Needs.{inodes_needed, needs_are_the_books}
 use Rattle.turn_ties.proofs.Planned.{ready, from}
 use Rattle.turn_ties.proofs.Seats.{once_listed}
@@ -285,7 +285,7 @@ pub counted_nodes_fit : CountedNodesFit
 counted_nodes_fit volume planning is bound = by (node_bound volume.first) bound (inodes_needed volume [] planning is)
   where
     test : ℕ → Bool
-    test = enters_by_made (machine_of volume []) (made_of planning)
+    test = enters_by_made (machine_of_rest volume []) (made_of planning)
 
     root : test 0 ≡ false
     root =

@@ -37,7 +37,7 @@ use Rattle.commit_turns.specs.Need.{Amount, Made, rewrite_needed}
 use Rattle.space_laws.proofs.Asked.{enters_counted}
 use Rattle.volume_laws.specs.Volume.{Volume, OneFsync, IsVolumeStanding, IsPlannedFor}
 use Rattle.turn_ties.specs.Laws.{CommitsLeaveImages, EmptyCommitsLeaveImages}
-use Rattle.turn_ties.specs.Plans.{image_held, HasPlan, HasTouchedPages, image_left, planning_of, made_of, machine_of}
+use Rattle.turn_ties.specs.Plans.{image_held, HasPlan, HasTouchedPages, image_once_left, planning_of, made_of, machine_of_rest}
 use Rattle.turn_ties.proofs.Images.{over, node_shows, commits}
 use Rattle.turn_ties.proofs.Needs.{inodes_needed, seat_says}
 use Rattle.turn_ties.proofs.Planned.{old, new, image, ready, from}
@@ -61,7 +61,7 @@ empty_list (number ∷ numbers) none = absurd (omega (arith, none))
 module _ (volume : Volume) (used : List ℕ) (one : OneFsync) (stands : IsVolumeStanding volume) (planned : IsPlannedFor volume one)
     (tells : HasTouchedPages volume (planning_of one)) where
   abbrev state : MachineState
-  state = machine_of volume used
+  state = machine_of_rest volume used
 
   abbrev made_then : Made
   made_then = made_of (planning_of one)
@@ -95,7 +95,7 @@ module _ (volume : Volume) (used : List ℕ) (one : OneFsync) (stands : IsVolume
         | inl t ↦ absurd (true_not_false (sym e ∙ ((planned.plans.moves.leaving node).0 t).1))
       ]
 
-  gives : GivesGranted state made_then one.grant.inodes (image_held volume) (image_left volume one)
+  gives : GivesGranted state made_then one.grant.inodes (image_held volume) (image_once_left volume one)
   gives = record {
     entering = map enter_node one.plan.enter;
     ascending = increases enter_node one.plan.enter planned.plans.moves.ascend;
@@ -121,7 +121,7 @@ module _ (volume : Volume) (used : List ℕ) (one : OneFsync) (stands : IsVolume
   needed = rewrite_needed state (image_held volume) made_then
 
   rewrites : (node i place : ℕ) → commit.after node ≡ Some i → is_among one.nodes node ≡ true → place < PLACES
-      → IsRewritten state made_then (image_held volume) (image_left volume one) commit.takes commit.fresh node i place
+      → IsRewritten state made_then (image_held volume) (image_once_left volume one) commit.takes commit.fresh node i place
   rewrites node i place has among low = record {
     taken = whole.takes node i place has among low ∙ ap (λ (r : Rewrite). takes_place r place) is_seat ∙ same.takes place low
         ∙ ap (λ n. takes_place (needed n) place) seat.3;
@@ -180,7 +180,7 @@ module _ (volume : Volume) (used : List ℕ) (one : OneFsync) (stands : IsVolume
       by None e t = absurd (false_not_true t)
       by (Some m) e t = subst Lies (ap granted (sym e)) (in_area (place_in_row m place) t)
 
-  pub leaves : Leaves state made_then one.grant.inodes (image_held volume) (image_left volume one)
+  pub leaves : Leaves state made_then one.grant.inodes (image_held volume) (image_once_left volume one)
   leaves = record {
     takes = commit.takes;
     fresh = commit.fresh;
@@ -194,7 +194,7 @@ module _ (volume : Volume) (used : List ℕ) (one : OneFsync) (stands : IsVolume
 
 -- what it leaves where so many inodes are reserved
 abbrev LeavesWith : Volume → List ℕ → OneFsync → List ℕ → Type 0
-LeavesWith volume used one granted = Leaves (machine_of volume used) (made_of (planning_of one)) granted (image_held volume) (image_left volume one)
+LeavesWith volume used one granted = Leaves (machine_of_rest volume used) (made_of (planning_of one)) granted (image_held volume) (image_once_left volume one)
 
 pub commits_leave_images : CommitsLeaveImages
 commits_leave_images volume used one stands planned tells least = subst (LeavesWith volume used one) least (leaves volume used one stands planned tells)

@@ -26,7 +26,7 @@ use Rattle.sfs_image.specs.Seen.{SeenInodes}
 use Rattle.flush_commits.specs.Ready.{IsBetweenCommits}
 use Rattle.commit_laws.specs.Rewritten.{SayTheSame}
 use Rattle.turn_ties.specs.Laws.{NeedsAreTheBooks}
-use Rattle.turn_ties.specs.Plans.{image_held, HasPlan, HasTouchedPages, Planning, made_of, machine_of}
+use Rattle.turn_ties.specs.Plans.{image_held, HasPlan, HasTouchedPages, Planning, made_of, machine_of_rest}
 use Rattle.volume_laws.specs.Volume.{Volume}
 use Rattle.turn_ties.proofs.Planned.{old, new, image, ready, from, between}
 use Rattle.turn_ties.proofs.Rewrites.{seats_say}
@@ -37,7 +37,7 @@ module _ (volume : Volume) (used : List ℕ) (planning : Planning) (is : HasPlan
   change = change_planned planning.plan
 
   abbrev state : MachineState
-  state = machine_of volume used
+  state = machine_of_rest volume used
 
   abbrev made : Made
   made = made_of planning

@@ -18,14 +18,14 @@ use Rattle.commit_turns.specs.OneThread.{resting_after}
 use Rattle.commit_turns.specs.Touched.{is_touched_between}
 use Rattle.fsync_file.specs.Touched.{IsFileChange}
 use Rattle.file_marks.specs.FileAt.{IsFileAt}
-use Rattle.turn_ties.specs.Plans.{image_held, image_left, rest_of, machine_of, books_of_rest, Planning, planning_of, made_of, need_of_planning, granted_of_planning, HasPlan, HasTouchedPages, ChangesOwnFile, amount_planned, need_planned, EntersFit, IsRestingMap}
+use Rattle.turn_ties.specs.Plans.{image_held, image_once_left, rest_of, machine_of_rest, books_of_rest, Planning, planning_of, made_of, need_of_planning, granted_of_planning, HasPlan, HasTouchedPages, ChangesOwnFile, amount_planned, need_planned, EntersFit, IsRestingMap}
 use Rattle.volume_laws.specs.Stores.{volume_left}
 use Rattle.volume_laws.specs.Volume.{Volume, OneFsync, IsVolumeStanding, IsPlannedFor}
 
 -- What an fsync makes that has a plan is what the turns say that it makes.
 abbrev pub PlansAreMade : Type 0
 PlansAreMade = (volume : Volume) (used : List ℕ) (planning : Planning) → HasPlan volume planning
-    → IsMadeBy (machine_of volume used) planning.flush (made_of planning)
+    → IsMadeBy (machine_of_rest volume used) planning.flush (made_of planning)
 
 -- A plan whose pages are those of touched blocks needs as much as the books say.
 abbrev pub NeedsAreTheBooks : Type 0
@@ -60,21 +60,21 @@ abbrev pub CommitsLeaveImages : Type 0
 CommitsLeaveImages = (volume : Volume) (used : List ℕ) (one : OneFsync)
     → IsVolumeStanding volume → IsPlannedFor volume one → HasTouchedPages volume (planning_of one)
     → one.grant.inodes ≡ granted_of_planning volume used (planning_of one)
-    → Leaves (machine_of volume used) (made_of (planning_of one)) (granted_of_planning volume used (planning_of one)) (image_held volume)
-    (image_left volume one)
+    → Leaves (machine_of_rest volume used) (made_of (planning_of one)) (granted_of_planning volume used (planning_of one)) (image_held volume)
+    (image_once_left volume one)
 
 -- So does that of one that needs nothing, where nothing is reserved.
 abbrev pub EmptyCommitsLeaveImages : Type 0
 EmptyCommitsLeaveImages = (volume : Volume) (used : List ℕ) (one : OneFsync)
     → IsVolumeStanding volume → IsPlannedFor volume one → HasTouchedPages volume (planning_of one)
     → need_of_planning volume used (planning_of one) ≡ nothing
-    → Leaves (machine_of volume used) (made_of (planning_of one)) [] (image_held volume) (image_left volume one)
+    → Leaves (machine_of_rest volume used) (made_of (planning_of one)) [] (image_held volume) (image_once_left volume one)
 
 -- What there is behind such a commit is what there is between two fsyncs of the volume that it leaves.
 abbrev pub RestsGoOn : Type 0
 RestsGoOn = (volume : Volume) (used : List ℕ) (one : OneFsync) (later : ℕ → List ℕ) (commit : ℕ)
     → rest_of (volume_left volume one later) (used ++ commit ∷ [])
-    ≡ resting_after (rest_of volume used) commit (made_of (planning_of one)) (image_left volume one)
+    ≡ resting_after (rest_of volume used) commit (made_of (planning_of one)) (image_once_left volume one)
 
 -- The change of a file in memory, which is that of a history at a stamp, has a page of each block that a change touches from its cut to the
 -- stamp, and of no other.

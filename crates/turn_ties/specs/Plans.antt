@@ -34,16 +34,16 @@ abbrev pub image_held : Volume → ImageState
 image_held volume = state_of_parts volume.num volume.layout volume.parts
 
 -- what the image has to tell once an fsync is on the disk
-abbrev pub image_left : Volume → OneFsync → ImageState
-image_left volume one = state_of_parts (numbers_planned volume.num one.plan one.grant.inodes) volume.layout (parts_left volume one)
+abbrev pub image_once_left : Volume → OneFsync → ImageState
+image_once_left volume one = state_of_parts (numbers_planned volume.num one.plan one.grant.inodes) volume.layout (parts_left volume one)
 
 -- what there is between two fsyncs of a volume, behind commits with these numbers
 abbrev pub rest_of : Volume → List ℕ → Resting
 rest_of volume used = record { cut = volume.cut; inodes = volume.inodes; used = used; image = image_held volume }
 
 -- the machine then
-abbrev pub machine_of : Volume → List ℕ → MachineState
-machine_of volume used = machine_at volume.first volume.history (rest_of volume used)
+abbrev pub machine_of_rest : Volume → List ℕ → MachineState
+machine_of_rest volume used = machine_at volume.first volume.history (rest_of volume used)
 
 -- the books then
 abbrev pub books_of_rest : Volume → List ℕ → Books
@@ -71,12 +71,12 @@ planning_of one = record {
 }
 
 -- what an fsync makes that concerns these nodes, raises this cut, leaves these nodes with an inode, and has this plan
-abbrev pub made_by : List ℕ → Cut → (ℕ → Bool) → CommitPlan → Made
-made_by nodes raised after plan = record { concerns = is_among nodes; raised = raised; after = after; nets = net_of_node plan.nets }
+abbrev pub made_with : List ℕ → Cut → (ℕ → Bool) → CommitPlan → Made
+made_with nodes raised after plan = record { concerns = is_among nodes; raised = raised; after = after; nets = net_of_node plan.nets }
 
 -- what it makes
 abbrev pub made_of : Planning → Made
-made_of planning = made_by planning.nodes planning.raised planning.after planning.plan
+made_of planning = made_with planning.nodes planning.raised planning.after planning.plan
 
 -- how much the books say that it needs
 abbrev pub need_of_planning : Volume → List ℕ → Planning → Amount

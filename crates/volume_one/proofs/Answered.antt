@@ -1,5 +1,6 @@
 -- However an fsync ends, what it makes of an open volume and of its disk.
-use Rattle.std.proofs.Common.{◌≡◌, ℕ, Bool, true, false, List, length, map, Option, Some, None, refl, sym, ap, subst, ◌∙◌}
+use Rattle.std.proofs.Common.{◌≡◌, ℕ, ◌+◌, ◌≤◌, Bool, true, false, List, length, map, Option, Some, None, refl, sym, ap, subst, ◌∙◌, nat_lt, if◌then◌else◌, arith}
+use Rattle.std.proofs.lemmas.List.{length-map}
 use Rattle.std.specs.Prelude.{Result, Ok, Err}
 use Rattle.std.specs.Prelude.{◌↔◌}
 use Rattle.sfs_base.specs.Listed.{is_listed}
@@ -14,7 +15,8 @@ use Rattle.sfs_tree.specs.declared.reply.Reply.{Reply}
 use Rattle.sfs_tree.specs.declared.reply.Reply.TheVariants as reply
 use Rattle.sfs_tree.specs.NameRow.{node_number}
 use Rattle.sfs_tree.specs.Tree.{is_alive}
-use Rattle.journal_one.specs.Packed.{Contents}
+use Rattle.journal_one.specs.Job.{Job}
+use Rattle.journal_one.specs.Packed.{Contents, block_of}
 use Rattle.journal_one.specs.declared.doubt.Doubt.{Doubt}
 use Rattle.space_map.specs.Space.{Space, GrantedNumbers}
 use Rattle.crash_laws.specs.Wrote.{Wrote}
@@ -24,9 +26,13 @@ use Rattle.fsync_plans.specs.Plans.{planned_flush}
 use Rattle.volume_laws.specs.Stores.{volume_left}
 use Rattle.volume_laws.specs.Volume.{Volume, OneFsync, tree_held, tree_raised}
 use Rattle.volume_laws.proofs.Stores.{stores_go_on}
-use Rattle.volume_one.specs.Carry.{CarriesPacked}
-use Rattle.volume_one.specs.Ends.{FlushEnds, PlanEnds, GrantEnds, ReadyEnds, dead, stopped, unplanned, planned, short, unreserved, reserved, unready, readied, carried, doubted, with_space}
-use Rattle.volume_one.specs.Fsync.{FsyncMakes, FsyncStays, HoldsVolume, flush_of}
+use Rattle.commit_one.specs.Carried.{sealed_at}
+use Rattle.commit_one.specs.Change.{job_for}
+use Rattle.volume_one.specs.Carry.{CarriesPacked, first_slot}
+use Rattle.volume_one.specs.Deeds.{BeginsByBooks, DidFail, gate_moment}
+use Rattle.volume_one.specs.declared.deed.Deed.TheVariants as deeds
+use Rattle.volume_one.specs.Ends.{FlushEnds, PlanEnds, GrantEnds, ReadyEnds, dead, stopped, unplanned, planned, short, unreserved, reserved, unready, readied, carried, doubted, doubtful_deed, with_space}
+use Rattle.volume_one.specs.Fsync.{FsyncMakes, FsyncStays, HoldsVolume, IsOnDisk, fsync_at}
 use Rattle.volume_one.specs.Planned.{WasPlanned}
 use Rattle.volume_one.specs.Ready.{IsReadyFor, IsPackedOf, IsSameButRoom}
 use Rattle.volume_one.specs.Stands.{Remembers}
@@ -35,7 +41,7 @@ use Rattle.volume_one.specs.declared.preparing.Ready.{Ready}
 use Rattle.volume_one.specs.declared.volume.OpenVolume.{OpenVolume}
 use Rattle.volume_one.proofs.ByBooks.{ok_value, was_short, begins_by_books, given_back, durable_did}
 use Rattle.volume_one.proofs.Committing.{IsGranted, own_fsync, planned_for, is_one}
-use Rattle.volume_one.proofs.Flushes.{none_holds, none_wrote, some_holds, some_wrote, doubt_wrote}
+use Rattle.volume_one.proofs.Flushes.{none_holds, none_wrote, some_holds, some_wrote, doubt_wrote, job_held}
 use Rattle.volume_one.proofs.Granting.{granted, was_known}
 use Rattle.volume_one.proofs.Leading.{members_flushed}
 use Rattle.volume_one.proofs.Remembering.{IsLeft, left_remembers, known_remembers, back_left, back_remembers}
@@ -47,6 +53,13 @@ is_doubt (Err doubt) = true
 
 never_doubt : (doubt : Doubt) (value : ℕ) → ◌≡◌ {A = Result ℕ Doubt} (Err doubt) (Ok value) → ⊥
 never_doubt doubt value e = let never : true ≡ false = ap is_doubt e in cc
+
+-- a commit that was left in doubt has its gate where its job has it
+doubtful_is : (fresh began now : ℕ) (job : Job) → fresh ≡ length job.fresh → doubtful_deed fresh began now ≡ deeds.Failed (gate_moment began job now)
+doubtful_is fresh began now job same =
+    let at : began + fresh + 4 ≡ sealed_at began job = omega (arith, same) in
+    let next : began + fresh + 5 ≡ sealed_at began job + 1 = omega (arith, same) in
+    λ i. deeds.Failed (if nat_lt (at i) now then Some (next i) else None)
 
 module _ (Same : Type 0) (before after : View) (same_view : Same → after ≡ before) (goes : Advances before after) (leaves : IfTold after.content (images after))
     (kept : Volume) (node : NodeId) (stamp : Stamp) where
@@ -73,6 +86,24 @@ module _ (Same : Type 0) (before after : View) (same_view : Same → after ≡ b
       ended_holds moment (Some contents) are gone later counts holds =
           some_holds kept volume node stamp plan grant space is ready built Same before after same_view goes leaves number contents are.0 counts holds moment gone later
 
+      ended_dated : (moment : ℕ) (packed : Option Contents) → CarriesPacked Same kept.layout number packed before after (Ok moment)
+          → CountsOn after → (before.now ≤ moment) × (moment ≤ after.now)
+      ended_dated moment None (still, ended) counts =
+          let at = ap ok_value ended in let same = ap (λ (v : View). v.now) (same_view still) in (omega (arith, at), omega (arith, at, same))
+      ended_dated moment (Some contents) gone counts =
+          let at = gone.moment counts in let all = gone.takes.all counts in (omega (arith, at), omega (arith, at, all))
+
+      ended_on_disk : (moment : ℕ) (packed : Option Contents) → IsPackedOf built.tx packed → CarriesPacked Same kept.layout number packed before after (Ok moment)
+          → (later : ℕ → List ℕ) → CountsOn after → IsOnDisk kept one later moment before after
+      ended_on_disk moment packed are gone later counts =
+          let dated = ended_dated moment packed gone counts in
+          record {
+            not_before = dated.0;
+            not_after = dated.1;
+            holds = ended_holds moment packed are gone later counts;
+            wrote = ended_wrote moment packed are gone counts;
+          }
+
       -- what is in doubt may be
       doubt_may : (doubt : Doubt) (packed : Option Contents) → IsPackedOf built.tx packed → CarriesPacked Same kept.layout number packed before after (Err doubt)
           → CountsOn after → HoldsVolume kept before → (share : ℕ) → Wrote share (tree_held kept) (tree_raised kept one) before after None
@@ -92,12 +123,24 @@ module _ (Same : Type 0) (before after : View) (same_view : Same → after ≡ b
       doubt_rises doubt None (still, ended) = absurd (never_doubt doubt before.now ended)
       doubt_rises doubt (Some contents) gone = gone.doubt.cause.risen
 
+      -- how far it came
+      doubt_did : (doubt : Doubt) (packed : Option Contents) → IsPackedOf built.tx packed → CarriesPacked Same kept.layout number packed before after (Err doubt)
+          → BeginsByBooks kept (fsync_at node stamp) one → DidFail kept (fsync_at node stamp) one before after (doubtful_deed ready.fresh before.now after.now)
+      doubt_did doubt None none (still, ended) books = absurd (never_doubt doubt before.now ended)
+      doubt_did doubt (Some contents) are gone books = record {
+        books = books;
+        job = job_for (first_slot kept.layout) contents number;
+        job_is = job_held kept volume node stamp plan grant space is ready built Same before after same_view goes leaves number contents are.0;
+        did = doubtful_is ready.fresh before.now after.now (job_for (first_slot kept.layout) contents number)
+            (built.counted ∙ sym (length-map built.tx.fresh.items block_of) ∙ ap (λ (c : Contents). length c.fresh) (sym are.0));
+      }
+
     module _ (working : volume.failed ≡ None) (ready : Ready) (built : IsReadyFor plan grant ready) (room : OpenVolume) (same : IsSameButRoom (with_space volume space) room) where
       room_layout : room.layout ≡ kept.layout
       room_layout = ap (λ (v : OpenVolume). v.layout) same.others ∙ is.remembers.disk.layout
 
       ready_makes : (new : OpenVolume) (flushed : Flushed) → ReadyEnds Same stamp ready grant before after room new flushed
-          → FsyncMakes Same (λ k. k) kept (flush_of node stamp) before after volume new flushed flushed.reply
+          → FsyncMakes Same (λ k. k) kept (fsync_at node stamp) before after volume new flushed flushed.reply
       ready_makes new _ (carried moment packed done) =
           let stores = stores_go_on kept one (planned_for kept volume node stamp plan grant space is) in
           let there = subst (λ (l : Layout). CarriesPacked Same l room.commits ready.packed before after (Ok moment)) room_layout packed in
@@ -116,8 +159,7 @@ module _ (Same : Type 0) (before after : View) (same_view : Same → after ≡ b
               did = durable_did kept volume node stamp plan grant space is Same before after same_view room.commits moment ready.packed there;
             };
             faultless = ended_faults ready built room.commits moment ready.packed there;
-            holds = ended_holds ready built room.commits moment ready.packed built.packed there stores.0;
-            wrote = ended_wrote ready built room.commits moment ready.packed built.packed there;
+            on_disk = ended_on_disk ready built room.commits moment ready.packed built.packed there stores.0;
           }
       ready_makes new _ (doubted doubt other packed back new_is) =
           let there = subst (λ (l : Layout). CarriesPacked Same l room.commits ready.packed before after (Err doubt)) room_layout packed in
@@ -132,13 +174,13 @@ module _ (Same : Type 0) (before after : View) (same_view : Same → after ≡ b
             failed = (working, ap (λ (v : OpenVolume). v.failed) new_is ∙ ap Some (doubt_faults ready built room.commits doubt ready.packed there));
             reply_is = refl;
             refused = refl;
-            did = record { books = begins_by_books kept volume node stamp plan grant space is members; did = refl };
+            did = doubt_did ready built room.commits doubt ready.packed built.packed there (begins_by_books kept volume node stamp plan grant space is members);
             risen = doubt_rises ready built room.commits doubt ready.packed there;
             wrote = doubt_may ready built room.commits doubt ready.packed built.packed there;
           }
 
     grant_makes : volume.failed ≡ None → (new : OpenVolume) (flushed : Flushed) → GrantEnds Same stamp plan grant before after (with_space volume space) new flushed
-        → FsyncMakes Same (λ k. k) kept (flush_of node stamp) before after volume new flushed flushed.reply
+        → FsyncMakes Same (λ k. k) kept (fsync_at node stamp) before after volume new flushed flushed.reply
     grant_makes working new _ (unready still room same back) = record {
       same = still;
       remembers = back_remembers kept volume node stamp plan grant space is room new same back;
@@ -152,7 +194,7 @@ module _ (Same : Type 0) (before after : View) (same_view : Same → after ≡ b
   module _ (volume : OpenVolume) (remembers : Remembers kept volume) (counted : length kept.history ≡ stamp.0) (alive : is_alive volume.tree node.0 ≡ true)
       (plan : FsyncPlan) (was : WasPlanned volume node stamp plan) where
     plan_makes : volume.failed ≡ None → (new : OpenVolume) (flushed : Flushed) → PlanEnds Same stamp plan before after volume new flushed
-        → FsyncMakes Same (λ k. k) kept (flush_of node stamp) before after volume new flushed flushed.reply
+        → FsyncMakes Same (λ k. k) kept (fsync_at node stamp) before after volume new flushed flushed.reply
     plan_makes working new _ (short still new_is kind need free lacks) = record {
       same = still;
       remembers = subst (Remembers kept) (sym new_is) remembers;
@@ -168,7 +210,7 @@ module _ (Same : Type 0) (before after : View) (same_view : Same → after ≡ b
   -- the whole fsync
   module _ (old : OpenVolume) (remembers : Remembers kept old) (counted : length kept.history ≡ stamp.0) where
     pub flush_makes : (new : OpenVolume) (flushed : Flushed) → FlushEnds Same stamp node before after old new flushed
-        → FsyncMakes Same (λ k. k) kept (flush_of node stamp) before after old new flushed flushed.reply
+        → FsyncMakes Same (λ k. k) kept (fsync_at node stamp) before after old new flushed flushed.reply
     flush_makes new _ (dead still new_is gone) =
         record { same = still; remembers = subst (Remembers kept) (sym new_is) remembers; failed = ap (λ (v : OpenVolume). v.failed) new_is; refused = refl; did = refl }
     flush_makes new _ (stopped still new_is alive faults failed) =
@@ -180,12 +222,12 @@ module _ (Same : Type 0) (before after : View) (same_view : Same → after ≡ b
         (plan_makes known (known_remembers kept old known remembers same) counted (subst (λ (v : OpenVolume). is_alive v.tree node.0 ≡ true) (sym same.others) alive)
         plan (was_known node stamp old known same plan was) (ap (λ (v : OpenVolume). v.failed) same.others ∙ working) new flushed ends)
       where
-        stays : old.failed ≡ known.failed → FsyncStays Same (λ k. k) kept (flush_of node stamp) known new flushed → FsyncStays Same (λ k. k) kept (flush_of node stamp) old new flushed
+        stays : old.failed ≡ known.failed → FsyncStays Same (λ k. k) kept (fsync_at node stamp) known new flushed → FsyncStays Same (λ k. k) kept (fsync_at node stamp) old new flushed
         stays e is = record { same = is.same; remembers = is.remembers; failed = is.failed ∙ sym e; refused = is.refused; did = is.did }
 
         -- only the count of faults before is told of the volume before
-        with_failed : old.failed ≡ known.failed → (given : Reply) → FsyncMakes Same (λ k. k) kept (flush_of node stamp) before after known new flushed given
-            → FsyncMakes Same (λ k. k) kept (flush_of node stamp) before after old new flushed given
+        with_failed : old.failed ≡ known.failed → (given : Reply) → FsyncMakes Same (λ k. k) kept (fsync_at node stamp) before after known new flushed given
+            → FsyncMakes Same (λ k. k) kept (fsync_at node stamp) before after old new flushed given
         with_failed e reply.Ok is = record {
           one = is.one;
           later = is.later;
@@ -198,8 +240,7 @@ module _ (Same : Type 0) (before after : View) (same_view : Same → after ≡ b
           acknowledged = is.acknowledged;
           did = is.did;
           faultless = is.faultless;
-          holds = is.holds;
-          wrote = is.wrote;
+          on_disk = is.on_disk;
         }
         with_failed e reply.DiskFailed is = record {
           one = is.one;

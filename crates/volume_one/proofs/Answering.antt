@@ -17,9 +17,9 @@ use Rattle.core_logs.specs.Logs.{MayAdd}
 use Rattle.flush_core.specs.Closure.{Flush}
 use Rattle.volume_laws.specs.Volume.{Volume}
 use Rattle.volume_laws.specs.Stores.{volume_left}
-use Rattle.volume_one.specs.Calls.{entry_of}
+use Rattle.volume_one.specs.Calls.{call_entry}
 use Rattle.volume_one.specs.Ends.{FlushEnds, PlanEnds, GrantEnds, ReadyEnds, dead, stopped, unplanned, planned, short, unreserved, reserved, unready, readied, carried, doubted}
-use Rattle.volume_one.specs.Fsync.{FsyncMakes, FsyncStays, NotesEntry, IsFsyncAnswer, IsLiveAnswer, with_fsync, flush_of}
+use Rattle.volume_one.specs.Fsync.{FsyncMakes, FsyncStays, NotesEntry, IsFsyncAnswer, IsLiveAnswer, with_fsync, fsync_at}
 use Rattle.volume_one.specs.Stands.{Remembers}
 use Rattle.volume_one.specs.declared.flushed.Flushed.{Flushed}
 use Rattle.volume_one.specs.declared.preparing.Ready.{Ready}
@@ -140,15 +140,15 @@ module _ (Same : Type 0) (kept : Volume) (flush : Flush) (before after : View) (
 module _ (Same : Type 0) (kept : Volume) (before after : View) (old mid new : OpenVolume) (flushed : Flushed) (core : CoreId) (stamp : Stamp) (node : NodeId)
     (remembers : Remembers kept old) (counted : length kept.history ≡ stamp.0) (within : core.0 < length old.tree.made)
     (answer : IsFsyncAnswer (is_alive old.tree node.0) old.failed flushed.reply)
-    (made : FsyncMakes Same (λ k. k) kept (flush_of node stamp) before after old mid flushed flushed.reply) where
+    (made : FsyncMakes Same (λ k. k) kept (fsync_at node stamp) before after old mid flushed flushed.reply) where
   abbrev own_tree : TreeState
   own_tree = tree_after kept.first kept.history
 
   tree_is : old.tree ≡ own_tree
   tree_is = remembers.calls.tree
 
-  abbrev so : RemembersSo Same kept (flush_of node stamp) before after old mid flushed
-  so = made_remembers Same kept (flush_of node stamp) before after old mid flushed flushed.reply made
+  abbrev so : RemembersSo Same kept (fsync_at node stamp) before after old mid flushed
+  so = made_remembers Same kept (fsync_at node stamp) before after old mid flushed flushed.reply made
 
   mid_tree : mid.tree ≡ own_tree
   mid_tree = so.remembers.calls.tree ∙ (λ i. tree_after (so.first i) (so.history i))
@@ -164,7 +164,7 @@ module _ (Same : Type 0) (kept : Volume) (before after : View) (old mid new : Op
   log_core = core_within so.now mid so.remembers core.0 (subst (λ (t : TreeState). core.0 < length t.made) (tree_is ∙ sym mid_tree ∙ so.remembers.calls.tree) within)
 
   abbrev own_entry : Entry
-  own_entry = entry_of stamp core (call.Fsync node) flushed.reply flushed.ack
+  own_entry = call_entry stamp core (call.Fsync node) flushed.reply flushed.ack
 
   -- the entry may come
   may : MayCome own_tree (length kept.history) own_entry
@@ -172,7 +172,7 @@ module _ (Same : Type 0) (kept : Volume) (before after : View) (old mid new : Op
     stamped = sym counted;
     core = within;
     due = reply_due (is_alive old.tree node.0) old.failed flushed.reply (verdict old.tree core.0 (call.Fsync node)).reply answer (dead_due (is_alive old.tree node.0));
-    acknowledged = acked_ok (is_alive old.tree node.0) old.failed flushed.reply flushed.ack answer (made_ack Same kept (flush_of node stamp) before after old mid flushed flushed.reply made);
+    acknowledged = acked_ok (is_alive old.tree node.0) old.failed flushed.reply flushed.ack answer (made_ack Same kept (fsync_at node stamp) before after old mid flushed flushed.reply made);
   })
     where
       dead_due : (b : Bool) → b ≡ false → (or_else (if not b then Some NoEntry else None) (answered reply.Ok)).reply ≡ reply.Error NoEntry
@@ -185,8 +185,8 @@ module _ (Same : Type 0) (kept : Volume) (before after : View) (old mid new : Op
         fsync_remembered k own_entry node mid new is
         (subst (λ (z : TreeState × ℕ). MayCome z.0 z.1 own_entry) (λ i. (tree_after (sym first i) (sym history i), length (sym history i))) may) refl notes
 
-    stays : FsyncStays Same (λ k. k) kept (flush_of node stamp) old mid flushed
-        → FsyncStays Same (with_fsync core stamp node flushed) kept (flush_of node stamp) old new flushed
+    stays : FsyncStays Same (λ k. k) kept (fsync_at node stamp) old mid flushed
+        → FsyncStays Same (with_fsync core stamp node flushed) kept (fsync_at node stamp) old new flushed
     stays is = record {
       same = is.same;
       remembers = grown kept is.remembers refl refl;
@@ -195,8 +195,8 @@ module _ (Same : Type 0) (kept : Volume) (before after : View) (old mid new : Op
       did = is.did;
     }
 
-    pub noted : (given : Reply) → FsyncMakes Same (λ k. k) kept (flush_of node stamp) before after old mid flushed given
-        → FsyncMakes Same (with_fsync core stamp node flushed) kept (flush_of node stamp) before after old new flushed given
+    pub noted : (given : Reply) → FsyncMakes Same (λ k. k) kept (fsync_at node stamp) before after old mid flushed given
+        → FsyncMakes Same (with_fsync core stamp node flushed) kept (fsync_at node stamp) before after old new flushed given
     noted reply.Ok is = record {
       one = is.one;
       later = is.later;
@@ -209,8 +209,7 @@ module _ (Same : Type 0) (kept : Volume) (before after : View) (old mid new : Op
       acknowledged = is.acknowledged;
       did = is.did;
       faultless = is.faultless;
-      holds = is.holds;
-      wrote = is.wrote;
+      on_disk = is.on_disk;
     }
     noted reply.DiskFailed is = record {
       one = is.one;

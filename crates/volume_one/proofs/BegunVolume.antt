@@ -26,8 +26,8 @@ use Rattle.volume_laws.specs.Volume.{Volume}
 use Rattle.volume_laws.proofs.MountedVolumes.{begun_volume}
 use Rattle.volume_laws.proofs.Mounts.{mounts_begin}
 use Rattle.volume_laws.proofs.ReadParts.{read_parts_stand}
-use Rattle.volume_one.specs.Begins.{node_of, Begins, IsNewOf}
-use Rattle.volume_one.specs.Entries.{entries_in}
+use Rattle.volume_one.specs.Begins.{node_of_old, Begins, IsNewOf}
+use Rattle.volume_one.specs.Entries.{disk_entries_in}
 use Rattle.volume_one.specs.Stands.{Remembers, RemembersCalls, RemembersDisk}
 use Rattle.volume_one.specs.declared.volume.OpenVolume.{OpenVolume}
 use Rattle.volume_one.proofs.FirstFiles.{first_files}
@@ -42,9 +42,9 @@ pub record IsLaidOut (mounted : Mounted) (volume : OpenVolume) : Type 0 where
   pub logs : AreBlank mounted.layout.cores volume.logs
   pub no_cuts : volume.known.cuts ≡ []
   pub no_births : volume.known.births ≡ []
-  pub with_inode : volume.known.inodes ≡ map node_of mounted.old.items
+  pub with_inode : volume.known.inodes ≡ map node_of_old mounted.old.items
   pub ordered : IsOrdered nat_cmp volume.stored
-  pub entries : entries_in volume.stored ≡ mounted.old.items
+  pub entries : disk_entries_in volume.stored ≡ mounted.old.items
   pub space : volume.space ≡ mounted.space
   pub working : volume.failed ≡ None
 

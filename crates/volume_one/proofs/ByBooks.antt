@@ -28,10 +28,10 @@ use Rattle.turn_ties.proofs.Least.{grants_are_the_least}
 use Rattle.turn_ties.proofs.Needs.{needs_are_the_books}
 use Rattle.volume_laws.specs.Volume.{Volume, OneFsync}
 use Rattle.volume_one.specs.Carry.{CarriesPacked}
-use Rattle.volume_one.specs.Deeds.{FitsBooks, BeginsByBooks, IsDurableDeed, WasShort, WasGivenBack}
+use Rattle.volume_one.specs.Deeds.{FitsBooks, BeginsByBooks, IsDurableDeed, LacksSpace, WasGivenBack}
 use Rattle.volume_one.specs.Ends.{need_of_change, durable_deed}
-use Rattle.volume_one.specs.Entries.{entries_in}
-use Rattle.volume_one.specs.Fsync.{flush_of}
+use Rattle.volume_one.specs.Entries.{disk_entries_in}
+use Rattle.volume_one.specs.Fsync.{fsync_at}
 use Rattle.volume_one.specs.Planned.{WasPlanned}
 use Rattle.volume_one.specs.Stands.{Remembers}
 use Rattle.volume_one.specs.declared.deed.Deed.TheVariants as deeds
@@ -45,14 +45,14 @@ ok_value (Ok value) = value
 ok_value (Err doubt) = 0
 
 -- a map beside an open volume is right, and nothing in it is granted
-resting : (kept : Volume) (volume : OpenVolume) → Remembers kept volume → IsRestingMap kept (entries_in volume.stored) volume.space
+resting : (kept : Volume) (volume : OpenVolume) → Remembers kept volume → IsRestingMap kept (disk_entries_in volume.stored) volume.space
 resting kept volume remembers = record { right = remembers.disk.space; none = remembers.disk.granted }
 
 -- what is planned and does not fit exceeds what the books say that is free
 module _ (kept : Volume) (node : NodeId) (stamp : Stamp) (volume : OpenVolume) (remembers : Remembers kept volume) (counted : length kept.history ≡ stamp.0)
     (alive : is_alive volume.tree node.0 ≡ true) (plan : FsyncPlan) (was : WasPlanned volume node stamp plan) where
   pub was_short : (kind : SpaceKind) (need free : ℕ) → shortage volume.space (need_of_change plan.change) ≡ Some (NoSpace kind need free)
-      → WasShort kept (flush_of node stamp) kind need free
+      → LacksSpace kept (fsync_at node stamp) kind need free
   was_short kind need free lacks =
       let lead = leads kept volume remembers stamp counted node alive plan was in
       let is = tied kept volume remembers stamp counted node alive plan was in
@@ -85,7 +85,7 @@ module _ (kept : Volume) (volume : OpenVolume) (node : NodeId) (stamp : Stamp) (
       (ap (shortage volume.space) need_is ∙ is.reserved.enough)
 
   pub begins_by_books : ((other : ℕ) → (is_listed (map node_number plan.members.items) other ≡ true) ↔ Closure kept.first kept.history every_entry kept.cut kept.inodes (planned_flush node stamp) other)
-      → BeginsByBooks kept (flush_of node stamp) one
+      → BeginsByBooks kept (fsync_at node stamp) one
   begins_by_books members = record {
     tied = is.tied;
     fits = fits_books;
@@ -96,7 +96,7 @@ module _ (kept : Volume) (volume : OpenVolume) (node : NodeId) (stamp : Stamp) (
     members_are = members;
   }
 
-  pub given_back : WasGivenBack kept (flush_of node stamp)
+  pub given_back : WasGivenBack kept (fsync_at node stamp)
   given_back = record { planning = planning_of one; flush_is = refl; tied = is.tied; fits = fits_books }
 
   -- as much was granted as is needed

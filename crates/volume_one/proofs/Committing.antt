@@ -30,20 +30,20 @@ use Rattle.volume_laws.specs.Volume.{Volume, OneFsync, IsPlannedFor}
 use Rattle.volume_laws.proofs.Commits.{built_jobs_write_plans}
 use Rattle.volume_one.specs.Carry.{first_slot, MayCarry}
 use Rattle.volume_one.specs.Ends.{need_of_change, IsReserved}
-use Rattle.volume_one.specs.Entries.{entries_in}
-use Rattle.volume_one.specs.Fsync.{IsOneOf, flush_of}
+use Rattle.volume_one.specs.Entries.{disk_entries_in}
+use Rattle.volume_one.specs.Fsync.{IsComingFsync, fsync_at}
 use Rattle.volume_one.specs.Stands.{Remembers}
 use Rattle.volume_one.specs.declared.volume.OpenVolume.{OpenVolume}
 
 -- what an fsync comes to whose plan leads to the raised cut
 abbrev pub planning_by : {first : TreeState} {history : List Entry} {cut : Cut} {inodes : ℕ → Bool} (node : NodeId) (stamp : Stamp) (volume : OpenVolume) (plan : FsyncPlan)
-    → LeadsToCut first history cut inodes (planned_flush node stamp) (entries_in volume.stored) plan → Planning
+    → LeadsToCut first history cut inodes (planned_flush node stamp) (disk_entries_in volume.stored) plan → Planning
 planning_by node stamp volume plan leads = record {
   flush = planned_flush node stamp;
   raised = leads.raised;
   after = leads.after;
   nodes = map node_number plan.nodes.items;
-  entries = entries_in volume.stored;
+  entries = disk_entries_in volume.stored;
   plan = leads.commit;
 }
 
@@ -53,7 +53,7 @@ pub record IsGranted (kept : Volume) (volume : OpenVolume) (node : NodeId) (stam
   pub remembers : Remembers kept volume
   pub counted : length kept.history ≡ stamp.0
   pub live : HasLiveNode kept.first kept.history (planned_flush node stamp)
-  pub leads : LeadsToCut kept.first kept.history kept.cut kept.inodes (planned_flush node stamp) (entries_in volume.stored) plan
+  pub leads : LeadsToCut kept.first kept.history kept.cut kept.inodes (planned_flush node stamp) (disk_entries_in volume.stored) plan
   pub names : BringsNames leads.commit.nets
   pub reserved : IsReserved plan volume.space grant space
   pub tied : IsTied kept (planning_by node stamp volume plan leads)
@@ -67,7 +67,7 @@ module _ (kept : Volume) (volume : OpenVolume) (node : NodeId) (stamp : Stamp) (
   own_nodes = map node_number plan.nodes.items
 
   abbrev pub own_entries : List OldEntry
-  own_entries = entries_in volume.stored
+  own_entries = disk_entries_in volume.stored
 
   pub was_granted : WasGranted commit_plan volume.space grant space
   was_granted = record {
@@ -106,7 +106,7 @@ module _ (kept : Volume) (volume : OpenVolume) (node : NodeId) (stamp : Stamp) (
   pub comes_now : ComesNow kept own_fsync
   comes_now = record { low = omega (arith, is.counted); live = is.live }
 
-  pub is_one : IsOneOf kept (flush_of node stamp) own_fsync
+  pub is_one : IsComingFsync kept (fsync_at node stamp) own_fsync
   is_one = record { flush_is = refl; planned = planned_for; comes = comes_now }
 
   -- a transaction that is built of it can be committed

@@ -43,7 +43,7 @@ use Rattle.flush_core.proofs.Prefixes.{alive_node}
 use Rattle.flush_core.proofs.RunFacts.{found_in}
 use Rattle.file_table.specs.Table.{file_at}
 use Rattle.volume_laws.specs.Volume.{Volume}
-use Rattle.volume_one.specs.Calls.{is_fsync, entry_of, kept_with, HasKept, MayKeep}
+use Rattle.volume_one.specs.Calls.{is_fsync, call_entry, kept_with, HasKept, MayKeep}
 use Rattle.volume_one.specs.Stands.{Remembers}
 use Rattle.volume_one.specs.declared.volume.OpenVolume.{OpenVolume}
 use Rattle.volume_one.proofs.Entering.{IsBornBy, KnowsBirths, entry_remembered, legal, sound, core_within, fits, room_for_none}
@@ -166,7 +166,7 @@ module _ (kept : Volume) (old : OpenVolume) (remembers : Remembers kept old) (co
   given = (verdict old.tree core.0 asked).reply
 
   abbrev entry : Entry
-  entry = entry_of stamp core asked given None
+  entry = call_entry stamp core asked given None
 
   tree_is : old.tree ≡ tree
   tree_is = remembers.calls.tree

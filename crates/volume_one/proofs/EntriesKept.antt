@@ -24,7 +24,7 @@ use Rattle.disk_change.proofs.Keyed.{ascends_behind, first_is_least}
 use Rattle.commit_laws.proofs.KnownDirectories.{given_is_in}
 use Rattle.commit_laws.proofs.SeatsOfPlan.{in_is_among, among_is_in}
 use Rattle.flush_commits.specs.Planned.{HasOldEntries}
-use Rattle.volume_one.specs.Entries.{KeptNodes, old_in, old_at, entry_with, entry_at, entries_at, entries_in, HasSameEntries}
+use Rattle.volume_one.specs.Entries.{KeptNodes, old_in, old_at, disk_entry_with, entry_at, disk_entries_at, disk_entries_in, HasSameEntries}
 
 -- what a function gives of a list is given of one of its items
 given_step : {X Y : Type 0} (f : X → Option Y) (x : X) (xs : List X) (y : Y) (o : Option Y) → f x ≡ o
@@ -92,7 +92,7 @@ module _ {X : Type 0} (key : X → ℕ) where
       λ i. same i ∷ rest i
 
 -- a node's entry is its own
-entry_own : (node : ℕ) (kept : Option OldKept) (entry : OldEntry) → entry_with node kept ≡ Some entry → (kept ≡ Some entry.old) × (entry.node.0 ≡ node)
+entry_own : (node : ℕ) (kept : Option OldKept) (entry : OldEntry) → disk_entry_with node kept ≡ Some entry → (kept ≡ Some entry.old) × (entry.node.0 ≡ node)
 entry_own node None entry e = absurd (none_some e)
 entry_own node (Some old) entry e = let same = some_same e in (ap Some (ap (λ (one : OldEntry). one.old) same), ap (λ (one : OldEntry). one.node.0) (sym same))
 
@@ -100,29 +100,29 @@ entry_own node (Some old) entry e = let same = some_same e in (ap Some (ap (λ (
 numbers_ascend : (numbers : List ℕ) → IsStrictlyIncreasing numbers → AscendBy (λ n. n) numbers
 numbers_ascend numbers up = AllPairs-from_increasing numbers up
 
-pub entries_ascend : (nodes : KeptNodes) (numbers : List ℕ) → IsStrictlyIncreasing numbers → AscendBy entry_node (entries_at nodes numbers)
+pub entries_ascend : (nodes : KeptNodes) (numbers : List ℕ) → IsStrictlyIncreasing numbers → AscendBy entry_node (disk_entries_at nodes numbers)
 entries_ascend nodes numbers up = given_ascend (λ n. n) entry_node (entry_at nodes) (λ n entry e. (entry_own n (old_at nodes n) entry e).1) numbers (numbers_ascend numbers up)
 
 module _ (nodes : KeptNodes) (ordered : IsOrdered nat_cmp nodes) where
   -- an entry is there exactly where that is kept of its node
-  pub entry_there : (entry : OldEntry) → Contains (entries_in nodes) entry → old_at nodes entry.node.0 ≡ Some entry.old
+  pub entry_there : (entry : OldEntry) → Contains (disk_entries_in nodes) entry → old_at nodes entry.node.0 ≡ Some entry.old
   entry_there entry there =
-      let from = given_from (λ (place : ℕ × Option OldKept). entry_with place.0 place.1) nodes.entries entry there in
+      let from = given_from (λ (place : ℕ × Option OldKept). disk_entry_with place.0 place.1) nodes.entries entry there in
       let own = entry_own from.0.0 from.0.1 entry from.2 in
       let found : get nat_cmp nodes from.0.0 ≡ Some from.0.1 = (btree_map_get_iff nat_cmp_total exact_unsigned nodes ordered from.0.0 from.0.1).1 from.1 in
       ap (old_at nodes) own.1 ∙ ap old_in found ∙ own.0
 
-  pub entry_kept : (entry : OldEntry) → old_at nodes entry.node.0 ≡ Some entry.old → Contains (entries_in nodes) entry
+  pub entry_kept : (entry : OldEntry) → old_at nodes entry.node.0 ≡ Some entry.old → Contains (disk_entries_in nodes) entry
   entry_kept entry is = by (get nat_cmp nodes entry.node.0) refl is
     where
-      by : (place : Option (Option OldKept)) → get nat_cmp nodes entry.node.0 ≡ place → old_in place ≡ Some entry.old → Contains (entries_in nodes) entry
+      by : (place : Option (Option OldKept)) → get nat_cmp nodes entry.node.0 ≡ place → old_in place ≡ Some entry.old → Contains (disk_entries_in nodes) entry
       by None e is = absurd (none_some is)
       by (Some place) e is =
-          given_is_in (λ (place : ℕ × Option OldKept). entry_with place.0 place.1) nodes.entries (entry.node.0, place) entry
-          ((btree_map_get_iff nat_cmp_total exact_unsigned nodes ordered entry.node.0 place).0 e) (ap (entry_with entry.node.0) is)
+          given_is_in (λ (place : ℕ × Option OldKept). disk_entry_with place.0 place.1) nodes.entries (entry.node.0, place) entry
+          ((btree_map_get_iff nat_cmp_total exact_unsigned nodes ordered entry.node.0 place).0 e) (ap (disk_entry_with entry.node.0) is)
 
   -- the entries at some nodes are those of all entries that are of one of them
-  pub old_entries : (numbers : List ℕ) → IsStrictlyIncreasing numbers → HasOldEntries numbers (entries_in nodes) (entries_at nodes numbers)
+  pub old_entries : (numbers : List ℕ) → IsStrictlyIncreasing numbers → HasOldEntries numbers (disk_entries_in nodes) (disk_entries_at nodes numbers)
   old_entries numbers up = record {
     ascend = entries_ascend nodes numbers up;
     own = λ entry there.
@@ -130,7 +130,7 @@ module _ (nodes : KeptNodes) (ordered : IsOrdered nat_cmp nodes) where
         let own = entry_own from.0 (old_at nodes from.0) entry from.2 in
         (entry_kept entry (ap (old_at nodes) own.1 ∙ own.0), ap (is_among numbers) own.1 ∙ in_is_among numbers from.0 from.1);
     all = λ entry there among.
-        given_is_in (entry_at nodes) numbers entry.node.0 entry (among_is_in numbers entry.node.0 among) (ap (entry_with entry.node.0) (entry_there entry there));
+        given_is_in (entry_at nodes) numbers entry.node.0 entry (among_is_in numbers entry.node.0 among) (ap (disk_entry_with entry.node.0) (entry_there entry there));
   }
 
 less_than : (x y : ℕ) → nat_cmp x y ≡ Less → x < y
@@ -149,14 +149,14 @@ sorted_ascend places sorted i j d lt within =
     (subst (λ (z : ℕ × ℕ). nat_cmp z.0 z.1 ≡ Less)
     (λ k. (get_or-map (λ (place : ℕ × Option OldKept). place.0) places i d d.0 (omega arith) k, get_or-map (λ (place : ℕ × Option OldKept). place.0) places j d d.0 within k)) less)
 
-pub all_ascend : (nodes : KeptNodes) → IsOrdered nat_cmp nodes → AscendBy entry_node (entries_in nodes)
+pub all_ascend : (nodes : KeptNodes) → IsOrdered nat_cmp nodes → AscendBy entry_node (disk_entries_in nodes)
 all_ascend nodes ordered =
-    given_ascend (λ (place : ℕ × Option OldKept). place.0) entry_node (λ (place : ℕ × Option OldKept). entry_with place.0 place.1)
+    given_ascend (λ (place : ℕ × Option OldKept). place.0) entry_node (λ (place : ℕ × Option OldKept). disk_entry_with place.0 place.1)
     (λ place entry e. (entry_own place.0 place.1 entry e).1) nodes.entries (sorted_ascend nodes.entries ordered)
 
 -- where of each node the same is kept, the entries are the same
-pub same_entries : (old new : KeptNodes) → IsOrdered nat_cmp old → HasSameEntries old new → entries_in new ≡ entries_in old
+pub same_entries : (old new : KeptNodes) → IsOrdered nat_cmp old → HasSameEntries old new → disk_entries_in new ≡ disk_entries_in old
 same_entries old new ordered is =
-    same_list entry_node (entries_in new) (entries_in old) (all_ascend new (is.ordered ordered)) (all_ascend old ordered)
+    same_list entry_node (disk_entries_in new) (disk_entries_in old) (all_ascend new (is.ordered ordered)) (all_ascend old ordered)
     (λ entry there. entry_kept old ordered entry (sym (is.same entry.node.0) ∙ entry_there new (is.ordered ordered) entry there))
     (λ entry there. entry_kept new (is.ordered ordered) entry (is.same entry.node.0 ∙ entry_there old ordered entry there))

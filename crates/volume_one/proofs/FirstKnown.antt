@@ -21,11 +21,11 @@ use Rattle.dep_closure.specs.declared.gathered.NodeCut.{NodeCut}
 use Rattle.flush_core.specs.Rules.{IsOneOf}
 use Rattle.flush_commits.specs.Ready.{KeepsEntries}
 use Rattle.node_lists.specs.Known.{Known}
-use Rattle.volume_one.specs.Begins.{node_of}
+use Rattle.volume_one.specs.Begins.{node_of_old}
 use Rattle.volume_one.specs.Memory.{KnowsNodes}
 
 -- the numbers of the nodes of entries
-pub numbers_are : (entries : List OldEntry) → map node_number (map node_of entries) ≡ map entry_node entries
+pub numbers_are : (entries : List OldEntry) → map node_number (map node_of_old entries) ≡ map entry_node entries
 numbers_are [] = refl
 numbers_are (entry ∷ entries) = ap (λ (l : List ℕ). entry_node entry ∷ l) (numbers_are entries)
 
@@ -53,7 +53,7 @@ module _ (num : Numbering) (inodes : ℕ → Bool) (parts : ℕ → Part) (entri
 
 pub first_known : (first : TreeState) (num : Numbering) (parts : ℕ → Part) (entries : List OldEntry) (known : Known)
     → NumbersInodes num (λ node. is_some (get first.nodes node)) → KeepsEntries num parts entries
-    → known.cuts ≡ [] → known.births ≡ [] → known.inodes ≡ map node_of entries
+    → known.cuts ≡ [] → known.births ≡ [] → known.inodes ≡ map node_of_old entries
     → KnowsNodes first [] empty (λ node. is_some (get first.nodes node)) known
 first_known first num parts entries known numbers keeps no_cuts no_births nodes = record {
   cuts = λ node. ap (λ (cuts : List NodeCut). cut_in cuts node) no_cuts

@@ -20,8 +20,8 @@ use Rattle.disk_change.specs.declared.old.OldEntry.{OldEntry}
 use Rattle.commit_laws.proofs.KnownDirectories.{own_item}
 use Rattle.commit_laws.proofs.SeatsOfPlan.{in_mapped, in_is_among}
 use Rattle.node_lists.proofs.Increasing.{ascending_increases}
-use Rattle.volume_one.specs.Begins.{node_of}
-use Rattle.volume_one.specs.Entries.{KeptNodes, old_in, old_at, kept_in, entries_in, HasSameEntries, AreReplaced}
+use Rattle.volume_one.specs.Begins.{node_of_old}
+use Rattle.volume_one.specs.Entries.{KeptNodes, old_in, old_at, kept_in, disk_entries_in, HasSameEntries, AreReplaced}
 use Rattle.volume_one.proofs.EntriesKept.{entry_there, entry_kept, all_ascend, same_list}
 
 -- what a search finds is in the list, and has the number
@@ -65,9 +65,9 @@ nothing_at blank old none same node =
 
 -- where entries are placed in a map that had none, it has these entries
 pub first_stored : (items : List OldEntry) (blank old new : KeptNodes) → blank.entries ≡ [] → HasSameEntries blank old
-    → AreReplaced (map entry_node items) items old new → AscendBy entry_node items → IsOrdered nat_cmp new → entries_in new ≡ items
+    → AreReplaced (map entry_node items) items old new → AscendBy entry_node items → IsOrdered nat_cmp new → disk_entries_in new ≡ items
 first_stored items blank old new none same replaced up ordered =
-    same_list entry_node (entries_in new) items (all_ascend new ordered) up
+    same_list entry_node (disk_entries_in new) items (all_ascend new ordered) up
     (λ entry there. kept_there items entry (sym (at entry.node.0) ∙ entry_there new ordered entry there))
     (λ entry there. entry_kept new ordered entry (at entry.node.0 ∙ ap (option_map entry_old) (own_item entry_node items up entry there)))
   where
@@ -79,17 +79,17 @@ first_stored items blank old new none same replaced up ordered =
         by false e = nothing_at blank old none same node ∙ sym (unlisted_has_none items node e)
 
 -- the nodes of entries that ascend do so too
-pub nodes_ascend : (items : List OldEntry) → AscendBy entry_node items → AscendBy node_number (map node_of items)
+pub nodes_ascend : (items : List OldEntry) → AscendBy entry_node items → AscendBy node_number (map node_of_old items)
 nodes_ascend [] up = λ i j d lt within. absurd (omega arith)
 nodes_ascend (item ∷ items) up = λ i j d lt within.
-    let long = length-map (item ∷ items) node_of in
+    let long = length-map (item ∷ items) node_of_old in
     subst (λ (two : NodeId × NodeId). node_number two.0 < node_number two.1)
     (λ k. (
-      sym (get_or-map node_of (item ∷ items) i item d (omega (arith, lt, within, long))) k,
-      sym (get_or-map node_of (item ∷ items) j item d (omega (arith, within, long))) k,
+      sym (get_or-map node_of_old (item ∷ items) i item d (omega (arith, lt, within, long))) k,
+      sym (get_or-map node_of_old (item ∷ items) j item d (omega (arith, within, long))) k,
     ))
     (up i j item lt (omega (arith, within, long)))
 
 -- and so their numbers increase
-pub numbers_increase : (items : List OldEntry) → AscendBy entry_node items → IsStrictlyIncreasing (map node_number (map node_of items))
-numbers_increase items up = ascending_increases node_number (map node_of items) (nodes_ascend items up)
+pub numbers_increase : (items : List OldEntry) → AscendBy entry_node items → IsStrictlyIncreasing (map node_number (map node_of_old items))
+numbers_increase items up = ascending_increases node_number (map node_of_old items) (nodes_ascend items up)

@@ -82,6 +82,10 @@ module _ (kept : Volume) (volume : OpenVolume) (node : NodeId) (stamp : Stamp) (
     own_job : job_for (first_slot kept.layout) (contents_of built.tx) number ≡ job
     own_job = ap (λ (c : Contents). job_for (first_slot kept.layout) c number) (sym are)
 
+    -- it writes the plan
+    pub job_held : HasJob kept one job
+    job_held = subst (λ (j : Job). HasJob kept one j) own_job can.job
+
     shows : (share : ℕ) → ShowsCommit share (tree_held kept) (tree_raised kept one) job kept.parts (parts_left kept one) (parts_brought kept one)
     shows share = subst (λ (j : Job). ShowsCommit share (tree_held kept) (tree_raised kept one) j kept.parts (parts_left kept one) (parts_brought kept one)) own_job (can.shows share)
 
@@ -113,7 +117,7 @@ module _ (kept : Volume) (volume : OpenVolume) (node : NodeId) (stamp : Stamp) (
             record {
               content = told.0;
               tells = told.1;
-              parts = ok_commits_go_on before after kept one job (subst (λ (j : Job). HasJob kept one j) own_job can.job) whole;
+              parts = ok_commits_go_on before after kept one job job_held whole;
               leaves = leaves;
             }
 

@@ -14,9 +14,9 @@ use Rattle.fsync_plans.specs.Plans.{planned_flush}
 use Rattle.volume_laws.specs.Volume.{Volume}
 use Rattle.volume_one.specs.Carry.{MayCarry}
 use Rattle.volume_one.specs.Ends.{IsReserved}
-use Rattle.volume_one.specs.Entries.{entries_in}
+use Rattle.volume_one.specs.Entries.{disk_entries_in}
 use Rattle.volume_one.specs.May.{MayCarryPlan}
-use Rattle.volume_one.specs.Planned.{IsPlanned, WasPlanned, IsSameKnown}
+use Rattle.volume_one.specs.Planned.{IsPlannedByGathered, WasPlanned, IsSameKnown}
 use Rattle.volume_one.specs.Ready.{IsPackedOf}
 use Rattle.volume_one.specs.Stands.{Remembers}
 use Rattle.volume_one.specs.declared.volume.OpenVolume.{OpenVolume}
@@ -25,7 +25,7 @@ use Rattle.volume_one.proofs.Leading.{leads, live, tied}
 
 module _ (kept : Volume) (node : NodeId) (stamp : Stamp) (volume : OpenVolume) (remembers : Remembers kept volume) (counted : length kept.history ≡ stamp.0)
     (alive : is_alive volume.tree node.0 ≡ true) (plan : FsyncPlan) (was : WasPlanned volume node stamp plan) where
-  abbrev lead : LeadsToCut kept.first kept.history kept.cut kept.inodes (planned_flush node stamp) (entries_in volume.stored) plan
+  abbrev lead : LeadsToCut kept.first kept.history kept.cut kept.inodes (planned_flush node stamp) (disk_entries_in volume.stored) plan
   lead = leads kept volume remembers stamp counted node alive plan was
 
   pub granted : (grant : GrantedNumbers) (space : Space) → IsReserved plan volume.space grant space → IsGranted kept volume node stamp plan grant space
@@ -62,5 +62,5 @@ was_known node stamp old known is plan was = record {
     inodes = was.from.inodes ∙ sym is.known.inodes;
   };
   orderly = was.orderly;
-  planned = subst (λ (v : OpenVolume). IsPlanned node stamp was.gathered v.stored (file_at v.files node.0) plan) (sym is.others) was.planned;
+  planned = subst (λ (v : OpenVolume). IsPlannedByGathered node stamp was.gathered v.stored (file_at v.files node.0) plan) (sym is.others) was.planned;
 }

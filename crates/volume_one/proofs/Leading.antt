@@ -40,7 +40,7 @@ use Rattle.node_lists.specs.Known.{OrderlyLogs}
 use Rattle.turn_ties.specs.Led.{Sources, IsTied, planning_led}
 use Rattle.turn_ties.proofs.Led.{led_plans_are_tied}
 use Rattle.volume_laws.specs.Volume.{Volume}
-use Rattle.volume_one.specs.Entries.{entries_in, entries_at}
+use Rattle.volume_one.specs.Entries.{disk_entries_in, disk_entries_at}
 use Rattle.volume_one.specs.Planned.{WasPlanned}
 use Rattle.volume_one.specs.Stands.{Remembers}
 use Rattle.volume_one.specs.declared.volume.OpenVolume.{OpenVolume}
@@ -138,8 +138,8 @@ module _ (kept : Volume) (volume : OpenVolume) (remembers : Remembers kept volum
             subst (λ (n : ℕ). IsFileAt first history node.0 n file) counted (remembers.calls.files.right node.0 file e),
           )
 
-      pub plans_fsync : PlansFsync first history kept.flushes kept.cut kept.inodes kept.num kept.layout kept.store kept.parts (entries_in volume.stored)
-          node stamp own_gathered was.planned.concern (entries_at volume.stored (map node_number was.planned.concern.nodes.items)) own_file plan
+      pub plans_fsync : PlansFsync first history kept.flushes kept.cut kept.inodes kept.num kept.layout kept.store kept.parts (disk_entries_in volume.stored)
+          node stamp own_gathered was.planned.concern (disk_entries_at volume.stored (map node_number was.planned.concern.nodes.items)) own_file plan
       plans_fsync = record {
         ready = remembers.stands.between;
         keeps = remembers.disk.entries;
@@ -158,23 +158,23 @@ module _ (kept : Volume) (volume : OpenVolume) (remembers : Remembers kept volum
       -- the fsync comes in time for its own file
       in_time : is_some own_file ≡ true → IsInTime kept.cut node stamp (is_held own_gathered plans_fsync.plans.enter node.0)
       in_time is_file =
-          live_files_are_held first history kept.flushes kept.cut kept.inodes kept.num kept.layout kept.store kept.parts (entries_in volume.stored) node stamp
-          own_gathered was.planned.concern (entries_at volume.stored (map node_number was.planned.concern.nodes.items)) own_file plan plans_fsync live no_later is_file
+          live_files_are_held first history kept.flushes kept.cut kept.inodes kept.num kept.layout kept.store kept.parts (disk_entries_in volume.stored) node stamp
+          own_gathered was.planned.concern (disk_entries_at volume.stored (map node_number was.planned.concern.nodes.items)) own_file plan plans_fsync live no_later is_file
 
-      pub leads : LeadsToCut first history kept.cut kept.inodes (planned_flush node stamp) (entries_in volume.stored) plan
+      pub leads : LeadsToCut first history kept.cut kept.inodes (planned_flush node stamp) (disk_entries_in volume.stored) plan
       leads =
-          plans_lead_to_cuts first history kept.flushes kept.cut kept.inodes kept.num kept.layout kept.store kept.parts (entries_in volume.stored) node stamp
-          own_gathered was.planned.concern (entries_at volume.stored (map node_number was.planned.concern.nodes.items)) own_file plan plans_fsync
+          plans_lead_to_cuts first history kept.flushes kept.cut kept.inodes kept.num kept.layout kept.store kept.parts (disk_entries_in volume.stored) node stamp
+          own_gathered was.planned.concern (disk_entries_at volume.stored (map node_number was.planned.concern.nodes.items)) own_file plan plans_fsync
           in_time
 
       abbrev pub sources : Sources
       sources = record {
-        entries = entries_in volume.stored;
+        entries = disk_entries_in volume.stored;
         start = node;
         below = stamp;
         gathered = own_gathered;
         concern = was.planned.concern;
-        old = entries_at volume.stored (map node_number was.planned.concern.nodes.items);
+        old = disk_entries_at volume.stored (map node_number was.planned.concern.nodes.items);
         file = own_file;
         plan = plan;
       }

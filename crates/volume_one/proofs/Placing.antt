@@ -12,7 +12,7 @@ use Rattle.std.specs.List.{cons_option}
 use Rattle.sfs_base.specs.declared.numbers.NodeId.{NodeId}
 use Rattle.sfs_tree.specs.NameRow.{node_number}
 use Rattle.disk_change.specs.declared.old.OldEntry.{OldEntry}
-use Rattle.volume_one.specs.Entries.{KeptNodes, old_at, kept_in, entry_at, entries_at}
+use Rattle.volume_one.specs.Entries.{KeptNodes, old_at, kept_in, entry_at, disk_entries_at}
 use Rattle.std.proofs.lemmas.List.Kept.{AllPairs-from_increasing}
 use borrow.Author.Tests.{eqb-true, eq-eqb}
 use Rattle.sfs_base.proofs.BasicTruth.{true_not_false}
@@ -98,12 +98,12 @@ pub all_weaker : (P Q : ℕ → Type 0) (numbers : List ℕ) → ((n : ℕ) → 
 all_weaker P Q numbers more all k d within = more (get_or numbers k d) (all k d within)
 
 -- the entries at nodes, with that of one node more
-pub entries_more : (kept : KeptNodes) (nodes : List NodeId) (i : ℕ) (before new : List OldEntry) → i < length nodes → before ≡ entries_at kept (map node_number (take i nodes))
-    → new ≡ before ++ option_to_list (entry_at kept (get_or nodes i (record { 0 = 0 })).0) → new ≡ entries_at kept (map node_number (take (i + 1) nodes))
+pub entries_more : (kept : KeptNodes) (nodes : List NodeId) (i : ℕ) (before new : List OldEntry) → i < length nodes → before ≡ disk_entries_at kept (map node_number (take i nodes))
+    → new ≡ before ++ option_to_list (entry_at kept (get_or nodes i (record { 0 = 0 })).0) → new ≡ disk_entries_at kept (map node_number (take (i + 1) nodes))
 entries_more kept nodes i before new within was is =
-    is ∙ ap (λ l. l ++ option_to_list (entry_at kept n)) was ∙ ap (λ l. entries_at kept (map node_number (take i nodes)) ++ l) (one (entry_at kept n))
+    is ∙ ap (λ l. l ++ option_to_list (entry_at kept n)) was ∙ ap (λ l. disk_entries_at kept (map node_number (take i nodes)) ++ l) (one (entry_at kept n))
     ∙ sym (filter_map-append (entry_at kept) (map node_number (take i nodes)) (n ∷ []))
-    ∙ ap (entries_at kept) (sym (ap (map node_number) (take_more nodes i (record { 0 = 0 }) within) ∙ map-append node_number (take i nodes) (get_or nodes i (record { 0 = 0 }) ∷ [])))
+    ∙ ap (disk_entries_at kept) (sym (ap (map node_number) (take_more nodes i (record { 0 = 0 }) within) ∙ map-append node_number (take i nodes) (get_or nodes i (record { 0 = 0 }) ∷ [])))
   where
     n : ℕ
     n = (get_or nodes i (record { 0 = 0 })).0

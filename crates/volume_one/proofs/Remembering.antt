@@ -17,8 +17,8 @@ use Rattle.space_laws.specs.Laws.{HasNoneGranted}
 use Rattle.space_laws.specs.Map.{IsMapOf, WasReturned}
 use Rattle.space_laws.proofs.Mapped.{grants_keep_maps, returns_keep_maps}
 use Rattle.volume_laws.specs.Volume.{Volume}
-use Rattle.volume_one.specs.Ends.{with_space, GivesBack}
-use Rattle.volume_one.specs.Entries.{entries_in, HasSameEntries}
+use Rattle.volume_one.specs.Ends.{with_space, ReturnsGrant}
+use Rattle.volume_one.specs.Entries.{disk_entries_in, HasSameEntries}
 use Rattle.volume_one.specs.Memory.{HoldsFiles}
 use Rattle.volume_one.specs.Planned.{IsSameKnown}
 use Rattle.volume_one.specs.Ready.{IsSameButRoom}
@@ -39,11 +39,11 @@ pub record IsLeft (kept : Volume) (old new : OpenVolume) : Type 0 where
   pub layout : new.layout ≡ old.layout
   pub known : HasSameNodes old.known new.known
   pub entries : HasSameEntries old.stored new.stored
-  pub space : IsMapOf kept.layout (entries_in old.stored) new.space
+  pub space : IsMapOf kept.layout (disk_entries_in old.stored) new.space
   pub granted : HasNoneGranted new.space
 
 module _ (kept : Volume) (old new : OpenVolume) (remembers : Remembers kept old) (is : IsLeft kept old new) where
-  same_list_of : entries_in new.stored ≡ entries_in old.stored
+  same_list_of : disk_entries_in new.stored ≡ disk_entries_in old.stored
   same_list_of = same_entries old.stored new.stored remembers.disk.ordered is.entries
 
   pub left_remembers : Remembers kept new
@@ -85,13 +85,13 @@ known_remembers kept old new remembers is =
       layout = ap (λ (v : OpenVolume). v.layout) is.others;
       known = is.known;
       entries = subst (HasSameEntries old.stored) (sym (ap (λ (v : OpenVolume). v.stored) is.others)) (record { same = λ node. refl; ordered = λ up. up });
-      space = subst (IsMapOf kept.layout (entries_in old.stored)) (sym (ap (λ (v : OpenVolume). v.space) is.others)) remembers.disk.space;
+      space = subst (IsMapOf kept.layout (disk_entries_in old.stored)) (sym (ap (λ (v : OpenVolume). v.space) is.others)) remembers.disk.space;
       granted = subst HasNoneGranted (sym (ap (λ (v : OpenVolume). v.space) is.others)) remembers.disk.granted;
     })
 
 -- what was granted may be free again, whatever room there is
 module _ (kept : Volume) (volume : OpenVolume) (node : NodeId) (stamp : Stamp) (plan : FsyncPlan) (grant : GrantedNumbers) (space : Space)
-    (is : IsGranted kept volume node stamp plan grant space) (room new : OpenVolume) (same : IsSameButRoom (with_space volume space) room) (back : GivesBack grant room new) where
+    (is : IsGranted kept volume node stamp plan grant space) (room new : OpenVolume) (same : IsSameButRoom (with_space volume space) room) (back : ReturnsGrant grant room new) where
   room_space : room.space ≡ space
   room_space = ap (λ (v : OpenVolume). v.space) same.others
 
@@ -112,8 +112,8 @@ module _ (kept : Volume) (volume : OpenVolume) (node : NodeId) (stamp : Stamp) (
     known = subst (HasSameNodes volume.known) (sym (ap (λ (v : OpenVolume). v.known) back.others)) same.known;
     entries = subst (HasSameEntries volume.stored) (sym (ap (λ (v : OpenVolume). v.stored) back.others)) same.entries;
     space =
-        returns_keep_maps kept.layout (entries_in volume.stored) space new.space grant
-        (grants_keep_maps kept.layout (entries_in volume.stored) (commit_plan kept volume node stamp plan grant space is) volume.space space grant is.remembers.disk.space
+        returns_keep_maps kept.layout (disk_entries_in volume.stored) space new.space grant
+        (grants_keep_maps kept.layout (disk_entries_in volume.stored) (commit_plan kept volume node stamp plan grant space is) volume.space space grant is.remembers.disk.space
         (was_granted kept volume node stamp plan grant space is))
         returned;
     granted = record {

@@ -51,7 +51,7 @@ use Rattle.volume_laws.specs.Commits.{parts_left}
 use Rattle.volume_laws.specs.Stores.{IsStoreLeft, volume_left}
 use Rattle.volume_laws.proofs.Stores.{commits_stay_standing}
 use Rattle.volume_one.specs.Ends.{with_space}
-use Rattle.volume_one.specs.Entries.{KeptNodes, old_at, kept_in, entries_in, AreReplaced}
+use Rattle.volume_one.specs.Entries.{KeptNodes, old_at, kept_in, disk_entries_in, AreReplaced}
 use Rattle.volume_one.specs.Finished.{HasFinished}
 use Rattle.volume_one.specs.Memory.{HoldsFiles}
 use Rattle.volume_one.specs.Ready.{IsReadyFor, IsSameButRoom}
@@ -76,18 +76,18 @@ kept_is_in entries entry is = by (item_with entry_node entry.node.0 entries) ref
 -- what is left of the entries once those of some nodes were replaced
 module _ (nodes : List ℕ) (after : List OldEntry) (old new : KeptNodes) (ordered : IsOrdered nat_cmp old) (up : AscendBy entry_node after)
     (own : (entry : OldEntry) → Contains after entry → is_listed nodes entry.node.0 ≡ true) (is : AreReplaced nodes after old new) where
-  pub replaced_there : (entry : OldEntry) → Contains (entries_in new) entry
-      → Contains after entry ⊎ (Contains (entries_in old) entry × (is_listed nodes entry.node.0 ≡ false))
+  pub replaced_there : (entry : OldEntry) → Contains (disk_entries_in new) entry
+      → Contains after entry ⊎ (Contains (disk_entries_in old) entry × (is_listed nodes entry.node.0 ≡ false))
   replaced_there entry there =
       by (is_listed nodes entry.node.0) refl (sym (is.each entry.node.0) ∙ entry_there new (is.ordered ordered) entry there)
     where
       by : (b : Bool) → is_listed nodes entry.node.0 ≡ b → cond b (kept_in after entry.node.0) (old_at old entry.node.0) ≡ Some entry.old
-          → Contains after entry ⊎ (Contains (entries_in old) entry × (is_listed nodes entry.node.0 ≡ false))
+          → Contains after entry ⊎ (Contains (disk_entries_in old) entry × (is_listed nodes entry.node.0 ≡ false))
       by true t e = inl (kept_is_in after entry e)
       by false t e = inr (entry_kept old ordered entry e, t)
 
-  pub replaced_back : (entry : OldEntry) → Contains after entry ⊎ (Contains (entries_in old) entry × (is_listed nodes entry.node.0 ≡ false))
-      → Contains (entries_in new) entry
+  pub replaced_back : (entry : OldEntry) → Contains after entry ⊎ (Contains (disk_entries_in old) entry × (is_listed nodes entry.node.0 ≡ false))
+      → Contains (disk_entries_in new) entry
   replaced_back entry (inl there) =
       entry_kept new (is.ordered ordered) entry
       (is.each entry.node.0 ∙ ap (λ b. cond b (kept_in after entry.node.0) (old_at old entry.node.0)) (own entry there)
@@ -141,7 +141,7 @@ module _ (kept : Volume) (volume : OpenVolume) (node : NodeId) (stamp : Stamp) (
     ordered_new : IsOrdered nat_cmp new.stored
     ordered_new = done.entries.ordered ordered_room
 
-    room_entries : entries_in room.stored ≡ one.entries
+    room_entries : disk_entries_in room.stored ≡ one.entries
     room_entries = same_entries volume.stored room.stored is.remembers.disk.ordered same.entries
 
     replaced : AreReplaced nodes (after_commit change grant) room.stored new.stored
@@ -151,7 +151,7 @@ module _ (kept : Volume) (volume : OpenVolume) (node : NodeId) (stamp : Stamp) (
     up = subst (AscendBy entry_node) after_is built.ascend
 
     -- what memory then keeps of the disk's nodes
-    after_entries : AreEntriesAfter nodes one.entries one.plan grant (entries_in new.stored)
+    after_entries : AreEntriesAfter nodes one.entries one.plan grant (disk_entries_in new.stored)
     after_entries = record {
       ascend = all_ascend new.stored ordered_new;
       each = λ entry. (
@@ -162,18 +162,18 @@ module _ (kept : Volume) (volume : OpenVolume) (node : NodeId) (stamp : Stamp) (
       );
     }
 
-    keeps_after : KeepsEntries (numbers_planned kept.num one.plan grant.inodes) (parts_left kept one) (entries_in new.stored)
+    keeps_after : KeepsEntries (numbers_planned kept.num one.plan grant.inodes) (parts_left kept one) (disk_entries_in new.stored)
     keeps_after =
         fsyncs_keep_entries kept.first kept.history kept.flushes kept.cut kept.inodes one.flush one.raised one.after kept.num kept.layout kept.store kept.parts
-        nodes one.entries one.plan grant (entries_in new.stored) planned after_entries
+        nodes one.entries one.plan grant (disk_entries_in new.stored) planned after_entries
 
     room_space : room.space ≡ space
     room_space = ap (λ (v : OpenVolume). v.space) same.others
 
-    map_after : IsMapOf kept.layout (entries_in new.stored) new.space
+    map_after : IsMapOf kept.layout (disk_entries_in new.stored) new.space
     map_after =
         commits_keep_maps kept.first kept.history kept.flushes kept.cut kept.inodes one.flush one.raised one.after kept.num kept.layout kept.store kept.parts
-        nodes one.entries one.plan grant (entries_in new.stored) built.tx space new.space planned after_entries
+        nodes one.entries one.plan grant (disk_entries_in new.stored) built.tx space new.space planned after_entries
         (grants_keep_maps kept.layout one.entries one.plan volume.space space grant is.remembers.disk.space (was_granted kept volume node stamp plan grant space is))
         (record {
           gives_up = own_tx kept volume node stamp plan grant space is built.tx built.built;

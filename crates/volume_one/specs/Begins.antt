@@ -21,8 +21,8 @@ use Rattle.volume_one.specs.Stands.{Remembers}
 use Rattle.volume_one.specs.declared.volume.OpenVolume.{OpenVolume}
 
 -- the node of an entry, as a node
-abbrev pub node_of : OldEntry → NodeId
-node_of entry = entry.node
+abbrev pub node_of_old : OldEntry → NodeId
+node_of_old entry = entry.node
 
 -- Of a volume nothing has happened yet: no call has come, nothing is flushed, and each node of its tree has an inode.
 pub record IsNew (kept : Volume) : Type 0 where
@@ -56,8 +56,3 @@ pub record Begins (nodes : ℕ) (before after : View) (volume : OpenVolume) : Ty
   pub cores : length kept.first.made ≡ volume.layout.cores
   pub working : volume.failed ≡ None
   pub told : IfTold before.content (IsNewOf nodes before after kept)
-
--- What is open of an image: its layout, and its tree with this share of new nodes for each core.
-pub record IsOpenOf (nodes : ℕ) (image : List ℕ) (volume : OpenVolume) : Type 0 where
-  pub layout_is : volume.layout ≡ layout_of image
-  pub tree : tree_of image (share_of_nodes nodes volume.layout) ≡ Some volume.tree

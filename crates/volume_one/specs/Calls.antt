@@ -27,8 +27,8 @@ is_fsync (call.Fsync node) = true
 is_fsync _ = false
 
 -- the entry of a call of a core
-abbrev pub entry_of : Stamp → CoreId → Call → Reply → Option ℕ → Entry
-entry_of stamp core asked given ack = record { stamp = stamp; core = core; call = asked; reply = given; ack = ack }
+abbrev pub call_entry : Stamp → CoreId → Call → Reply → Option ℕ → Entry
+call_entry stamp core asked given ack = record { stamp = stamp; core = core; call = asked; reply = given; ack = ack }
 
 -- what is to be said of a volume once an entry has come
 abbrev pub kept_with : Volume → Entry → Volume

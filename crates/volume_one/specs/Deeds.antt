@@ -1,15 +1,18 @@
 -- What an fsync of a volume did, beside the books of the turns.
-use Rattle.std.specs.Prelude.{◌≡◌, ◌↔◌, ℕ, ◌<◌, ◌≤◌, ◌^◌, Bool, true, List, None}
+use Rattle.std.specs.Prelude.{◌≡◌, ◌↔◌, ℕ, ◌+◌, ◌<◌, ◌≤◌, ◌^◌, nat_lt, Bool, true, List, Option, Some, None, if◌then◌else◌}
 use Rattle.sfs_base.specs.declared.numbers.SpaceKind.{SpaceKind}
 use Rattle.sfs_dev.specs.Disk.{View}
 use Rattle.sfs_dev.specs.Run.{CountsOn}
 use Rattle.sfs_tree.specs.declared.reply.Reply.{Reply}
 use Rattle.sfs_tree.specs.declared.reply.Reply.TheVariants as reply
+use Rattle.journal_one.specs.Job.{Job}
+use Rattle.commit_one.specs.Carried.{sealed_at}
 use Rattle.flush_core.specs.Closure.{every_entry, Flush, Closure}
 use Rattle.commit_turns.specs.Books.{free_in, FitsFree, IsShortOf}
 use Rattle.commit_turns.specs.Need.{nothing, node_bound}
 use Rattle.turn_ties.specs.Led.{IsTied}
 use Rattle.turn_ties.specs.Plans.{Planning, planning_of, books_of_rest, need_of_planning, granted_of_planning}
+use Rattle.volume_laws.specs.Commits.{HasJob}
 use Rattle.volume_laws.specs.Volume.{Volume, OneFsync}
 use Rattle.volume_one.specs.declared.deed.Deed.{Deed}
 use Rattle.volume_one.specs.declared.deed.Deed.TheVariants as deeds
@@ -53,14 +56,21 @@ pub record DidCommit (kept : Volume) (flush : Flush) (one : OneFsync) (before af
   pub books : BeginsByBooks kept flush one
   pub did : IsDurableDeed kept one before after moment deed
 
--- What an fsync did that was answered DiskFailed: it began its commit by the books, and the disk failed. How far it came is not told.
-pub record DidFail (kept : Volume) (flush : Flush) (one : OneFsync) (deed : Deed) : Type 0 where
+-- the moment of the gate of a commit that began at a moment, where the count of device calls came past its seal
+abbrev pub gate_moment : ℕ → Job → ℕ → Option ℕ
+gate_moment began job now = if nat_lt (sealed_at began job) now then Some (sealed_at began job + 1) else None
+
+-- What an fsync did that was answered DiskFailed: it began its commit by the books, and the disk failed; where that came after the commit was
+-- sealed, its gate was opened.
+pub record DidFail (kept : Volume) (flush : Flush) (one : OneFsync) (before after : View) (deed : Deed) : Type 0 where
   pub books : BeginsByBooks kept flush one
-  pub did : deed ≡ deeds.Failed None
+  pub job : Job
+  pub job_is : HasJob kept one job
+  pub did : deed ≡ deeds.Failed (gate_moment before.now job after.now)
 
 -- There was too little for an fsync that has its plan: what it needs does not fit, whichever numbers the commits before it had, where all nodes
 -- have numbers of 32 bits.
-pub record WasShort (kept : Volume) (flush : Flush) (kind : SpaceKind) (need free : ℕ) : Type 0 where
+pub record LacksSpace (kept : Volume) (flush : Flush) (kind : SpaceKind) (need free : ℕ) : Type 0 where
   pub planning : Planning
   pub flush_is : planning.flush ≡ flush
   pub tied : IsTied kept planning
@@ -81,7 +91,7 @@ WantedMemory kept flush _ = ⊥
 
 -- what an fsync did that left all as it was, by its reply
 abbrev pub DidStay : Volume → Flush → Reply → Deed → Type 0
-DidStay kept flush (reply.NoSpace kind need free) deed = (deed ≡ deeds.Short) × WasShort kept flush kind need free
+DidStay kept flush (reply.NoSpace kind need free) deed = (deed ≡ deeds.Short) × LacksSpace kept flush kind need free
 DidStay kept flush reply.NoMemory deed = WantedMemory kept flush deed
 DidStay kept flush (reply.Stopped faults) deed = deed ≡ deeds.Halted
 DidStay kept flush (reply.Error code) deed = deed ≡ deeds.Nothing

@@ -1,5 +1,5 @@
 -- How an fsync ends, step by step.
-use Rattle.std.specs.Prelude.{◌≡◌, ℕ, ◌==◌, ◌&&◌, Bool, true, false, length, take, Option, Some, None, Ok, Err, if◌then◌else◌}
+use Rattle.std.specs.Prelude.{◌≡◌, ℕ, ◌+◌, ◌==◌, nat_lt, ◌&&◌, Bool, true, false, length, take, Option, Some, None, Ok, Err, if◌then◌else◌}
 use Rattle.sfs_tree.specs.declared.reply.Code.TheVariants.{NoEntry}
 use Rattle.sfs_base.specs.declared.numbers.NodeId.{NodeId}
 use Rattle.sfs_base.specs.declared.numbers.SpaceKind.{SpaceKind}
@@ -30,8 +30,8 @@ use Rattle.volume_one.specs.declared.preparing.Ready.{Ready}
 use Rattle.volume_one.specs.declared.volume.OpenVolume.{OpenVolume}
 
 -- an answer without a moment, with what was done
-abbrev pub refused : Reply → Deed → Flushed
-refused given deed = record { reply = given; ack = None; deed = deed }
+abbrev pub refused_with : Reply → Deed → Flushed
+refused_with given deed = record { reply = given; ack = None; deed = deed }
 
 -- Ok, at a moment, with what was done
 abbrev pub acknowledged : ℕ → Deed → Flushed
@@ -45,6 +45,11 @@ grants_nothing grant = (length grant.inodes == 0) && (length grant.blocks == 0)
 abbrev pub durable_deed : Option Contents → GrantedNumbers → Deed
 durable_deed (Some contents) grant = deeds.Committed
 durable_deed None grant = if grants_nothing grant then deeds.Empty else deeds.Committed
+
+-- what a commit with so many fresh blocks did that the disk failed, by the counts of device calls when it began and when it failed: its gate is
+-- the call behind a write for each of them, three for the body of its slot, and a sync
+abbrev pub doubtful_deed : ℕ → ℕ → ℕ → Deed
+doubtful_deed fresh began failed = deeds.Failed (if nat_lt (began + fresh + 4) failed then Some (began + fresh + 5) else None)
 
 -- how much a change needs
 abbrev pub need_of_change : Planned → Need
@@ -62,7 +67,7 @@ abbrev pub with_space : OpenVolume → Space → OpenVolume
 with_space volume space = record volume { space = space }
 
 -- What was granted is free again, and all else is as it was.
-pub record GivesBack (grant : GrantedNumbers) (old new : OpenVolume) : Type 0 where
+pub record ReturnsGrant (grant : GrantedNumbers) (old new : OpenVolume) : Type 0 where
   pub inodes : BecomeAll Free grant.inodes old.space.inodes new.space.inodes
   pub blocks : BecomeAll Free grant.blocks old.space.blocks new.space.blocks
   pub others : new ≡ with_space old new.space
@@ -73,32 +78,32 @@ pub data ReadyEnds (Same : Type 0) (stamp : Stamp) (ready : Ready) (grant : Gran
   carried : (moment : ℕ) → CarriesPacked Same old.layout old.commits ready.packed before after (Ok moment)
       → HasFinished stamp ready grant old new → ReadyEnds Same stamp ready grant before after old new (acknowledged moment (durable_deed ready.packed grant))
   doubted : (doubt : Doubt) (space : Space) → CarriesPacked Same old.layout old.commits ready.packed before after (Err doubt)
-      → GivesBack grant old (with_space old space) → new ≡ record old { space = space; failed = Some doubt.faults }
-      → ReadyEnds Same stamp ready grant before after old new (refused reply.DiskFailed (deeds.Failed None))
+      → ReturnsGrant grant old (with_space old space) → new ≡ record old { space = space; failed = Some doubt.faults }
+      → ReadyEnds Same stamp ready grant before after old new (refused_with reply.DiskFailed (doubtful_deed ready.fresh before.now after.now))
 
 -- With a grant a commit is made ready, for which memory may be wanting: then what was granted is free again.
 pub data GrantEnds (Same : Type 0) (stamp : Stamp) (plan : FsyncPlan) (grant : GrantedNumbers) (before after : View) (old new : OpenVolume) : Flushed → Type 0 where
-  unready : Same → (room : OpenVolume) → IsSameButRoom old room → GivesBack grant room new
-      → GrantEnds Same stamp plan grant before after old new (refused reply.NoMemory deeds.GivenBack)
+  unready : Same → (room : OpenVolume) → IsSameButRoom old room → ReturnsGrant grant room new
+      → GrantEnds Same stamp plan grant before after old new (refused_with reply.NoMemory deeds.GivenBack)
   readied : (flushed : Flushed) (ready : Ready) (room : OpenVolume) → IsReadyFor plan grant ready → IsSameButRoom old room
       → ReadyEnds Same stamp ready grant before after room new flushed → GrantEnds Same stamp plan grant before after old new flushed
 
 -- What a plan needs is reserved, where enough is free.
 pub data PlanEnds (Same : Type 0) (stamp : Stamp) (plan : FsyncPlan) (before after : View) (old new : OpenVolume) : Flushed → Type 0 where
   short : Same → new ≡ old → (kind : SpaceKind) (need free : ℕ) → shortage old.space (need_of_change plan.change) ≡ Some (NoSpace kind need free)
-      → PlanEnds Same stamp plan before after old new (refused (reply.NoSpace kind need free) deeds.Short)
+      → PlanEnds Same stamp plan before after old new (refused_with (reply.NoSpace kind need free) deeds.Short)
   unreserved : Same → new ≡ old → shortage old.space (need_of_change plan.change) ≡ None
-      → PlanEnds Same stamp plan before after old new (refused reply.NoMemory deeds.Nothing)
+      → PlanEnds Same stamp plan before after old new (refused_with reply.NoMemory deeds.Nothing)
   reserved : (flushed : Flushed) (grant : GrantedNumbers) (space : Space) → IsReserved plan old.space grant space
       → GrantEnds Same stamp plan grant before after (with_space old space) new flushed → PlanEnds Same stamp plan before after old new flushed
 
 -- An fsync of a dead node is refused; after a failure it is stopped; and else it is planned, for which memory may be wanting.
 pub data FlushEnds (Same : Type 0) (stamp : Stamp) (node : NodeId) (before after : View) (old new : OpenVolume) : Flushed → Type 0 where
-  dead : Same → new ≡ old → is_alive old.tree node.0 ≡ false → FlushEnds Same stamp node before after old new (refused (reply.Error NoEntry) deeds.Nothing)
+  dead : Same → new ≡ old → is_alive old.tree node.0 ≡ false → FlushEnds Same stamp node before after old new (refused_with (reply.Error NoEntry) deeds.Nothing)
   stopped : Same → new ≡ old → is_alive old.tree node.0 ≡ true → (faults : ℕ) → old.failed ≡ Some faults
-      → FlushEnds Same stamp node before after old new (refused (reply.Stopped faults) deeds.Halted)
+      → FlushEnds Same stamp node before after old new (refused_with (reply.Stopped faults) deeds.Halted)
   unplanned : Same → is_alive old.tree node.0 ≡ true → old.failed ≡ None → IsSameKnown old new
-      → FlushEnds Same stamp node before after old new (refused reply.NoMemory deeds.Nothing)
+      → FlushEnds Same stamp node before after old new (refused_with reply.NoMemory deeds.Nothing)
   planned : (flushed : Flushed) → is_alive old.tree node.0 ≡ true → old.failed ≡ None → (plan : FsyncPlan) (known : OpenVolume)
       → WasPlanned old node stamp plan → IsSameKnown old known → PlanEnds Same stamp plan before after known new flushed
       → FlushEnds Same stamp node before after old new flushed

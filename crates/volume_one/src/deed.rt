@@ -1,5 +1,5 @@
-ghost use Rattle.std.specs.Prelude.{◌≡◌};
-ghost use Rattle.volume_one.specs.Ends.{durable_deed};
+ghost use Rattle.std.specs.Prelude.{◌≡◌, ◌≤◌};
+ghost use Rattle.volume_one.specs.Ends.{durable_deed, doubtful_deed};
 
 use crate::preparing::Ready;
 use space_map::Grant;
@@ -21,8 +21,7 @@ pub enum Deed {
     Committed,
     /// What it needs was granted, its commit began, and the disk failed.
     Failed {
-        /// The moment at which the gate was opened, where that is known. It is None: a commit in doubt does not tell
-        /// how far it came.
+        /// The disk's count of device calls once the gate was written, or was to be: None where the disk failed before.
         opened: Option<u64>,
     },
 }
@@ -37,5 +36,20 @@ impl Deed {
         } else {
             Deed::Committed
         }
+    }
+
+    // What a commit with so many fresh blocks did that the disk failed, by the disk's counts of device calls when it began and when it
+    // failed. A write for each block, three for the body of its slot and a sync come before the gate.
+    pub(crate) fn in_doubt(fresh: usize, began: u64, failed: u64) -> Deed
+        requires { began ≤ failed }
+        ensures { result ≡ doubtful_deed fresh began failed }
+    {
+        let fresh = fresh as u64;
+        let opened = if (failed - began).saturating_sub(fresh) > 4 {
+            Some(began + fresh + 5)
+        } else {
+            None
+        };
+        Deed::Failed { opened }
     }
 }

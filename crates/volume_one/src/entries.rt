@@ -7,7 +7,7 @@ ghost use Rattle.std.specs.List.Sorted.{IsStrictlyIncreasing};
 ghost use Rattle.sfs_tree.specs.NameRow.{node_number};
 ghost use Rattle.disk_change.specs.Lists.{item_with};
 ghost use Rattle.disk_change.specs.Nodes.{entry_node};
-ghost use Rattle.volume_one.specs.Entries.{old_at, kept_in, entries_at, AreReplaced, HavePlaces, HasPlace, HasSameEntries};
+ghost use Rattle.volume_one.specs.Entries.{old_at, kept_in, disk_entries_at, AreReplaced, HaveDiskPlaces, HasDiskPlace, HasSameEntries};
 
 use disk_change::{OldDisk, OldEntry, OldNode};
 use fmt_slots::copy_list;
@@ -35,7 +35,7 @@ pub(crate) fn entries_of(
     nodes: &[NodeId],
 ) -> Result<OldDisk, NoMemory>
     requires { IsStrictlyIncreasing (map node_number nodes.now) }
-    ensures { IfOk result (λ entries. entries.items ≡ entries_at old.now (map node_number nodes.now)) }
+    ensures { IfOk result (λ entries. entries.items ≡ disk_entries_at old.now (map node_number nodes.now)) }
 {
     let mut entries = Vec::new(alloc);
     for node in nodes {
@@ -64,7 +64,7 @@ fn entry_of(alloc: Global, node: NodeId, old: &OldNode) -> Result<OldEntry, NoMe
 
 /// Gives each of some nodes a place, which has nothing where it is new.
 pub(crate) fn make_places(old: &mut DiskNodes, nodes: &[NodeId]) -> Result<(), NoMemory>
-    ensures places { OnOk result (HavePlaces old.new (map node_number nodes.now)) }
+    ensures places { OnOk result (HaveDiskPlaces old.new (map node_number nodes.now)) }
     ensures same { HasSameEntries old.old old.new }
 {
     for node in nodes {
@@ -75,8 +75,8 @@ pub(crate) fn make_places(old: &mut DiskNodes, nodes: &[NodeId]) -> Result<(), N
 
 // Gives a node a place.
 fn make_place(old: &mut DiskNodes, node: NodeId) -> Result<(), NoMemory>
-    ensures place { OnOk result (HasPlace old.new node.0) }
-    ensures others { (other : ℕ) → HasPlace old.old other → HasPlace old.new other }
+    ensures place { OnOk result (HasDiskPlace old.new node.0) }
+    ensures others { (other : ℕ) → HasDiskPlace old.old other → HasDiskPlace old.new other }
     ensures same { HasSameEntries old.old old.new }
 {
     if old.get(&node.0).is_none() {
@@ -88,7 +88,7 @@ fn make_place(old: &mut DiskNodes, node: NodeId) -> Result<(), NoMemory>
 /// Gives some nodes, which ascend and have places, what they have in `after`, or nothing. It takes no memory.
 pub(crate) fn replace_entries(old: &mut DiskNodes, nodes: &[NodeId], mut after: OldDisk)
     requires ascending { IsStrictlyIncreasing (map node_number nodes.now) }
-    requires places { HavePlaces old.old (map node_number nodes.now) }
+    requires places { HaveDiskPlaces old.old (map node_number nodes.now) }
     ensures { AreReplaced (map node_number nodes.now) after.items old.old old.new }
 {
     let mut place = nodes.len();
@@ -100,9 +100,9 @@ pub(crate) fn replace_entries(old: &mut DiskNodes, nodes: &[NodeId], mut after: 
 
 // Gives a node, which has a place, what it has in `after`, or nothing.
 fn replace_one(old: &mut DiskNodes, node: NodeId, after: &mut OldDisk)
-    requires { HasPlace old.old node.0 }
+    requires { HasDiskPlace old.old node.0 }
     ensures replaced { (other : ℕ) → old_at old.new other ≡ (if node.0 == other then kept_in after.old.items other else old_at old.old other) }
-    ensures places { (other : ℕ) → HasPlace old.old other → HasPlace old.new other }
+    ensures places { (other : ℕ) → HasDiskPlace old.old other → HasDiskPlace old.new other }
     ensures ordered { IsOrdered nat_cmp old.new }
     ensures rest { (other : ℕ) → (node.0 ≡ other → ⊥) → item_with entry_node other after.new.items ≡ item_with entry_node other after.old.items }
 {

@@ -27,6 +27,7 @@ impl OpenVolume {
             after,
             freed_blocks,
             freed_inodes,
+            fresh: _,
             packed: _,
         } = ready;
         self.space

@@ -136,6 +136,7 @@ impl OpenVolume {
         ensures advances { Advances (D.view disk.old) (D.view disk.new) }
     {
         let deed = Deed::once_durable(&ready, &grant);
+        let began = disk.now();
         match self.carry(disk, ready.packed.take()) {
             Ok(moment) => {
                 self.finish(stamp, ready, grant);
@@ -148,7 +149,8 @@ impl OpenVolume {
             Err(doubt) => {
                 self.space.give_back(grant);
                 self.failed = Some(doubt.faults);
-                Flushed::refused(Reply::DiskFailed, Deed::Failed { opened: None })
+                let deed = Deed::in_doubt(ready.fresh, began, disk.now());
+                Flushed::refused(Reply::DiskFailed, deed)
             }
         }
     }

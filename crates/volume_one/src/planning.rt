@@ -2,7 +2,7 @@
 ghost use Rattle.std.specs.Prelude.{◌≡◌, IfOk};
 ghost use Rattle.std.specs.Option.{option_copied};
 ghost use Rattle.dep_closure.specs.Gathered.{IsOrderly};
-ghost use Rattle.volume_one.specs.Planned.{IsPlanned, WasPlanned, IsSameKnown};
+ghost use Rattle.volume_one.specs.Planned.{IsPlannedByGathered, WasPlanned, IsSameKnown};
 ghost use Rattle.volume_one.specs.Stands.{IsStandingAt};
 
 use crate::OpenVolume;
@@ -39,7 +39,7 @@ fn plan_of(
     file: Option<&FileBytes>,
 ) -> Result<FsyncPlan, NoMemory>
     requires { IsOrderly gathered.now }
-    ensures { IfOk result (IsPlanned node stamp gathered.now old.now (option_copied file.entry)) }
+    ensures { IfOk result (IsPlannedByGathered node stamp gathered.now old.now (option_copied file.entry)) }
 {
     let concern = concerned(alloc, node, stamp, gathered)?;
     let entries = entries_of(alloc, old, concern.nodes.as_slice())?;

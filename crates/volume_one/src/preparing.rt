@@ -15,7 +15,7 @@ use space_map::Grant;
 use std::alloc::Global;
 
 /// A commit with all that it needs of memory: the nodes that it flushes and those that it concerns, what the disk has of them
-/// afterwards, what becomes free, and what it writes, where it writes something.
+/// afterwards, what becomes free, how many fresh blocks it has, and what it writes, where it writes something.
 #[derive(Drop)]
 pub struct Ready {
     pub members: NodeList,
@@ -23,6 +23,7 @@ pub struct Ready {
     pub after: OldDisk,
     pub freed_blocks: BlockList,
     pub freed_inodes: InodeList,
+    pub fresh: usize,
     pub packed: Option<Packed>,
 }
 
@@ -47,6 +48,7 @@ impl OpenVolume {
         let Unpacked {
             freed_blocks,
             freed_inodes,
+            fresh,
             packed,
         } = unpack(self.alloc, tx)?;
         Ok(Ready {
@@ -55,15 +57,17 @@ impl OpenVolume {
             after,
             freed_blocks,
             freed_inodes,
+            fresh,
             packed,
         })
     }
 }
 
-// What a transaction gives up, and what it writes, where it writes something.
+// What a transaction gives up, how many fresh blocks it has, and what it writes, where it writes something.
 struct Unpacked {
     freed_blocks: BlockList,
     freed_inodes: InodeList,
+    fresh: usize,
     packed: Option<Packed>,
 }
 
@@ -76,10 +80,12 @@ fn unpack(alloc: Global, tx: Tx) -> Result<Unpacked, NoMemory>
         freed_blocks,
         freed_inodes,
     } = tx;
+    let blocks = fresh.as_slice().len();
     if records.is_empty() {
         return Ok(Unpacked {
             freed_blocks,
             freed_inodes,
+            fresh: blocks,
             packed: None,
         });
     }
@@ -92,6 +98,7 @@ fn unpack(alloc: Global, tx: Tx) -> Result<Unpacked, NoMemory>
     Ok(Unpacked {
         freed_blocks,
         freed_inodes,
+        fresh: blocks,
         packed: Some(Packed::new(alloc, written)?),
     })
 }

@@ -7,7 +7,7 @@ use Rattle.sfs_tree.specs.declared.history.Entry.{Entry}
 use Rattle.sfs_tree.specs.Tree.{TreeState}
 use Rattle.sfs_tree.proofs.Cores.{cores_stay}
 use Rattle.sfs_dev.specs.Disk.{View}
-use Rattle.volume_one.specs.Calls.{entry_of}
+use Rattle.volume_one.specs.Calls.{call_entry}
 use Rattle.sfs_base.specs.Lists.{Roomy}
 use Rattle.sfs_tree.specs.declared.turns.Turn.{Turn}
 use Rattle.scalefs_run.specs.Turns.{turns_told}
@@ -57,7 +57,7 @@ returns-clause-ok g c =
     let Same = c.answer.new.disk ≡ disk in
     let told = c.in_ok-flushed.ensures in
     let kept = entries_kept old c.reserve.new.self c.reserve-2.new.self new (view disk) (view c.answer.new.disk) Same stamp c.args.core c.args.call flushed told.other told.fsync in
-    let entry = entry_of stamp c.args.core c.args.call flushed.reply flushed.ack in
+    let entry = call_entry stamp c.args.core c.args.call flushed.reply flushed.ack in
     record {
       entry = entry;
       grown = c.push_reserved.ensures.items ∙ ap (λ (v : Vec Entry Global). v.items ++ entry ∷ []) kept ∙ ap (λ (l : List Entry). l ++ entry ∷ []) c.in_ok-reserve.ensures.items;
@@ -75,7 +75,7 @@ returns-clause-invariant g c start image kept stands =
     let stamp : Stamp = record { 0 = c.len.result } in
     let Same = c.answer.new.disk ≡ disk in
     let told = c.in_ok-flushed.ensures in
-    let entry = entry_of stamp c.args.core c.args.call flushed.reply flushed.ack in
+    let entry = call_entry stamp c.args.core c.args.call flushed.reply flushed.ack in
     let counts : Counts = record { calls_before = c.now-calls_before.result; calls_after = c.now.result; faults_before = c.faults-faults_before.result; faults_after = c.faults.result } in
     let same = entries_kept old c.reserve.new.self c.reserve-2.new.self new (view disk) (view c.answer.new.disk) Same stamp c.args.core c.args.call flushed told.other told.fsync in
     let room = turns_kept old c.reserve.new.self c.reserve-2.new.self new (view disk) (view c.answer.new.disk) Same stamp c.args.core c.args.call flushed told.other told.fsync in
@@ -85,7 +85,7 @@ returns-clause-invariant g c start image kept stands =
     (counted c.reserve.new.self kept.history c.len.result (stands.history ∙ sym c.in_ok-reserve.ensures.items) c.len.ensures)
     c.answer.ensures.advances
     (λ still P here. subst (λ d. P (view d)) (sym still) here)
-    counts c.faults-faults_before.ensures.faults c.faults.ensures.faults
+    counts c.faults-faults_before.ensures.faults c.faults.ensures.faults c.now-calls_before.ensures.now c.now.ensures.now
     c.push_reserved.new.self
     (c.push_reserved.ensures.items ∙ ap (λ (v : Vec Entry Global). v.items ++ entry ∷ []) same ∙ ap (λ (l : List Entry). l ++ entry ∷ []) c.in_ok-reserve.ensures.items)
     c.add_turns.new.turns

@@ -37,7 +37,7 @@ returns-in-Err-clause-served g c =
     subst (λ (t : Roomy Turn). Served (λ judged. judged_status judged phases) c.args.nodes phases ⊥ Sink written written old new c.status_of_recovery-status.result c.new.result t.items) (sym c.new-in-Err.ensures)
     (subst (λ (h : List Entry). Served (λ judged. judged_status judged phases) c.args.nodes phases ⊥ Sink written written old new c.status_of_recovery-status.result h []) (sym c.new.ensures)
     (subst (λ (s : Status). Served (λ judged. judged_status judged phases) c.args.nodes phases ⊥ Sink written written old new s [] []) (sym c.status_of_recovery-status.ensures)
-    (served_refused c.args.nodes phases Sink written old new c.mount.ensures.moments c.in-Err.fault ends.bad ends.refused ends.runs.cause)))
+    (served_refused c.args.nodes phases Sink written old new c.mount.ensures.moments ends.runs.advances.later c.in-Err.fault ends.bad ends.refused ends.runs.cause)))
 
 pub returns-in-Some-clause-served : goal.returns-in-Some-clause-served
 returns-in-Some-clause-served g c =
@@ -55,7 +55,7 @@ returns-in-Some-clause-served g c =
     subst (λ n. Served (λ judged. judged_status judged phases) c.args.nodes phases ⊥ Sink written written old new (TooManyWorkers n c.from-in-Some.result) c.new-in-Some.result c.new-in-Some-2.result.items) (sym c.from.ensures)
     (subst (λ (t : Roomy Turn). Served (λ judged. judged_status judged phases) c.args.nodes phases ⊥ Sink written written old new (TooManyWorkers c.in-Some.asked c.from-in-Some.result) c.new-in-Some.result t.items) (sym c.new-in-Some-2.ensures)
     (subst (λ (h : List Entry). Served (λ judged. judged_status judged phases) c.args.nodes phases ⊥ Sink written written old new (TooManyWorkers c.in-Some.asked c.from-in-Some.result) h []) (sym c.new-in-Some.ensures)
-    (served_without_core c.args.nodes phases Sink written written engine engine old new new c.in-Ok.ensures.begins c.in-Some.asked c.from-in-Some.result (c.from-in-Some.ensures ∙ have_is) found refl c.mount.ensures.moments)))
+    (served_without_core c.args.nodes phases Sink written written engine engine old new new c.in-Ok.ensures.begins c.in-Some.asked c.from-in-Some.result (c.from-in-Some.ensures ∙ have_is) found refl c.mount.ensures.moments c.in-Ok.ensures.runs.advances.later)))
 
 pub serve-served-requires-clause-invariant : goal.serve-served-requires-clause-invariant
 serve-served-requires-clause-invariant g c κs within =
@@ -88,6 +88,7 @@ returns-clause-served g c =
     let history = engine.entries.items in
     let begins = c.in-Ok.ensures.begins in
     let goes = c.serve-served.ensures.advances in
+    let begun = c.in-Ok.ensures.runs.advances.later in
     let have_is = c.core_count-have.ensures in
     let none : worker_without_core first.volume.layout.cores phases ≡ None =
     ap (λ n. worker_without_core n phases) (sym have_is) ∙ ap (worker_without_core c.core_count-have.result) (sym c.phases.ensures) ∙ sym c.first_worker_without_core.ensures ∙ c.in_default.is in
@@ -99,14 +100,14 @@ returns-clause-served g c =
     (elim c.match-served.branch [
       | in-Err-served w ↦
           subst (λ (s : Status). Served (λ judged. judged_status judged phases) nodes phases ⊥ (HasRisen (faults was) (faults is)) (written was) (written is) old new s history engine.turns.items) (sym w.status-is)
-          (served_run nodes phases (HasRisen (faults was) (faults is)) (written was) (written is) first engine old mid new begins NoMemory w.in-Err-served.ensures.ends goes none shows tt
+          (served_run nodes phases (HasRisen (faults was) (faults is)) (written was) (written is) first engine old mid new begins NoMemory w.in-Err-served.ensures.ends begun goes none shows tt
           (subst (λ (p : List (List Line)). FollowsSoFar p history) c.phases-2.ensures w.in-Err-served.ensures.err) (ap written w.sink-is))
       | in-Ok-served w ↦
           let ended = w.write_history-status.ensures in
           let given = w.write_history-status.result in
           let last = w.write_history-status.new.sink in
           let served = served_run nodes phases (HasRisen (faults was) (faults last)) (written was) (written last) first engine old mid new begins given
-          (keeps_end first engine mid new w.in-Ok-served.ensures.invariant) goes none shows ended.status
+          (keeps_end first engine mid new w.in-Ok-served.ensures.invariant) begun goes none shows ended.status
           (write_history _ phases history given ended.status (subst (λ (p : List (List Line)). Follows p history) c.phases-2.ensures w.in-Ok-served.ensures.ok))
           (subst (λ (h : List Entry). HasText (history_text h) (written was) (written last) given) c.from_entries-history.ensures ended.text) in
           subst (λ (s : Status). Served (λ judged. judged_status judged phases) nodes phases ⊥ (HasRisen (faults was) (faults is)) (written was) (written is) old new s history engine.turns.items) (sym w.status-is)

@@ -1,14 +1,8 @@
 use Rattle.std.proofs.Common.{rules, arith, ◌≡◌, ◌∙◌, sym, ap, subst, ℕ, List, [], ◌∷◌, ◌++◌, length, take, drop, refl, All}
 use Rattle.stamp_table.specs.Table.{IsBetweenCalls, IsSameCore, AreNew}
 use Rattle.stamp_table.proofs.Beginning.{new_between, all_again}
+use Rattle.test_run.proofs.Written.{written}
 use Rattle.test_run.proofs.table.counted.Goals as goal
-
--- what is written back of all items is what was written
-written : {X : Type 0} (new items : List X) → length new ≡ length items → take (length items) (new ++ drop (length new) items) ≡ new
-written [] [] same = refl
-written [] (y ∷ items) same = absurd (omega (arith, same))
-written (x ∷ new) [] same = absurd (omega (arith, same))
-written (x ∷ new) (y ∷ items) same = ap (λ l. x ∷ l) (written new items (omega (arith, same)))
 
 pub count_all-requires-clause-cores : goal.count_all-requires-clause-cores
 count_all-requires-clause-cores g c κs within =

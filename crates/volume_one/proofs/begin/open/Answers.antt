@@ -7,8 +7,8 @@ use Rattle.disk_change.specs.Lists.{AscendBy}
 use Rattle.disk_change.specs.Nodes.{entry_node}
 use Rattle.journal_one.proofs.Kept.{IsLawful}
 use Rattle.core_logs.specs.Logs.{AreBlank}
-use Rattle.volume_one.specs.Begins.{node_of}
-use Rattle.volume_one.specs.Entries.{HavePlaces, AreReplaced}
+use Rattle.volume_one.specs.Begins.{node_of_old}
+use Rattle.volume_one.specs.Entries.{HaveDiskPlaces, AreReplaced}
 use Rattle.volume_one.proofs.BegunVolume.{short_of, begins_open}
 use Rattle.volume_one.proofs.FirstKnown.{numbers_are}
 use Rattle.volume_one.proofs.FirstStored.{first_stored, nodes_ascend, numbers_increase}
@@ -20,17 +20,17 @@ fill-requires g c = short_of c.args.nodes (g.D.Disk.view c.args.disk.now).size c
 pub replace_entries-requires-clause-ascending : goal.replace_entries-requires-clause-ascending
 replace_entries-requires-clause-ascending g c =
     subst (λ (nodes : List NodeId). IsStrictlyIncreasing (map node_number nodes))
-    (sym (c.deref-2.ensures.value ∙ c.in_ok-numbers.ensures ∙ ap (map node_of) c.as_slice.ensures.items))
+    (sym (c.deref-2.ensures.value ∙ c.in_ok-numbers.ensures ∙ ap (map node_of_old) c.as_slice.ensures.items))
     (numbers_increase c.in_ok-layout.field-0.old.items c.as_slice.ensures.ascending)
 
 pub replace_entries-requires-clause-places : goal.replace_entries-requires-clause-places
 replace_entries-requires-clause-places g c =
-    subst (λ (nodes : List NodeId). HavePlaces c.make_places.new.old (map node_number nodes)) (c.deref.ensures.value ∙ sym c.deref-2.ensures.value)
+    subst (λ (nodes : List NodeId). HaveDiskPlaces c.make_places.new.old (map node_number nodes)) (c.deref.ensures.value ∙ sym c.deref-2.ensures.value)
     c.in_ok-make_places.ensures.places
 
 pub new-requires-2 : goal.new-requires-2
 new-requires-2 g c =
-    subst (AscendBy node_number) (sym (c.in_ok-numbers.ensures ∙ ap (map node_of) c.as_slice.ensures.items))
+    subst (AscendBy node_number) (sym (c.in_ok-numbers.ensures ∙ ap (map node_of_old) c.as_slice.ensures.items))
     (nodes_ascend c.in_ok-layout.field-0.old.items c.as_slice.ensures.ascending)
 
 pub returns-clause-begins : goal.returns-clause-begins
@@ -40,7 +40,7 @@ returns-clause-begins g c =
     let after = c.mount.new.disk in
     let mounted = c.in_ok-layout.field-0 in
     let own = c.in_ok-layout.ensures in
-    let nodes = c.in_ok-numbers.ensures ∙ ap (map node_of) c.as_slice.ensures.items in
+    let nodes = c.in_ok-numbers.ensures ∙ ap (map node_of_old) c.as_slice.ensures.items in
     let lawful : IsLawful (g.D.Disk.view before) = record { whole = laws.whole before; read_is_left = laws.read_is_left before } in
     let lawful_later : IsLawful (g.D.Disk.view after) = record { whole = laws.whole after; read_is_left = laws.read_is_left after } in
     let ordered = c.replace_entries.ensures.ordered (c.in_ok-make_places.ensures.same.ordered c.new-stored.ensures.ordered) in
@@ -65,9 +65,6 @@ returns-clause-begins g c =
       working = refl;
     })
     c.requires.most
-
-pub returns-clause-ok : goal.returns-clause-ok
-returns-clause-ok g c image told = let own = c.in_ok-layout.ensures.ok image told in record { layout_is = own.layout_is; tree = own.tree }
 
 pub returns-clause-ended : goal.returns-clause-ended
 returns-clause-ended g c = c.in_ok-layout.ensures.ended

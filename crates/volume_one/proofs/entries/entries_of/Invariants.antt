@@ -1,7 +1,7 @@
 use Rattle.std.proofs.Common.{◌≡◌, map, take}
 use Rattle.sfs_tree.specs.NameRow.{node_number}
-use Rattle.volume_one.specs.Entries.{entries_at}
+use Rattle.volume_one.specs.Entries.{disk_entries_at}
 use Rattle.volume_one.proofs.entries.entries_of.Given as goal
 
 abbrev pub invariant-loop-node : goal.invariant-loop-node
-invariant-loop-node l = l.entries.items ≡ entries_at l.old (map node_number (take l.node-index l.nodes))
+invariant-loop-node l = l.entries.items ≡ disk_entries_at l.old (map node_number (take l.node-index l.nodes))

@@ -2,7 +2,7 @@ use Rattle.std.proofs.Common.{ℕ, List, map, take, subst, ◌∙◌}
 use Rattle.std.proofs.lemmas.List.{take_all}
 use Rattle.sfs_base.specs.declared.numbers.NodeId.{NodeId}
 use Rattle.sfs_tree.specs.NameRow.{node_number}
-use Rattle.volume_one.specs.Entries.{HasPlace, HavePlaces}
+use Rattle.volume_one.specs.Entries.{HasDiskPlace, HaveDiskPlaces}
 use Rattle.volume_one.proofs.Placing.{all_next, all_weaker}
 use Rattle.volume_one.proofs.entries.make_places.Goals as goal
 
@@ -11,8 +11,8 @@ loop-node-preserved c =
     let i : ℕ = c.loop-node.node-index in
     let nodes : List NodeId = c.args.nodes.now in
     record {
-      places = all_next node_number (HasPlace c.make_place.new.old) nodes i (record { 0 = 0 }) c.loop-node-test.true
-          (all_weaker (HasPlace c.loop-node.old) (HasPlace c.make_place.new.old) (map node_number (take i nodes)) c.make_place.ensures.others c.loop-node.invariant.places)
+      places = all_next node_number (HasDiskPlace c.make_place.new.old) nodes i (record { 0 = 0 }) c.loop-node-test.true
+          (all_weaker (HasDiskPlace c.loop-node.old) (HasDiskPlace c.make_place.new.old) (map node_number (take i nodes)) c.make_place.ensures.others c.loop-node.invariant.places)
           c.in_ok-make_place.ensures.place;
       same = record {
         same = λ node. c.make_place.ensures.same.same node ∙ c.loop-node.invariant.same.same node;
@@ -21,4 +21,4 @@ loop-node-preserved c =
     }
 
 pub returns-clause-places : goal.returns-clause-places
-returns-clause-places c = subst (λ (l : List NodeId). HavePlaces c.loop-node.old (map node_number l)) (take_all c.loop-node.node-index c.args.nodes.now c.loop-node-test.false) c.loop-node.invariant.places
+returns-clause-places c = subst (λ (l : List NodeId). HaveDiskPlaces c.loop-node.old (map node_number l)) (take_all c.loop-node.node-index c.args.nodes.now c.loop-node-test.false) c.loop-node.invariant.places

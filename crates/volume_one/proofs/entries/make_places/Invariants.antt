@@ -1,10 +1,10 @@
 use Rattle.std.proofs.Common.{map, take}
 use Rattle.sfs_tree.specs.NameRow.{node_number}
-use Rattle.volume_one.specs.Entries.{HavePlaces, HasSameEntries}
+use Rattle.volume_one.specs.Entries.{HaveDiskPlaces, HasSameEntries}
 use Rattle.volume_one.proofs.entries.make_places.Given as goal
 
 abbrev pub invariant-loop-node : goal.invariant-loop-node
 invariant-loop-node l = record {
-  places : HavePlaces l.old (map node_number (take l.node-index l.nodes));
+  places : HaveDiskPlaces l.old (map node_number (take l.node-index l.nodes));
   same : HasSameEntries l.fn.old l.old;
 }

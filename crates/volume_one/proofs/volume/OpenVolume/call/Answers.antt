@@ -5,7 +5,7 @@ use Rattle.sfs_tree.specs.declared.reply.Reply.{Reply}
 use Rattle.sfs_tree.specs.Tree.{TreeState}
 use Rattle.call_log.specs.Foreseen.{logged_after}
 use Rattle.core_logs.specs.Logs.{MayAdd, AreWithEntry}
-use Rattle.volume_one.specs.Calls.{HasKept, MayKeep, entry_of, kept_with}
+use Rattle.volume_one.specs.Calls.{HasKept, MayKeep, call_entry, kept_with}
 use Rattle.volume_one.specs.Stands.{Remembers}
 use Rattle.volume_one.specs.declared.volume.OpenVolume.{OpenVolume}
 use Rattle.volume_one.proofs.EnteringMay.{foreseen_few, sound_now, own_log, log_within, may_add, may_keep, goes_on}
@@ -60,7 +60,7 @@ returns-clause-goes_on c kept remembers counted =
     let mid : OpenVolume = record (c.args.self.now) { tree = c.step.new.self; logs = c.add.new.self } in
     let is_given = c.in_ok-reply.ensures.ok in
     let logged = c.logged_after.ensures ∙ ap (λ (given : Reply). logged_after given c.in_ok-changes.changes.items) is_given in
-    subst (λ (given : Reply). Remembers (kept_with kept (entry_of c.args.stamp c.args.core c.args.call.now given None)) c.keep.new.self) (sym is_given)
+    subst (λ (given : Reply). Remembers (kept_with kept (call_entry c.args.stamp c.args.core c.args.call.now given None)) c.keep.new.self) (sym is_given)
     (goes_on kept c.args.self.now remembers c.args.core c.args.stamp c.args.call.now c.requires.other c.requires.core counted
     c.in_ok-changes.changes.items c.in_ok-changes.ensures c.reserve.new.self c.reserve.ensures.same c.in_ok-reserve.ensures.room
     mid c.keep.new.self

@@ -1,8 +1,9 @@
-use Rattle.std.proofs.Common.{◌≡◌, Option, Some, refl, sym, subst}
+use Rattle.std.proofs.Common.{◌≡◌, Option, Some, refl, sym, ap, subst, ◌∙◌}
 use Rattle.std.specs.Prelude.{Ok, Err}
 use Rattle.journal_one.specs.Packed.{Contents}
+use Rattle.sfs_tree.specs.declared.reply.Reply.TheVariants as reply
 use Rattle.volume_one.specs.Carry.{CarriesPacked}
-use Rattle.volume_one.specs.Ends.{ReadyEnds, carried, doubted, acknowledged}
+use Rattle.volume_one.specs.Ends.{ReadyEnds, carried, doubted, doubtful_deed, refused_with, acknowledged}
 use Rattle.volume_one.specs.declared.deed.Deed.{Deed}
 use Rattle.volume_one.specs.declared.flushed.Flushed.{Flushed}
 use Rattle.volume_one.specs.declared.volume.OpenVolume.{OpenVolume}
@@ -36,7 +37,8 @@ returns-in-Err-clause-ends g c =
     let after = g.D.Disk.view c.carry.new.disk in
     let Same = c.carry.new.disk ≡ c.args.disk.now in
     let in_doubt : OpenVolume = record volume { space = c.give_back.new.self; failed = Some c.in-Err.doubt.faults } in
-    subst (λ (f : Flushed). ReadyEnds Same c.args.stamp c.args.ready c.args.grant before after volume in_doubt f) (sym c.refused.ensures)
+    subst (λ (f : Flushed). ReadyEnds Same c.args.stamp c.args.ready c.args.grant before after volume in_doubt f)
+    (sym (c.refused.ensures ∙ ap (refused_with reply.DiskFailed) (c.in_doubt-deed.ensures ∙ (λ i. doubtful_deed c.args.ready.fresh (c.now-began.ensures.now i) (c.now.ensures.now i)))))
     (doubted c.in-Err.doubt c.give_back.new.self
     (subst (λ (o : Option Contents). CarriesPacked Same volume.layout volume.commits o before after (Err c.in-Err.doubt)) c.take.ensures.value c.in-Err.ensures.carried)
     (record { inodes = c.give_back.ensures.inodes; blocks = c.give_back.ensures.blocks; others = refl })

@@ -3,7 +3,7 @@ use Rattle.std.specs.Option.{option_copied}
 use Rattle.std.proofs.lemmas.Result.{IfOk-weaker}
 use Rattle.core_logs.specs.Logs.{AreGathered}
 use Rattle.mem_files.specs.File.{File}
-use Rattle.volume_one.specs.Planned.{IsPlanned, WasPlanned}
+use Rattle.volume_one.specs.Planned.{IsPlannedByGathered, WasPlanned}
 use Rattle.volume_one.proofs.Leading.{orderly_logs}
 use Rattle.volume_one.proofs.volume.OpenVolume.planned.Goals as goal
 
@@ -24,12 +24,12 @@ returns-clause-planned c =
     let gathered = c.lend-gathered.result in
     let from = c.lend-gathered.ensures.gathered in
     let orderly = c.lend-gathered.ensures.orderly (orderly_logs is.kept volume is.remembers c.args.stamp is.counted c.in_ok-logs.logs.items c.in_ok-logs.ensures) in
-    IfOk-weaker c.plan_of-plan.result (IsPlanned c.args.node c.args.stamp gathered volume.stored (option_copied c.get-file.result)) (WasPlanned volume c.args.node c.args.stamp)
+    IfOk-weaker c.plan_of-plan.result (IsPlannedByGathered c.args.node c.args.stamp gathered volume.stored (option_copied c.get-file.result)) (WasPlanned volume c.args.node c.args.stamp)
     (λ plan planned. record {
       gathered = gathered;
       logs = subst (AreGathered volume.logs c.args.stamp.0) (sym from.logs_are) c.in_ok-logs.ensures;
       from = record { logs_are = refl; cuts = from.cuts; births = from.births; inodes = from.inodes };
       orderly = orderly;
-      planned = subst (λ (f : Option File). IsPlanned c.args.node c.args.stamp gathered volume.stored f plan) c.get-file.ensures planned;
+      planned = subst (λ (f : Option File). IsPlannedByGathered c.args.node c.args.stamp gathered volume.stored f plan) c.get-file.ensures planned;
     })
     c.plan_of-plan.ensures

@@ -5,7 +5,7 @@ use Rattle.sfs_tree.specs.NameRow.{node_number}
 use Rattle.disk_change.specs.Lists.{AscendBy}
 use Rattle.disk_change.specs.Nodes.{entry_node}
 use Rattle.disk_change.specs.declared.old.OldEntry.{OldEntry}
-use Rattle.volume_one.specs.Entries.{HavePlaces}
+use Rattle.volume_one.specs.Entries.{HaveDiskPlaces}
 use Rattle.volume_one.specs.Ready.{IsUnpacked}
 use Rattle.volume_one.proofs.volume.OpenVolume.ready.Goals as goal
 
@@ -21,6 +21,7 @@ returns-clause-ready c =
       ascend = subst (λ (l : Roomy OldEntry). AscendBy entry_node l.items) c.after.view_is c.after.invariant;
       freed_blocks = is.freed_blocks;
       freed_inodes = is.freed_inodes;
+      counted = is.counted;
       packed = is.packed;
     }
 
@@ -31,6 +32,6 @@ returns-clause-room c =
     record {
       cuts = omega (arith, c.in_ok-reserve.ensures.cuts, c.max-count.ensures, ap (λ (l : List NodeId). length l) c.as_slice.ensures);
       inodes = omega (arith, c.in_ok-reserve.ensures.inodes, c.max-count.ensures, ap (λ (l : List NodeId). length l) c.as_slice-2.ensures);
-      places = subst (λ (l : List NodeId). HavePlaces c.make_places.new.old (map node_number l)) listed c.in_ok-make_places.ensures.places;
+      places = subst (λ (l : List NodeId). HaveDiskPlaces c.make_places.new.old (map node_number l)) listed c.in_ok-make_places.ensures.places;
       ascending = c.requires.ascending;
     }

@@ -1,0 +1,340 @@
+-- A call that gives a file a further row.
+use Rattle.std.proofs.Common.{◌≡◌, ◌<◌, ◌≤◌, ◌+◌, ◌*◌, ◌^◌, ℕ, reverse, Bool, true, false, ◌&&◌, ◌==◌, List, [], ◌∷◌, ◌++◌, length, Option, Some, None, IsSome, inl, inr, refl, sym, ap, subst, ◌∙◌, eq-eqb, arith, ⊎_elim}
+use borrow.Author.Tests.{eqb-true}
+use Rattle.std.specs.Prelude.{if◌then◌else◌}
+use Rattle.std.specs.Option.{option_and_then}
+use Rattle.std.specs.FinMap.{get}
+use Rattle.std.proofs.lemmas.Bool.{cases_Bool}
+use Rattle.std.proofs.lemmas.Option.{option_and_then_some}
+use Rattle.disk_change.specs.OldKept.{OldKept}
+use Rattle.sfs_base.specs.Name.{bucket}
+use Rattle.sfs_base.specs.declared.numbers.NodeId.{NodeId}
+use Rattle.sfs_base.specs.declared.numbers.Kind.TheVariants.{File}
+use Rattle.sfs_tree.specs.Tree.{TreeState, is_directory, kind_of, kind_if, kind_again, count_of, bytes_of, made_by}
+use Rattle.sfs_tree.specs.declared.changes.Act.TheVariants.{Add}
+use Rattle.sfs_tree.specs.declared.call.Call.{Call}
+use Rattle.sfs_tree.specs.declared.call.Call.TheVariants as call
+use Rattle.sfs_tree.specs.declared.reply.Reply.TheVariants as reply
+use Rattle.sfs_tree.specs.declared.history.Entry.{Entry}
+use Rattle.sfs_tree.specs.Effect.{Edits, Adds}
+use Rattle.sfs_tree.specs.Parts.{is_in_part, links_after}
+use Rattle.sfs_tree.specs.Lock.{moves_between}
+use Rattle.sfs_tree.specs.Logged.{log_entry, logged_by}
+use Rattle.sfs_tree.specs.Verdict.{Verdict, verdict, done}
+use Rattle.sfs_tree.specs.Laws.{IsSoundTree}
+use Rattle.sfs_tree.proofs.Parts.{nodes_after}
+use Rattle.sfs_tree.proofs.SoundTree.{sound_file}
+use Rattle.sfs_tree.proofs.Readings.{directory_by_kind}
+use Rattle.sfs_tree.proofs.KeepsRest.{calls_keep_the_rest}
+use Rattle.mem_cells.specs.Part.{IsAddedTo}
+use Rattle.stamp_table.specs.declared.event.Event.{Event}
+use Rattle.stamp_table.specs.declared.event.Event.TheVariants.{Called}
+use Rattle.stamp_table.specs.declared.held.HeldCell.{HeldCell}
+use Rattle.stamp_table.specs.Events.{calls_in}
+use Rattle.stamp_table.specs.Hand.{Hand, places_of}
+use Rattle.stamp_table.specs.Table.{TableState, with_value, Stamps, LetsGo, Stands, EachFrom, left_below}
+use Rattle.stamp_table.proofs.Calling.{calls_snoc}
+use Rattle.stamp_table.proofs.Replacing.{same_places}
+use Rattle.mem_values.specs.declared.cell.Cell.{Cell}
+use Rattle.mem_values.specs.declared.cell.FileCell.{FileCell}
+use Rattle.mem_values.specs.declared.cell.PartCell.{PartCell}
+use Rattle.mem_values.specs.declared.bucket.Bucket.{Bucket}
+use Rattle.mem_values.specs.declared.cell_id.CellId.{CellId}
+use Rattle.mem_values.specs.declared.cell_id.CellId.TheVariants as id
+use Rattle.mem_values.specs.declared.fact.Fact.{Fact}
+use Rattle.mem_values.specs.Places.{cell_place, IsCell}
+use Rattle.mem_values.specs.Account.{account_of}
+use Rattle.mem_values.specs.Logs.{entry_logged, last_touch}
+use Rattle.mem_values.specs.Stands.{ShowsBucket, StandsFile, StandsPart, StandsForCell, StandsAt, file_links}
+use Rattle.mem_values.specs.Facts.{IsLawfulLog}
+use Rattle.mem_values.specs.Touches.{KeepsCell}
+use Rattle.mem_values.proofs.Pushes.{last_touch-push}
+use Rattle.mem_calls.specs.Held.{value_held, as_bucket, as_file, as_part, bucket_held, file_held, part_held, InEach}
+use Rattle.mem_calls.specs.Table.{IsFileTable}
+use Rattle.mem_calls.specs.Working.{IsWorking}
+use Rattle.mem_calls.specs.Outcome.{IsAnswered}
+use Rattle.mem_calls.specs.Parts.{HasRoomFor}
+use Rattle.mem_calls.specs.declared.ready.Ready.{Ready}
+use Rattle.mem_calls.specs.Changes.{Puts, IsWithFile, MayLink, RaisesLinks, IsReady}
+use Rattle.mem_calls.proofs.Shown.{name_shows, bucket_small}
+use Rattle.mem_calls.proofs.RowsGo.{directory_kept}
+use Rattle.mem_calls.proofs.RowsCome.{bucket_after}
+use Rattle.mem_calls.proofs.Edited.{same_place, held_there}
+use Rattle.mem_calls.proofs.Faults.{linked_alive, linked_file}
+use Rattle.mem_calls.proofs.PartKept.{same_part_stands, room_for_one}
+use Rattle.mem_calls.proofs.Nothing.{some_first}
+use Rattle.mem_calls.proofs.HeldKinds.{some_of}
+use Rattle.mem_calls.proofs.Taken.{value_with}
+use Rattle.mem_calls.proofs.Finished.{of_changed}
+use Rattle.mem_calls.proofs.Unlinked.{file_of_value, value_of_file, value_of_bucket, apart_value}
+use Rattle.mem_calls.proofs.Stamped as stamped
+use Rattle.mem_calls.proofs.Changed as changed
+use Rattle.mem_calls.proofs.Changed.{Turn}
+
+or_false : (b : Bool) → b ≡ false → Rattle.std.specs.Prelude.◌||◌ b false ≡ false
+or_false true is = is
+or_false false is = refl
+
+and_false : (a b : Bool) → a ≡ false → (a && b) ≡ false
+and_false true b is = absurd (cc (is))
+and_false false b is = refl
+
+-- It keeps each cell but the bucket of the name, the file and the own log.
+link_keeps : (nodes : ℕ) (tree : TreeState) (core : ℕ) (file dir : NodeId) (name : List ℕ) (which : CellId) → verdict tree core (call.Link file dir name) ≡ done (Adds dir.0 name file.0)
+    → (cell_place nodes (id.Part (record { 0 = core })) ≡ cell_place nodes which → ⊥) → (cell_place nodes (id.File file) ≡ cell_place nodes which → ⊥) → (cell_place nodes (id.Bucket dir (bucket name)) ≡ cell_place nodes which → ⊥)
+    → KeepsCell tree core (call.Link file dir name) which
+link_keeps nodes tree core file dir name id.Lock does part not_file here = inl (ap (λ (v : Verdict). moves_between tree v.effect) does)
+link_keeps nodes tree core file dir name (id.Bucket node number) does part not_file here = inl (or_false (is_in_part node.0 (λ n. bucket n == number) dir.0 name) (apart (dir.0 == node.0) (bucket name == number) refl refl))
+  where
+    apart : (a b : Bool) → (dir.0 == node.0) ≡ a → (bucket name == number) ≡ b → (a && b) ≡ false
+    apart true true one two = absurd (here (λ i. 16 + 9 * eqb-true dir.0 node.0 one i + eqb-true (bucket name) number two i))
+    apart true false one two = refl
+    apart false b one two = refl
+link_keeps nodes tree core file dir name (id.File node) does part not_file here = inl (and_false (file.0 == node.0) _ (⊎_elim
+    (λ same. absurd (not_file (ap (λ (n : ℕ). cell_place nodes (id.File (record { 0 = n }))) (eqb-true file.0 node.0 same))))
+    (λ other. other)
+    (cases_Bool (file.0 == node.0))))
+link_keeps nodes tree core file dir name (id.Pending node) does part not_file here = inl refl
+link_keeps nodes tree core file dir name (id.Part owner) does part not_file here = ⊎_elim
+    (λ same. absurd (part (ap (λ (n : ℕ). cell_place nodes (id.Part (record { 0 = n }))) (eqb-true core owner.0 same))))
+    (λ other. inl other)
+    (cases_Bool (core == owner.0))
+
+module _ (given : ℕ → Option OldKept) (t : TableState) (nodes : ℕ) (before : Hand Cell Fact) (table : IsFileTable t nodes) (work : IsWorking given t before) (file dir : NodeId) (name : List ℕ)
+    (may : MayLink nodes before.held file dir name) (part : IsSome (part_held nodes before.held before.view.core))
+    (due : InEach before (λ tree. verdict tree before.view.core (call.Link file dir name) ≡ done (Adds dir.0 name file.0))) where
+  abbrev mine : CellId
+  mine = id.Part (record { 0 = before.view.core })
+
+  abbrev at : CellId
+  at = id.Bucket dir (bucket name)
+
+  pub keeps : InEach before (λ tree. stamped.KeepsOrHolds given t nodes before table work tree (call.Link file dir name))
+  keeps tree meets which is_cell = ⊎_elim
+      (λ same. inr (held_there nodes before.held mine which same (some_first as_part (value_held nodes before.held mine) part)))
+      (λ not_part. ⊎_elim
+      (λ same. inr (held_there nodes before.held (id.File file) which same (some_first as_file (value_held nodes before.held (id.File file)) (some_of (file_held nodes before.held file) may.file_of may.file_is))))
+      (λ not_file. ⊎_elim
+      (λ same. inr (held_there nodes before.held at which same (some_first as_bucket (value_held nodes before.held at) (some_of (bucket_held nodes before.held dir (bucket name)) may.bucket_of may.bucket_is))))
+      (λ not_bucket. inl (link_keeps nodes tree before.view.core file dir name which (due tree meets) not_part not_file not_bucket))
+      (same_place nodes at which))
+      (same_place nodes (id.File file) which))
+      (same_place nodes mine which)
+
+  pub part_above : (number : ℕ) → number < 8 → cell_place nodes mine ≡ cell_place nodes (id.Bucket dir number) → ⊥
+  part_above number lt same = let node = may.within in omega (arith, node, lt, same)
+
+  part_above_file : cell_place nodes mine ≡ cell_place nodes (id.File file) → ⊥
+  part_above_file same = let node = may.file_within in omega (arith, node, same)
+
+  bucket_apart : cell_place nodes at ≡ cell_place nodes (id.File file) → ⊥
+  bucket_apart same = apart (bucket name) (bucket_small name) same
+    where
+      apart : (b : ℕ) → b < 8 → 16 + 9 * dir.0 + b ≡ 24 + 9 * file.0 → ⊥
+      apart b lt same = omega (arith, lt, same)
+
+  -- once the own log is out the bucket is held as before
+  module _ (ready : Ready) (out : Hand Cell Fact) (is_ready : IsReady nodes dir name before ready out) where
+    out_same : bucket_held nodes out.held dir (bucket name) ≡ bucket_held nodes before.held dir (bucket name)
+    out_same = ap (λ (h : Hand Cell Fact). bucket_held nodes h.held dir (bucket name)) is_ready.out.1 ∙ ap (option_and_then as_bucket) (apart_value nodes before.held mine at is_ready.out.0 (part_above (bucket name) (bucket_small name)))
+
+    pub bucket_there : IsSome (bucket_held nodes out.held dir (bucket name))
+    bucket_there = some_of (bucket_held nodes out.held dir (bucket name)) may.bucket_of (out_same ∙ may.bucket_is)
+
+    pub same_bucket : (b : Bucket) → bucket_held nodes out.held dir (bucket name) ≡ Some b → may.bucket_of ≡ b
+    same_bucket b is = cc (sym may.bucket_is ∙ (sym out_same ∙ is))
+
+    pub row_free : (b : Bucket) → bucket_held nodes out.held dir (bucket name) ≡ Some b → get b.rows name ≡ None
+    row_free b is = ap (λ (x : Bucket). get x.rows name) (sym (same_bucket b is)) ∙ may.free
+
+    module _ (two : Hand Cell Fact) (none : Cell) (out_two : Puts nodes (id.Bucket dir (bucket name)) none out two) where
+      abbrev two_held : List (HeldCell Cell)
+      two_held = with_value (cell_place nodes at) none (with_value (cell_place nodes mine) is_ready.out.0 before.held)
+
+      pub two_is : two ≡ record before { held = with_value (cell_place nodes (id.Bucket dir (bucket name))) none (with_value (cell_place nodes (id.Part (record { 0 = before.view.core }))) is_ready.out.0 before.held) }
+      two_is = out_two ∙ ap (λ (h : Hand Cell Fact). record h { held = with_value (cell_place nodes at) none h.held }) is_ready.out.1
+
+      pub at_there : (h : Hand Cell Fact) → h.held ≡ two.held → IsSome (value_held nodes h.held (id.Bucket dir (bucket name)))
+      at_there h same = some_of (value_held nodes h.held at) none (ap (λ l. value_held nodes l at) (same ∙ ap (λ (x : Hand Cell Fact). x.held) two_is)
+          ∙ value_with nodes at none (with_value (cell_place nodes mine) is_ready.out.0 before.held) (subst (λ (x : Hand Cell Fact). IsSome (value_held nodes x.held at)) is_ready.out.1 (some_first as_bucket (value_held nodes out.held at) bucket_there)))
+
+      -- where the bucket is put back the own log's cell is still held
+      pub part_back : (vb : Cell) (put : Hand Cell Fact) → Puts nodes (id.Bucket dir (bucket name)) vb two put → IsSome (value_held nodes put.held (id.Part (record { 0 = put.view.core })))
+      part_back vb put puts =
+          let core : put.view.core ≡ before.view.core = ap (λ (h : Hand Cell Fact). h.view.core) puts ∙ ap (λ (h : Hand Cell Fact). h.view.core) two_is in
+          subst (λ (n : ℕ). IsSome (value_held nodes put.held (id.Part (record { 0 = n })))) (sym core) (some_of (value_held nodes put.held mine) is_ready.out.0
+          (ap (λ l. value_held nodes l mine) (ap (λ (h : Hand Cell Fact). h.held) puts ∙ ap (λ (h : Hand Cell Fact). with_value (cell_place nodes at) vb h.held) two_is)
+          ∙ (apart_value nodes two_held at mine vb (λ same. part_above (bucket name) (bucket_small name) (sym same))
+          ∙ (apart_value nodes (with_value (cell_place nodes mine) is_ready.out.0 before.held) at mine none (λ same. part_above (bucket name) (bucket_small name) (sym same))
+          ∙ value_with nodes mine is_ready.out.0 before.held (some_first as_part (value_held nodes before.held mine) part)))))
+
+      module _ (number : ℕ) (mid : Hand Cell Fact) (drawn : Stamps (IsLawfulLog given) (StandsAt given) (call.Link file dir name) reply.Ok two number mid) where
+        abbrev c : Call
+        c = call.Link file dir name
+
+        abbrev v : Verdict
+        v = done (Adds dir.0 name file.0)
+
+        abbrev turn : Turn given t nodes before (call.Link file dir name) (done (Adds dir.0 name file.0)) number mid
+        turn = record { table = table; work = work; not = refl; due = due; held = two_held; out = two; out_is = two_is; drawn = drawn }
+
+        abbrev S : TreeState
+        S = changed.S given t nodes before c v number mid turn
+
+        abbrev next : TreeState
+        next = changed.next given t nodes before c v number mid turn
+
+        abbrev log : List (Event Fact)
+        log = changed.log given t nodes before c v number mid turn
+
+        abbrev entry : Entry
+        entry = changed.entry given t nodes before c v number mid turn
+
+        sound : IsSoundTree S
+        sound = changed.sound given t nodes before c v number mid turn
+
+        core_known : before.view.core < length S.made
+        core_known = changed.core_known given t nodes before c v number mid turn
+
+        mid_held : mid.held ≡ two_held
+        mid_held = changed.mid_held given t nodes before c v number mid turn
+
+        pub mid_two : mid.held ≡ two.held
+        mid_two = ap (λ (h : Hand Cell Fact). h.held) drawn.frame
+
+        adds : (verdict S before.view.core c).effect ≡ Adds dir.0 name file.0
+        adds = ap (λ (w : Verdict). w.effect) (changed.verdict_is given t nodes before c v number mid turn)
+
+        file_stood : StandsFile before.view.first (calls_in log) file.0 may.file_of
+        file_stood = option_and_then_some as_file (value_held nodes before.held (id.File file)) may.file_of may.file_is
+            (λ x found kind. file_of_value given before.view.first log file x may.file_of kind (changed.stood given t nodes before c v number mid turn (id.File file) x may.file_within found))
+
+        some : 0 < file_links S file.0
+        some = let e = file_stood.links in let lt = may.linked in omega (arith, e, lt)
+
+        is_file : is_directory S file.0 ≡ false
+        is_file = linked_file S sound file.0 some
+
+        counted : may.file_of.links ≡ count_of S.rows file.0
+        counted = file_stood.links ∙ ap (λ b. if b then 0 else count_of S.rows file.0) is_file
+
+        file_next : is_directory next file.0 ≡ false
+        file_next = directory_kept S before.view.core c sound core_known file.0 (sound_file S sound.sound file.0 (linked_alive S sound file.0 some) is_file) ∙ is_file
+
+        bucket_home : (value : Cell) (new : Bucket) → as_bucket value ≡ Some new → IsWithFile name file.0 may.bucket_of new → StandsForCell given before.view.first (account_of (log ++ Called entry ∷ [])) at value
+        bucket_home value new is more = value_of_bucket given before.view.first (log ++ Called entry ∷ []) dir (bucket name) value new is
+            (subst (λ x. ShowsBucket x dir.0 (bucket name) new) (sym (changed.next_is given t nodes before c v number mid turn))
+            (bucket_after S before.view.core c sound core_known dir.0 name file.0 adds may.bucket_of new
+            (name_shows before nodes (stamped.counted given t nodes before table work) S (changed.meets given t nodes before c v number mid turn) dir name (bucket name) may.bucket_of may.within refl may.bucket_is) more may.free file_next refl))
+
+        file_home : (new : FileCell) (value : Cell) → as_file value ≡ Some new → new.links ≡ may.file_of.links + 1 → new.file ≡ may.file_of.file → StandsForCell given before.view.first (account_of (log ++ Called entry ∷ [])) (id.File file) value
+        file_home new value is links same = value_of_file given before.view.first (log ++ Called entry ∷ []) file value new is (record {
+          links = links_next ∙ ap (λ x. file_links x file.0) (sym (changed.next_is given t nodes before c v number mid turn));
+          bytes = ap (λ f. f.bytes) same ∙ (file_stood.bytes ∙ (sym ((calls_keep_the_rest S before.view.core c sound core_known).bytes file.0 refl) ∙ ap (λ x. bytes_of x file.0) (sym (changed.next_is given t nodes before c v number mid turn))));
+          marks = λ block. ap (λ f. Rattle.mem_files.specs.File.mark_of f block) same ∙ (file_stood.marks block
+              ∙ (sym (last_touch-push before.view.first (calls_in log) entry file.0 block (λ edit is_edit. let never : Adds dir.0 name file.0 ≡ Edits file.0 edit = sym adds ∙ is_edit in cc))
+              ∙ ap (λ l. last_touch before.view.first None l file.0 block) (sym (calls_snoc log entry))));
+        })
+          where
+            here : (file.0 == file.0) ≡ true
+            here = eq-eqb file.0 file.0 refl
+
+            count_next : count_of next.rows file.0 ≡ count_of S.rows file.0 + 1
+            count_next = (nodes_after S before.view.core (verdict S before.view.core c).effect (verdict S before.view.core c).makes file.0 (changed.fits given t nodes before c v number mid turn)).links
+                ∙ (ap (λ e. links_after S e file.0 (count_of S.rows file.0)) adds ∙ ap (λ b. if b then count_of S.rows file.0 + 1 else count_of S.rows file.0) here)
+
+            links_next : new.links ≡ file_links next file.0
+            links_next = (let e = counted in let count = count_next in let one : new.links ≡ count_of next.rows file.0 = omega (arith, e, links, count) in one)
+                ∙ sym (ap (λ b. if b then 0 else count_of next.rows file.0) file_next)
+
+        logs : entry_logged S entry ≡ log_entry number dir.0 name file.0 File Add None [] ∷ []
+        logs = ap (λ (w : Verdict). logged_by S before.view.core number w.effect w.makes) (changed.verdict_is given t nodes before c v number mid turn)
+            ∙ ap (λ k. log_entry number dir.0 name file.0 k Add None [] ∷ []) (sym (kind_again (kind_of S file.0)) ∙ ap kind_if (sym (directory_by_kind S file.0) ∙ is_file))
+
+        made_next : made_by S before.view.core ≡ made_by next before.view.core
+        made_next = sym ((calls_keep_the_rest S before.view.core c sound core_known).own refl)
+
+        part_stands : StandsPart before.view.first (account_of log) before.view.core ready.part.value
+        part_stands = same_part_stands given before.view.first (account_of log) before.view.core is_ready.part ready.part.value is_ready.same is_ready.made (changed.part_stood given t nodes before c v number mid turn is_ready.part is_ready.was)
+
+        pub has_room : length before.view.mine ≤ 2 ^ 50 → HasRoomFor (log_entry number dir.0 name file.0 File Add None [] ∷ []) ready.part.value
+        has_room few = room_for_one before.view.first (account_of log) before.view.core ready.part.value (log_entry number dir.0 name file.0 File Add None []) part_stands (changed.legal_log given t nodes before c v number mid turn)
+            (changed.number_is given t nodes before c v number mid turn) is_ready.room
+            (let e = is_ready.same.entries in let lt = changed.few_entries given t nodes before c v number mid turn is_ready.part is_ready.was few in omega (arith, e, lt))
+
+        module _ (vb : Cell) (three : Hand Cell Fact) (puts_b : Puts nodes (id.Bucket dir (bucket name)) vb mid three) where
+          three_held : three.held ≡ with_value (cell_place nodes at) vb two_held
+          three_held = ap (λ (h : Hand Cell Fact). h.held) puts_b ∙ ap (with_value (cell_place nodes at) vb) mid_held
+
+          file_same : file_held nodes three.held file ≡ file_held nodes before.held file
+          file_same = ap (λ l. file_held nodes l file) three_held ∙ ap (option_and_then as_file) (apart_value nodes two_held at (id.File file) vb bucket_apart
+              ∙ (apart_value nodes (with_value (cell_place nodes mine) is_ready.out.0 before.held) at (id.File file) none bucket_apart ∙ apart_value nodes before.held mine (id.File file) is_ready.out.0 part_above_file))
+
+          pub file_there : IsSome (file_held nodes three.held file)
+          file_there = some_of (file_held nodes three.held file) may.file_of (file_same ∙ may.file_is)
+
+          same_file : (f : FileCell) → file_held nodes three.held file ≡ Some f → may.file_of ≡ f
+          same_file f is = cc (sym may.file_is ∙ (sym file_same ∙ is))
+
+          pub links_few : (f : FileCell) → file_held nodes three.held file ≡ Some f → f.links < 65535
+          links_few f is = subst (λ (x : FileCell). x.links < 65535) (same_file f is) may.few
+
+          module _ (four : Hand Cell Fact) (raised : RaisesLinks nodes file three four) where
+            four_held : four.held ≡ with_value (cell_place nodes (id.File file)) raised.change.value (with_value (cell_place nodes at) vb two_held)
+            four_held = ap (λ (h : Hand Cell Fact). h.held) raised.change.puts ∙ ap (with_value (cell_place nodes (id.File file)) raised.change.value) three_held
+
+            pub core_four : four.view.core ≡ before.view.core
+            core_four = ap (λ (h : Hand Cell Fact). h.view.core) raised.change.puts ∙ (ap (λ (h : Hand Cell Fact). h.view.core) puts_b ∙ changed.core_mid given t nodes before c v number mid turn)
+
+            pub part_there : IsSome (value_held nodes four.held (id.Part (record { 0 = before.view.core })))
+            part_there = some_of (value_held nodes four.held mine) is_ready.out.0
+                (ap (λ l. value_held nodes l mine) four_held ∙ (apart_value nodes (with_value (cell_place nodes at) vb two_held) (id.File file) mine raised.change.value (λ same. part_above_file (sym same))
+                ∙ (apart_value nodes two_held at mine vb (λ same. part_above (bucket name) (bucket_small name) (sym same))
+                ∙ (apart_value nodes (with_value (cell_place nodes mine) is_ready.out.0 before.held) at mine none (λ same. part_above (bucket name) (bucket_small name) (sym same))
+                ∙ value_with nodes mine is_ready.out.0 before.held (some_first as_part (value_held nodes before.held mine) part)))))
+
+            module _ (new : Bucket) (is_b : as_bucket vb ≡ Some new) (more : IsWithFile name file.0 may.bucket_of new) (after : PartCell) (vp : Cell) (is_p : as_part vp ≡ Some after)
+                (added : IsAddedTo ready.part.value.log (log_entry number dir.0 name file.0 File Add None [] ∷ []) after.log) (made : after.made ≡ ready.part.value.made) (final : Hand Cell Fact)
+                (puts : final ≡ record four { held = with_value (cell_place nodes (id.Part (record { 0 = before.view.core }))) vp four.held }) where
+              abbrev new_held : List (HeldCell Cell)
+              new_held = with_value (cell_place nodes mine) vp (with_value (cell_place nodes (id.File file)) raised.change.value (with_value (cell_place nodes at) vb two_held))
+
+              final_is : final ≡ record mid { held = new_held }
+              final_is = puts ∙ ((λ i. record (raised.change.puts i) { held = with_value (cell_place nodes mine) vp (four_held i) })
+                  ∙ ap (λ (h : Hand Cell Fact). record h { held = new_held }) puts_b)
+
+              cells : places_of new_held ≡ places_of before.held
+              cells = same_places (cell_place nodes mine) _ vp ∙ (same_places (cell_place nodes (id.File file)) _ raised.change.value ∙ (same_places (cell_place nodes at) _ vb ∙ (same_places (cell_place nodes at) _ none ∙ same_places (cell_place nodes mine) before.held is_ready.out.0)))
+
+              stood_by : (which other : CellId) (x y : Cell) → which ≡ other → x ≡ y → StandsForCell given before.view.first (account_of (log ++ Called entry ∷ [])) other y → StandsForCell given before.view.first (account_of (log ++ Called entry ∷ [])) which x
+              stood_by which other x y one two stands_other = subst (λ (z : CellId × Cell). StandsForCell given before.view.first (account_of (log ++ Called entry ∷ [])) z.0 z.1) (λ i. (sym one i, sym two i)) stands_other
+
+              raised_links : raised.change.new.links ≡ may.file_of.links + 1
+              raised_links = raised.links ∙ ap (λ (f : FileCell). f.links + 1) (sym (same_file raised.change.old raised.change.was))
+
+              raised_file : raised.change.new.file ≡ may.file_of.file
+              raised_file = raised.file ∙ ap (λ (f : FileCell). f.file) (sym (same_file raised.change.old raised.change.was))
+
+              each : (which : CellId) (x : Cell) → IsCell nodes (length t.first.made) which → value_held nodes new_held which ≡ Some x → StandsForCell given before.view.first (account_of (log ++ Called entry ∷ [])) which x
+              each which x is_cell found = elim (of_changed nodes (length t.first.made) which mine x vp _ is_cell work.core found) [
+                | inl one ↦ stood_by which mine x vp one.0 one.1 (changed.part_home given t nodes before c v number mid turn ready.part.value after vp part_stands is_p (subst (λ l. IsAddedTo ready.part.value.log l after.log) (sym logs) added) (made ∙ (part_stands.made ∙ made_next)))
+                | inr not_own ↦ elim (of_changed nodes (length t.first.made) which (id.File file) x raised.change.value _ is_cell may.file_within not_own.1) [
+                  | inl two ↦ stood_by which (id.File file) x raised.change.value two.0 two.1 (file_home raised.change.new raised.change.value raised.change.is raised_links raised_file)
+                  | inr not_file ↦ elim (of_changed nodes (length t.first.made) which at x vb _ is_cell (may.within, bucket_small name) not_file.1) [
+                    | inl three_is ↦ stood_by which at x vb three_is.0 three_is.1 (bucket_home vb new is_b more)
+                    | inr not_bucket ↦ elim (of_changed nodes (length t.first.made) which at x none _ is_cell (may.within, bucket_small name) not_bucket.1) [
+                      | inl again ↦ absurd (not_bucket.0 (ap (cell_place nodes) (sym again.0)))
+                      | inr not_again ↦ elim (of_changed nodes (length t.first.made) which mine x is_ready.out.0 _ is_cell work.core not_again.1) [
+                        | inl own_again ↦ absurd (not_own.0 (ap (cell_place nodes) (sym own_again.0)))
+                        | inr last ↦ changed.kept given t nodes before c v number mid turn which x is_cell last.1 (link_keeps nodes S before.view.core file dir name which (changed.verdict_is given t nodes before c v number mid turn) not_own.0 not_file.0 not_bucket.0)
+                      ]
+                    ]
+                  ]
+                ]
+              ]
+
+              pub goes_home : EachFrom 0 (Stands (IsLawfulLog given) (StandsAt given) final.view) final.held
+              goes_home = changed.goes_home given t nodes before c v number mid turn final new_held final_is cells each
+
+              pub answers : (last : Hand Cell Fact) → LetsGo final last → last.held ≡ left_below 0 final.held → last.view.held ≡ reverse (places_of last.held) → IsAnswered t (call.Link file dir name) reply.Ok before last
+              answers last lets left at_places = changed.ended given t nodes before c v number mid turn final new_held final_is cells last lets left at_places

@@ -1,0 +1,57 @@
+-- A directory that ends: its row goes, and it stands nowhere.
+use Rattle.std.specs.Prelude.{◌≡◌, ℕ, ◌+◌, ◌*◌, ◌<◌, ◌≤◌, true, List, length, Some, None}
+use Rattle.std.specs.FinMap.{get}
+use Rattle.sfs_base.specs.Name.{bucket}
+use Rattle.sfs_base.specs.declared.numbers.NodeId.{NodeId}
+use Rattle.stamp_table.specs.declared.held.HeldCell.{HeldCell}
+use Rattle.stamp_table.specs.Hand.{Hand, places_of}
+use Rattle.stamp_table.specs.Ascending.{LiesAbove}
+use Rattle.mem_values.specs.declared.cell.Cell.{Cell}
+use Rattle.mem_values.specs.declared.bucket.Bucket.{Bucket}
+use Rattle.mem_values.specs.declared.cell_id.CellId.{CellId}
+use Rattle.mem_values.specs.declared.cell_id.CellId.TheVariants as id
+use Rattle.mem_values.specs.declared.fact.Fact.{Fact}
+use Rattle.mem_values.specs.Places.{cell_place}
+use Rattle.mem_calls.specs.Held.{value_held, bucket_held, is_standing, HoldsDirectory}
+use Rattle.mem_calls.specs.Sums.{HoldsBuckets}
+use Rattle.mem_calls.specs.Changes.{ChangesBucket}
+
+-- A row of a bucket that is held names a directory, in a directory that stands.
+pub record NamesDirectory (nodes : ℕ) (held : List (HeldCell Cell)) (node : NodeId) (number : ℕ) (name : List ℕ) (child : NodeId) : Type 0 where
+  pub within : node.0 < nodes
+  pub bucket : Bucket
+  pub held_is : bucket_held nodes held node number ≡ Some bucket
+  pub stands : is_standing node bucket ≡ true
+  pub row : get bucket.directories name ≡ Some child.0
+
+-- all buckets of the directory are held that the row of a name names, where that is one
+abbrev pub HoldsNamedBuckets : ℕ → List (HeldCell Cell) → NodeId → List ℕ → Type 0
+HoldsNamedBuckets nodes held node name =
+    (child : NodeId) → NamesDirectory nodes held node (bucket name) name child → (child.0 < nodes) × HoldsBuckets nodes held child
+
+-- The place of a name is held, and where its row names a directory all buckets of that, all below the logs.
+pub record HoldsEnding (nodes : ℕ) (node : NodeId) (name : List ℕ) (hand : Hand Cell Fact) : Type 0 where
+  pub directory : HoldsDirectory nodes hand.held node (bucket name)
+  pub child : HoldsNamedBuckets nodes hand.held node name
+  pub below : LiesAbove (32 + 10 * nodes) hand.view.held
+  pub few : length hand.held ≤ 10
+
+-- A bucket of a directory that stands nowhere, with the same rows.
+pub record IsNowhere (old new : Bucket) : Type 0 where
+  pub rows : new.rows ≡ old.rows
+  pub directories : new.directories ≡ old.directories
+  pub stands : new.stands ≡ None
+
+-- by a bucket that is held its directory stands nowhere
+pub record LeavesPlace (nodes : ℕ) (node : NodeId) (number : ℕ) (before after : Hand Cell Fact) : Type 0 where
+  pub change : ChangesBucket nodes node number before after
+  pub nowhere : IsNowhere change.old change.new
+
+-- By so many buckets that are held a directory stands nowhere, and nothing else changes.
+pub record EndsStanding (nodes : ℕ) (node : NodeId) (count : ℕ) (before after : Hand Cell Fact) : Type 0 where
+  pub frame : record after { held = before.held } ≡ before
+  pub places : places_of after.held ≡ places_of before.held
+  pub ended : (number : ℕ) (old : Bucket) → number < count → bucket_held nodes before.held node number ≡ Some old
+      → (new : Bucket) × (bucket_held nodes after.held node number ≡ Some new) × IsNowhere old new
+  pub rest : (which : CellId) → ((number : ℕ) → number < count → cell_place nodes (id.Bucket node number) ≡ cell_place nodes which → ⊥)
+      → value_held nodes after.held which ≡ value_held nodes before.held which

@@ -1,0 +1,11 @@
+pub mod Changes
+pub mod Edits
+pub mod Ends
+pub mod Held
+pub mod Listed
+pub mod Outcome
+pub mod Parts
+pub mod Reply
+pub mod Sums
+pub mod Table
+pub mod Working

@@ -1,0 +1,17 @@
+-- The table of a file tree.
+use Rattle.std.specs.Prelude.{◌≡◌, ℕ, ◌+◌, ◌*◌, length}
+use Rattle.sfs_tree.specs.Sound.{IsWithinLimits}
+use Rattle.sfs_tree.specs.Laws.{IsSoundTree}
+use Rattle.stamp_table.specs.Table.{TableState}
+use Rattle.mem_values.specs.Places.{node_count}
+
+-- how many places the cells of so many nodes and cores take
+abbrev pub place_count : ℕ → ℕ → ℕ
+place_count nodes cores = 32 + 10 * nodes + 16 * cores
+
+-- A table over a sound tree within its limits, of so many nodes, that has all cells.
+pub record IsFileTable (t : TableState) (nodes : ℕ) : Type 0 where
+  pub sound : IsSoundTree t.first
+  pub within : IsWithinLimits t.first
+  pub counted : nodes ≡ node_count t.first
+  pub slots : t.table.slots ≡ place_count nodes (length t.first.made)

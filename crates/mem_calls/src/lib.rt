@@ -1,0 +1,34 @@
+//! Calls of the file tree on the shared table, side by side.
+#![tactic(auto)]
+
+mod edit;
+mod edits;
+mod emptied;
+mod finish;
+mod held;
+mod holding;
+mod links;
+mod lists;
+mod lookup;
+mod reads;
+mod ready;
+mod removals;
+mod rows;
+mod short;
+mod standing;
+mod status;
+mod taking;
+
+pub use edits::{trunc, write};
+pub use emptied::rmdir;
+pub use finish::finish as answer_call;
+pub use held::{bucket_in, directory_fault_in, file_in, is_standing};
+pub use holding::{CALL_CELLS, hold_directory, hold_more, hold_part};
+pub use links::link;
+pub use lists::list;
+pub use lookup::look;
+pub use reads::read;
+pub use removals::unlink;
+pub use short::Short;
+pub use status::stat;
+pub use taking::{add_entry, no_value, put, take_bucket, take_file, take_part};

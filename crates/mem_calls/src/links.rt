@@ -1,0 +1,211 @@
+// Further rows of a file.
+ghost use Rattle.std.specs.Prelude.{◌≡◌, ◌+◌, ◌*◌, ◌<◌, ◌≤◌, [], None, length, MatchOption, MatchResult};
+ghost use Rattle.sfs_base.specs.Name.{bucket};
+ghost use Rattle.sfs_tree.specs.Effect.{Adds};
+ghost use Rattle.sfs_tree.specs.Verdict.{verdict, refused, done};
+ghost use Rattle.sfs_tree.specs.declared.reply.Reply.TheVariants as reply;
+ghost use Rattle.stamp_table.specs.Ascending.{LiesAbove};
+ghost use Rattle.stamp_table.specs.Table.{IsBetweenCalls};
+ghost use Rattle.mem_values.specs.Places.{node_count};
+ghost use Rattle.mem_calls.specs.Table.{IsFileTable};
+ghost use Rattle.mem_calls.specs.Held.{HoldsDirectory, HoldsFile, HoldsPart, InEach};
+ghost use Rattle.mem_calls.specs.Working.{IsWorking, WorksOn};
+ghost use Rattle.mem_calls.specs.Changes.{MayLink, HoldsLink, link_code};
+ghost use Rattle.mem_calls.specs.Outcome.{IsAnswered, IsRefused, ComesTo};
+
+use crate::finish::finish;
+use crate::held::{bucket_in, directory_fault_in, file_fault_in, file_in};
+use crate::holding::{CALL_CELLS, hold_directory, hold_file, hold_more, hold_part, let_all_go};
+use crate::ready::make_ready;
+use crate::rows::{added_row, raise_links, with_file};
+use crate::taking::{put_bucket, put_part, take_bucket, with_entry};
+use mem_values::{CellId, FileCore, FileShared, Given};
+use sfs_base::{Gate, Name, NoMemory, NodeId, bucket_of};
+use sfs_tree::{Call, Code, Reply};
+use std::alloc::Global;
+use std::sync::Wait;
+
+// From how many links on a file can't have a further one.
+const MOST_LINKS: u32 = 65_535;
+
+// How many rows a bucket has at most.
+const BUCKET_ROWS: usize = 4096;
+
+// The name once more. Where it is refused memory the call is given up.
+fn copy_name<T: Given>(
+    shared: &FileShared<T>,
+    core: &mut FileCore,
+    name: &Name,
+) -> Result<Name, NoMemory>
+    requires { IsWorking T.given shared.now core.old }
+    ensures { MatchResult result (λ copy. (copy ≡ name.now) × (core.new ≡ core.old)) (λ _. IsRefused shared.now core.old core.new) }
+{
+    match name.copy() {
+        Ok(copy) => Ok(copy),
+        Err(fault) => {
+            let_all_go(shared, core);
+            Err(fault)
+        }
+    }
+}
+
+// Gives a file a further row that nothing refuses but want of memory.
+fn finish_link<T: Given>(
+    alloc: Global,
+    shared: &FileShared<T>,
+    core: &mut FileCore,
+    nodes: u32,
+    file: NodeId,
+    dir: NodeId,
+    name: Name,
+) -> Result<(), NoMemory>
+    requires table { IsFileTable shared.now nodes }
+    requires work { IsWorking T.given shared.now core.old }
+    requires part { HoldsPart nodes core.old }
+    requires spare { 0 < core.old.spare }
+    requires may { MayLink nodes core.old.held file dir name }
+    requires due { InEach core.old (λ tree. verdict tree core.old.view.core (Call.Link file dir name) ≡ done (Adds dir.0 name file.0)) }
+    ensures { MatchResult result (λ _. IsAnswered shared.now (Call.Link file dir name) reply.Ok core.old core.new)
+        (λ _. IsRefused shared.now core.old core.new) }
+{
+    core.events_are_few();
+    let number = bucket_of(&name);
+    let row = copy_name(shared, core, &name)?;
+    let ready = make_ready(alloc, shared, core, nodes, dir, &name)?;
+    let (bucket, outcome) = with_file(take_bucket(core, nodes, dir, number), row, file);
+    if let Err(fault) = outcome {
+        put_bucket(core, nodes, dir, number, bucket);
+        put_part(core, nodes, ready.part);
+        core.let_go(shared, 0);
+        return Err(fault);
+    }
+    let stamp = core.stamp(shared, Call::Link { file, dir, name }, Reply::Ok);
+    put_bucket(core, nodes, dir, number, bucket);
+    raise_links(core, nodes, file);
+    let change = added_row(alloc, ready.changes, stamp, dir, ready.name, file);
+    put_part(core, nodes, with_entry(ready.part, change));
+    core.let_go(shared, 0);
+    Ok(())
+}
+
+// Why a file can't have a further row, by what is held; none where it can.
+fn link_in(core: &FileCore, nodes: u32, file: NodeId, dir: NodeId, name: &Name) -> Option<Code>
+    requires counted { nodes ≡ node_count core.now.view.first }
+    requires held { HoldsLink nodes file dir name.now core.now }
+    ensures due { MatchOption result
+        (InEach core.now (λ tree. verdict tree core.now.view.core (Call.Link file dir name.now) ≡ done (Adds dir.0 name.now file.0)))
+        (λ code. InEach core.now (λ tree. verdict tree core.now.view.core (Call.Link file dir name.now) ≡ refused code)) }
+    ensures may { result ≡ None → MayLink nodes core.now.held file dir name.now }
+{
+    let number = bucket_of(name);
+    if file.0 == dir.0 {
+        return match directory_fault_in(core, nodes, dir, number) {
+            Some(code) => Some(code),
+            None => Some(Code::NotPermitted),
+        };
+    }
+    if let Some(code) = file_fault_in(core, nodes, file) {
+        return Some(link_code(code));
+    }
+    if let Some(code) = directory_fault_in(core, nodes, dir, number) {
+        return Some(code);
+    }
+    let bucket = bucket_in(core, nodes, dir, number);
+    if bucket.rows.get(name).is_some() {
+        return Some(Code::Exists);
+    }
+    if file_in(core, nodes, file).links >= MOST_LINKS {
+        return Some(Code::TooManyLinks);
+    }
+    if bucket.rows.len() >= BUCKET_ROWS {
+        return Some(Code::DirFull);
+    }
+    None
+}
+
+// Holds the file and the place of the row, in their order.
+fn hold_link<R: Wait, T: Given>(
+    rt: &R,
+    shared: &FileShared<T>,
+    core: &mut FileCore,
+    nodes: u32,
+    file: NodeId,
+    dir: NodeId,
+    name: &Name,
+)
+    requires table { IsFileTable shared.now nodes }
+    requires work { IsWorking T.given shared.now core.old }
+    requires none { (core.old.held ≡ []) × (core.old.view.held ≡ []) }
+    requires room { CALL_CELLS ≤ core.old.room }
+    ensures work { IsWorking T.given shared.now core.new }
+    ensures on { WorksOn core.old core.new }
+    ensures held { HoldsLink nodes file dir name.now core.new }
+    ensures below { LiesAbove (32 + 10 * nodes) core.new.view.held }
+    ensures room { core.old.room ≤ core.new.room + 4 }
+{
+    let number = bucket_of(name);
+    if file.0 < dir.0 {
+        hold_file(rt, shared, core, nodes, file);
+        hold_directory(rt, shared, core, nodes, dir, number);
+        return;
+    }
+    hold_directory(rt, shared, core, nodes, dir, number);
+    if file.0 > dir.0 && file.0 < nodes {
+        hold_more(
+            rt,
+            shared,
+            core,
+            nodes,
+            CellId::Bucket {
+                node: file,
+                bucket: 0,
+            },
+        );
+        hold_more(rt, shared, core, nodes, CellId::File { node: file });
+    }
+}
+
+/// Makes one more row that names a file. It holds the file and the bucket of the name; where no row names the file also the first bucket
+/// of its node, and so where it lies above the directory; where the directory does not stand also its file. It may wait. Only want of
+/// memory refuses it.
+pub fn link<R: Wait, T: Given, G: Gate>(
+    rt: &R,
+    alloc: Global,
+    shared: &FileShared<T>,
+    core: &mut FileCore,
+    nodes: u32,
+    file: NodeId,
+    dir: NodeId,
+    name: Name,
+    gate: &G,
+) -> Result<Reply, NoMemory>
+    requires table { IsFileTable shared.now nodes }
+    requires core { IsBetweenCalls shared.now core.old }
+    requires spare { 0 < core.old.spare }
+    requires room { CALL_CELLS ≤ core.old.room }
+    ensures { ComesTo shared.now (Call.Link file dir name) core.old core.new result }
+{
+    hold_link(rt, shared, core, nodes, file, dir, &name);
+    hold_part(rt, shared, core, nodes, gate);
+    match link_in(core, nodes, file, dir, &name) {
+        Some(code) => {
+            let call = Call::Link { file, dir, name };
+            finish(alloc, shared, core, nodes, call, Reply::Error { code });
+            Ok(Reply::Error { code })
+        }
+        None => {
+            finish_link(alloc, shared, core, nodes, file, dir, name)?;
+            Ok(Reply::Ok)
+        }
+    }
+}
+
+// Why a node can't be linked that can't be used as a file.
+fn link_code(code: Code) -> Code
+    ensures { result ≡ link_code code }
+{
+    match code {
+        Code::IsDir => Code::NotPermitted,
+        code => code,
+    }
+}

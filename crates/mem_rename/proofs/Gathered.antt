@@ -1,0 +1,121 @@
+-- What was held in one round, and how it is let go without a call.
+use Rattle.std.proofs.Common.{◌≡◌, ℕ, ◌+◌, ◌<◌, ◌≤◌, Bool, true, List, [], ◌∷◌, ◌++◌, length, reverse, Option, Some, option_map, refl, sym, ap, subst, ◌∙◌, arith, append-nil, eq-eqb}
+use Rattle.std.specs.Prelude.{is_some, if◌then◌else◌}
+use Rattle.disk_change.specs.OldKept.{OldKept}
+use Rattle.sfs_tree.specs.Tree.{TreeState}
+use Rattle.sfs_tree.specs.Lock.{AreHolders}
+use Rattle.sfs_tree.specs.History.{tree_after, IsLegal}
+use Rattle.sfs_tree.specs.Laws.{IsSoundTree}
+use Rattle.stamp_table.specs.declared.event.Event.{Event}
+use Rattle.stamp_table.specs.declared.view.View.{View}
+use Rattle.stamp_table.specs.declared.held.HeldCell.{HeldCell}
+use Rattle.stamp_table.specs.Events.{calls_in}
+use Rattle.stamp_table.specs.Hand.{Hand, places_of}
+use Rattle.stamp_table.specs.Table.{TableState, LetsGo, Stands, EachFrom, left_below}
+use Rattle.mem_values.specs.declared.cell.Cell.{Cell}
+use Rattle.mem_values.specs.declared.cell_id.CellId.{CellId}
+use Rattle.mem_values.specs.declared.cell_id.CellId.TheVariants as id
+use Rattle.mem_values.specs.declared.fact.Fact.{Fact}
+use Rattle.mem_values.specs.Account.{account_of}
+use Rattle.mem_values.specs.Stands.{StandsAt, StandsForCell}
+use Rattle.mem_values.specs.Facts.{IsLawfulLog}
+use Rattle.mem_values.specs.Laws.{KnowsCells, MayMeet}
+use Rattle.mem_calls.specs.Table.{IsFileTable}
+use Rattle.mem_calls.specs.Held.{value_held, HoldsPart}
+use Rattle.mem_calls.specs.Outcome.{IsRefused}
+use Rattle.mem_calls.specs.Working.{IsWorking, WorksOn, StillHolds}
+use Rattle.mem_calls.proofs.Cells.{found_place}
+use Rattle.mem_calls.proofs.Shown.{held_cell, knows_found}
+use Rattle.mem_calls.proofs.Finished.{none_left}
+use Rattle.mem_rename.specs.declared.sides.Move.{Move}
+use Rattle.mem_rename.specs.declared.plans.Plan.{Plan}
+use Rattle.mem_rename.specs.Plans.{asked_cells}
+use Rattle.mem_rename.specs.Holding.{HoldsCell, HoldsAsked}
+use Rattle.mem_rename.specs.Ways.{HoldsLock, HasRead, HasReadAll, tree_seen}
+use Rattle.mem_rename.specs.Rounds.{HoldsRound}
+use Rattle.mem_rename.proofs.Upwards.{read_ways_stay}
+use Rattle.mem_rename.proofs.SoFar.{works_on_both, holds_still}
+
+-- what a core knows stands for what it has seen
+pub each_known : (given : ℕ → Option OldKept) (view : View TreeState (Event Fact)) (cells : List (HeldCell Cell)) → KnowsCells given view cells → EachFrom 0 (Stands (IsLawfulLog given) (StandsAt given) view) cells
+each_known given view [] knows = tt
+each_known given view (c ∷ cells) knows = ((λ le. knows.0.stood), each_known given view cells knows.1)
+
+-- a core that lets go of all has made no call
+pub refused : (given : ℕ → Option OldKept) (t : TableState) (before after : Hand Cell Fact) → IsWorking given t before → LetsGo before after → after.held ≡ left_below 0 before.held → after.view.held ≡ reverse (places_of after.held) → IsRefused t before after
+refused given t before after work lets left places =
+    let none : after.held ≡ [] = left ∙ none_left before.held in
+    let core_is : after.view.core ≡ before.view.core = ap (λ (v : View TreeState (Event Fact)). v.core) lets.view in
+    record {
+      between = record {
+        table_is = ap (λ (h : Hand Cell Fact). h.table) lets.frame ∙ work.table;
+        first_is = ap (λ (v : View TreeState (Event Fact)). v.first) lets.view ∙ work.first;
+        core_is = subst (λ n. n < length t.first.made) (sym core_is) work.core;
+        holds_none = none;
+        none_held = places ∙ ap (λ (l : List (HeldCell Cell)). reverse (places_of l)) none;
+        none_waits = ap (λ (h : Hand Cell Fact). h.waiting) lets.frame ∙ work.none_waits;
+      };
+      same = record {
+        table = ap (λ (h : Hand Cell Fact). h.table) lets.frame;
+        cores = ap (λ (h : Hand Cell Fact). h.cores) lets.frame;
+        leads = ap (λ (h : Hand Cell Fact). h.leads) lets.frame;
+        number = core_is;
+      };
+      room = (let r = lets.room in let n = ap length none in omega (arith, r, n));
+      spare = ap (λ (h : Hand Cell Fact). h.spare) lets.frame;
+      seen = ([], append-nil before.view.seen ∙ sym (ap (λ (v : View TreeState (Event Fact)). v.seen) lets.view));
+      entries = ap (λ (h : Hand Cell Fact). h.entries) lets.frame;
+      mine = ap (λ (v : View TreeState (Event Fact)). v.mine) lets.view;
+    }
+
+module _ (given : ℕ → Option OldKept) (t : TableState) (nodes : ℕ) (table : IsFileTable t nodes) (move : Move) (plan : Plan) (above : List ℕ) (before locked asked after : Hand Cell Fact)
+    (work_locked : IsWorking given t locked) (work : IsWorking given t after) (on_locked : WorksOn before locked) (holds : HoldsAsked nodes (asked_cells move plan) locked asked)
+    (on : WorksOn asked after) (still : StillHolds nodes asked after) (legal : IsLegal after.view.first (calls_in after.view.seen))
+    (lock : is_some plan.comes ≡ true → HoldsLock locked) (read : is_some plan.comes ≡ true → HasReadAll locked move.to_directory.0 above) where
+  lock_value : (comes : is_some plan.comes ≡ true) → value_held nodes locked.held id.Lock ≡ Some (lock comes).lock.value
+  lock_value comes =
+      ap (λ l. value_held nodes l id.Lock) (lock comes).alone
+      ∙ ap (λ b. option_map (λ (h : HeldCell Cell). h.value) (if b then Some (lock comes).lock else Rattle.std.proofs.Common.None)) (eq-eqb (lock comes).lock.place 0 (lock comes).place)
+
+  still_locked : (which : CellId) (value : Cell) → value_held nodes locked.held which ≡ Some value → value_held nodes after.held which ≡ Some value
+  still_locked which value is = still.values which value (holds.still.values which value is)
+
+  lock_held : (comes : is_some plan.comes ≡ true) → HoldsCell nodes after.held id.Lock
+  lock_held comes = ((lock comes).lock.value, still_locked id.Lock (lock comes).lock.value (lock_value comes), (lock comes).kind)
+
+  first_same : after.view.first ≡ locked.view.first
+  first_same = ap (λ (v : View TreeState (Event Fact)). v.first) on.view ∙ ap (λ (v : View TreeState (Event Fact)). v.first) holds.on.view
+
+  way_read : (comes : is_some plan.comes ≡ true) → HasRead given after.view move.to_directory.0 above
+  way_read comes =
+      let h = held_cell nodes after.held id.Lock (lock comes).lock.value (still_locked id.Lock (lock comes).lock.value (lock_value comes)) in
+      let place : h.0.place ≡ 0 = found_place 0 after.held h.0 h.1 in
+      let knows = knows_found given after.view after.held 0 h.0 work.knows h.1 in
+      let knew = (subst (KnowsCells given locked.view) (lock comes).alone work_locked.knows).0 in
+      let seen = works_on_both locked asked after holds.on on in
+      record {
+        lock = h.0;
+        knows = knows;
+        there = sym place;
+        holders = subst (λ (z : TreeState × List (Event Fact)). AreHolders (tree_after z.0 (calls_in z.1)) move.to_directory.0 above) (λ i. (sym first_same i, seen.seen.1 i))
+            (read_ways_stay given locked.view.first locked.view.seen seen.seen.0 (lock comes).lock.value move.to_directory.0 above
+            (subst IsSoundTree (sym work_locked.first) table.sound)
+            (subst (λ (z : TreeState × List (Event Fact)). IsLegal z.0 (calls_in z.1)) (λ i. (first_same i, sym seen.seen.1 i)) legal)
+            (knew.stood id.Lock tt (sym (lock comes).place))
+            (subst (λ (z : TreeState × List (Event Fact)). StandsForCell given z.0 (account_of z.1) id.Lock (lock comes).lock.value) (λ i. (first_same i, sym seen.seen.1 i))
+            (subst (StandsForCell given after.view.first (account_of after.view.seen) id.Lock) h.2 (knows.stood id.Lock tt (sym place))))
+            (read comes).holders);
+      }
+
+  -- All is held.
+  pub round : HoldsPart nodes after → MayMeet after.view after.held (tree_seen after) → HoldsRound given t nodes move plan above before after
+  round part met = record {
+    work = work;
+    on = works_on_both before locked after on_locked (works_on_both locked asked after holds.on on);
+    part = part;
+    cells = λ cell among. holds_still nodes asked after cell still (holds.holds cell among);
+    lock = lock_held;
+    read = way_read;
+    ends = λ comes. (read comes).ends;
+    met = met;
+  }

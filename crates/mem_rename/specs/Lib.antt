@@ -1,0 +1,13 @@
+pub mod After
+pub mod Cells
+pub mod Decisions
+pub mod Holding
+pub mod Laws
+pub mod Logged
+pub mod Moving
+pub mod Plans
+pub mod Ready
+pub mod Rounds
+pub mod Seen
+pub mod Shifts
+pub mod Ways

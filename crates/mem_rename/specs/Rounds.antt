@@ -1,0 +1,45 @@
+-- What a core holds by a plan.
+use Rattle.std.specs.Prelude.{◌≡◌, ℕ, ◌<◌, true, List, Option, Some, is_some}
+use Rattle.sfs_base.specs.declared.numbers.NodeId.{NodeId}
+use Rattle.disk_change.specs.OldKept.{OldKept}
+use Rattle.sfs_tree.specs.Lock.{EndsAtRoot}
+use Rattle.stamp_table.specs.Hand.{Hand}
+use Rattle.stamp_table.specs.Table.{TableState}
+use Rattle.mem_values.specs.declared.cell.Cell.{Cell}
+use Rattle.mem_values.specs.declared.cell_id.CellId.TheVariants as id
+use Rattle.mem_values.specs.declared.fact.Fact.{Fact}
+use Rattle.mem_values.specs.Laws.{MayMeet}
+use Rattle.mem_calls.specs.Held.{HoldsPart}
+use Rattle.mem_calls.specs.Outcome.{IsRefused}
+use Rattle.mem_rename.specs.Ready.{IsReady}
+use Rattle.mem_calls.specs.Working.{IsWorking, WorksOn}
+use Rattle.mem_rename.specs.declared.sides.Move.{Move}
+use Rattle.mem_rename.specs.declared.plans.Plan.{Plan}
+use Rattle.mem_rename.specs.Plans.{asked_cells}
+use Rattle.mem_rename.specs.Holding.{HoldsCell, HoldsCells}
+use Rattle.mem_rename.specs.Ways.{HasRead, tree_seen}
+
+-- the nodes of a plan have numbers of the table
+pub record IsPlanWithin (nodes : ℕ) (plan : Plan) : Type 0 where
+  pub comes : (node : NodeId) → plan.comes ≡ Some node → node.0 < nodes
+  pub directory : (node : NodeId) → plan.directory ≡ Some node → node.0 < nodes
+  pub file : (node : NodeId) → plan.file ≡ Some node → node.0 < nodes
+
+-- A core holds what a rename asks for by a plan, and has read the way up where it needs that. It may meet the tree that it has seen.
+pub record HoldsRound (given : ℕ → Option OldKept) (t : TableState) (nodes : ℕ) (move : Move) (plan : Plan) (above : List ℕ) (before after : Hand Cell Fact) : Type 0 where
+  pub work : IsWorking given t after
+  pub on : WorksOn before after
+  pub part : HoldsPart nodes after
+  pub cells : HoldsCells nodes after.held (asked_cells move plan)
+  pub lock : is_some plan.comes ≡ true → HoldsCell nodes after.held id.Lock
+  pub read : is_some plan.comes ≡ true → HasRead given after.view move.to_directory.0 above
+  pub ends : is_some plan.comes ≡ true → EndsAtRoot move.to_directory.0 above
+  pub met : MayMeet after.view after.held (tree_seen after)
+
+-- A core has come to hold all that its rename asks for. It may have let go of all and begun again before.
+pub record Settles (given : ℕ → Option OldKept) (t : TableState) (nodes : ℕ) (move : Move) (plan : Plan) (above : List ℕ) (before after : Hand Cell Fact) : Type 0 where
+  pub begun : Hand Cell Fact
+  pub again : IsRefused t before begun
+  pub on : WorksOn begun after
+  pub within : IsPlanWithin nodes plan
+  pub ready : IsReady given t nodes move plan above after

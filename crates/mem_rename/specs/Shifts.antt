@@ -1,0 +1,48 @@
+-- What a rename logs of a child that moves, in the words of the code.
+use Rattle.std.specs.Prelude.{◌≡◌, ℕ, ◌≤◌, Bool, List, [], ◌∷◌, ◌++◌, Option, Some, None, is_some, if◌then◌else◌}
+use Rattle.sfs_tree.specs.declared.changes.Act.TheVariants.{Add, Remove}
+use Rattle.sfs_tree.specs.declared.changes.Change.{Change}
+use Rattle.sfs_tree.specs.Tree.{kind_if}
+use Rattle.sfs_tree.specs.Changes.{other_side}
+use Rattle.sfs_tree.specs.Logged.{log_entry}
+use Rattle.sfs_base.specs.declared.numbers.NodeId.{NodeId}
+use Rattle.mem_rename.specs.declared.sides.Move.{Move}
+use Rattle.mem_rename.specs.declared.looking.Look.{Look}
+use Rattle.mem_rename.specs.declared.shifts.Shift.{Shift}
+use Rattle.mem_rename.specs.declared.shifts.Noted.{Noted}
+
+-- the child of a row goes from it
+abbrev pub gone_entry : ℕ → ℕ → List ℕ → NodeId → Bool → ℕ → Change
+gone_entry stamp directory name child is_directory other = log_entry stamp directory name child.0 (kind_if is_directory) Remove (other_side directory other) []
+
+-- what is replaced goes, where something is there
+abbrev pub gone_by : Shift → List ℕ → ℕ → Option NodeId → List Change
+gone_by shift to_name stamp None = []
+gone_by shift to_name stamp (Some there) = gone_entry stamp shift.to.0 to_name there shift.meets shift.from.0 ∷ []
+
+-- What is logged: what is replaced goes, the old row goes, and the new row comes with the directories above it.
+abbrev pub shift_logged : Shift → List ℕ → List ℕ → ℕ → List ℕ → List Change
+shift_logged shift name to_name stamp above =
+    gone_by shift to_name stamp shift.there
+    ++ gone_entry stamp shift.from.0 name shift.child shift.moves shift.to.0
+    ∷ log_entry stamp shift.to.0 to_name shift.child.0 (kind_if shift.moves) Add (other_side shift.to.0 shift.from.0) above
+    ∷ []
+
+-- The names of a rename once more, and room for its changes.
+pub record IsNoted (move : Move) (noted : Noted) : Type 0 where
+  pub gone : noted.gone ≡ move.to_name
+  pub old : noted.old ≡ move.name
+  pub new : noted.new ≡ move.to_name
+  pub none : noted.changes.items ≡ []
+  pub spare : 3 ≤ noted.changes.spare
+
+-- the move of a child by what a rename has looked at
+abbrev pub shift_of : Look → Move → NodeId → Shift
+shift_of look move child = record {
+  from = move.directory;
+  to = move.to_directory;
+  child = child;
+  there = look.there;
+  moves = look.moves;
+  meets = look.meets;
+}

@@ -1,0 +1,43 @@
+// A rename that changes nothing: it is stamped with its answer.
+ghost use Rattle.std.specs.Prelude.{◌≡◌, ◌<◌, map};
+ghost use Rattle.sfs_tree.specs.NameRow.{node_number};
+ghost use Rattle.sfs_tree.specs.Verdict.{answered};
+ghost use Rattle.mem_calls.specs.Table.{IsFileTable};
+ghost use Rattle.mem_calls.specs.Reply.{reply_of};
+ghost use Rattle.mem_calls.specs.Outcome.{IsAnswered};
+ghost use Rattle.mem_rename.specs.Seen.{call_of, rename_by};
+ghost use Rattle.mem_rename.specs.Ready.{seen_of, IsWithin, IsReady};
+
+use crate::plans::Plan;
+use crate::sides::Move;
+use mem_calls::{Short, add_entry};
+use mem_values::{FileCore, FileShared, Given};
+use sfs_base::NodeId;
+use sfs_tree::Changes;
+use std::alloc::Global;
+
+/// Stamps a rename that changes nothing with its answer, counts its entry, and lets go of all cells. It takes no memory.
+pub(crate) fn answer<T: Given>(
+    alloc: Global,
+    shared: &FileShared<T>,
+    core: &mut FileCore,
+    nodes: u32,
+    mv: Move,
+    plan: Plan,
+    above: &[NodeId],
+    short: Short,
+)
+    requires table { IsFileTable shared.now nodes }
+    requires within { IsWithin nodes mv }
+    requires ready { IsReady T.given shared.now nodes mv plan (map node_number above.now) core.old }
+    requires spare { 0 < core.old.spare }
+    requires answers { rename_by (seen_of nodes core.old.held mv plan (map node_number above.now)) mv ≡ answered (reply_of short) }
+    ensures { IsAnswered shared.now (call_of mv) (reply_of short) core.old core.new }
+{
+    let _plan = plan;
+    let _above = above.len();
+    core.events_are_few();
+    core.stamp(shared, mv.into_call(), short.reply());
+    add_entry(core, nodes, Changes::new(alloc));
+    core.let_go(shared, 0);
+}

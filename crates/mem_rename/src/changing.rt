@@ -1,0 +1,190 @@
+// What a rename changes of the buckets and the file that its core holds.
+ghost use Rattle.std.specs.Prelude.{◌≡◌, ◌<◌, ℕ, IsSome, OnOk, OnErr, Some, MatchOption, MatchResult};
+ghost use Rattle.std.specs.FinMap as finmap;
+ghost use Rattle.sfs_base.specs.Name.{bucket};
+ghost use Rattle.mem_calls.specs.Held.{bucket_held, file_held};
+ghost use Rattle.mem_rename.specs.Moving.{row_again, with_row, without_row, standing, less_one, same_file, in_directory, PutsBucket, PutsFile, ChangesHeld};
+
+use crate::sides::Move;
+use mem_calls::{put, take_bucket, take_file};
+use mem_values::{Bucket, Cell, CellId, FileCell, FileCore};
+use sfs_base::{Name, NoMemory, NodeId, bucket_of};
+use sfs_tree::NameMap;
+
+// Gives a name's row this child, or adds it.
+fn put_row(rows: &mut NameMap, name: &Name, child: NodeId) -> Result<(), NoMemory>
+    ensures ok { OnOk result (rows.new ≡ finmap.insert rows.old name.now child.0) }
+    ensures err { OnErr result (rows.new ≡ rows.old) }
+{
+    if rows.get(name).is_some() {
+        rows.replace(name, child);
+        return Ok(());
+    }
+    let name = name.copy()?;
+    rows.insert(name, child)
+}
+
+// Gives a name's row the child that it had, or takes it away.
+fn put_back(rows: &mut NameMap, name: &Name, there: Option<NodeId>)
+    requires { IsSome (finmap.get rows.old name.now) }
+    ensures { rows.new ≡ row_again name.now there rows.old }
+{
+    match there {
+        Some(child) => rows.replace(name, child),
+        None => rows.remove(name),
+    }
+}
+
+// Takes away a name's row, where there is one.
+fn drop_row(rows: &mut NameMap, name: &Name)
+    ensures { rows.new ≡ finmap.remove rows.old name.now }
+{
+    if rows.get(name).is_some() {
+        rows.remove(name);
+    }
+}
+
+// A name's row in a bucket names this child; where it is refused memory the bucket is as it was.
+fn put_child(
+    bucket: &mut Bucket,
+    name: &Name,
+    child: NodeId,
+    directory: bool,
+) -> Result<(), NoMemory>
+    ensures ok { OnOk result (bucket.new ≡ with_row directory name.now child.0 bucket.old) }
+    ensures err { OnErr result (bucket.new ≡ bucket.old) }
+{
+    let there = bucket.rows.get(name);
+    put_row(&mut bucket.rows, name, child)?;
+    if directory {
+        if let Err(fault) = put_row(&mut bucket.directories, name, child) {
+            put_back(&mut bucket.rows, name, there);
+            return Err(fault);
+        }
+    }
+    Ok(())
+}
+
+// The bucket in which a name's row names this child, or the bucket as it was.
+fn with_row(
+    bucket: Box<Bucket>,
+    name: &Name,
+    child: NodeId,
+    directory: bool,
+) -> (Box<Bucket>, Result<(), NoMemory>)
+    ensures ok { OnOk result.1 (result.0.value ≡ with_row directory name.now child.0 bucket.value) }
+    ensures err { OnErr result.1 (result.0.value ≡ bucket.value) }
+{
+    let mut bucket = bucket;
+    let outcome = put_child(&mut bucket, name, child, directory);
+    (bucket, outcome)
+}
+
+/// Puts the new row into its bucket, which is held. Where it is refused memory the bucket is as it was.
+pub(crate) fn add_row(
+    core: &mut FileCore,
+    nodes: u32,
+    mv: &Move,
+    child: NodeId,
+    directory: bool,
+) -> Result<(), NoMemory>
+    requires { IsSome (bucket_held nodes core.old.held mv.now.to_directory (bucket mv.now.to_name)) }
+    ensures { MatchResult result
+        (λ _. PutsBucket nodes mv.now.to_directory (bucket mv.now.to_name) (with_row directory mv.now.to_name child.0) core.old core.new)
+        (λ _. PutsBucket nodes mv.now.to_directory (bucket mv.now.to_name) (λ b. b) core.old core.new) }
+{
+    let node = mv.to_directory;
+    let number = bucket_of(&mv.to_name);
+    let taken = take_bucket(core, nodes, node, number);
+    let (bucket, outcome) = with_row(taken, &mv.to_name, child, directory);
+    let cell = CellId::Bucket {
+        node,
+        bucket: number,
+    };
+    put(core, nodes, cell, Cell::Bucket { bucket });
+    outcome
+}
+
+// The bucket without a name's row.
+fn without_row(bucket: Box<Bucket>, name: &Name) -> Box<Bucket>
+    ensures { result.value ≡ without_row name.now bucket.value }
+{
+    let mut bucket = bucket;
+    drop_row(&mut bucket.rows, name);
+    drop_row(&mut bucket.directories, name);
+    bucket
+}
+
+/// Takes the old row out of its bucket, which is held.
+pub(crate) fn remove_row(core: &mut FileCore, nodes: u32, mv: &Move)
+    requires { IsSome (bucket_held nodes core.old.held mv.now.directory (bucket mv.now.name)) }
+    ensures { PutsBucket nodes mv.now.directory (bucket mv.now.name) (without_row mv.now.name) core.old core.new }
+{
+    let node = mv.directory;
+    let number = bucket_of(&mv.name);
+    let bucket = without_row(take_bucket(core, nodes, node, number), &mv.name);
+    let cell = CellId::Bucket {
+        node,
+        bucket: number,
+    };
+    put(core, nodes, cell, Cell::Bucket { bucket });
+}
+
+// The bucket of a directory that stands here.
+fn standing(bucket: Box<Bucket>, stands: Option<NodeId>) -> Box<Bucket>
+    ensures { result.value ≡ standing stands bucket.value }
+{
+    let mut bucket = bucket;
+    bucket.stands = stands;
+    bucket
+}
+
+// One bucket of a directory says that this stands here.
+fn stand(core: &mut FileCore, nodes: u32, node: NodeId, number: u8, stands: Option<NodeId>)
+    requires { IsSome (bucket_held nodes core.old.held node number) }
+    ensures { PutsBucket nodes node number (standing stands) core.old core.new }
+{
+    let bucket = standing(take_bucket(core, nodes, node, number), stands);
+    let cell = CellId::Bucket {
+        node,
+        bucket: number,
+    };
+    put(core, nodes, cell, Cell::Bucket { bucket });
+}
+
+/// The eight buckets of a directory that may be there, which are held, say that it stands here.
+pub(crate) fn all_stand(
+    core: &mut FileCore,
+    nodes: u32,
+    node: Option<NodeId>,
+    stands: Option<NodeId>,
+)
+    requires within { MatchOption node Unit (λ n. n.0 < nodes) }
+    requires held { MatchOption node Unit (λ n. (number : ℕ) → number < 8 → IsSome (bucket_held nodes core.old.held n number)) }
+    ensures { ChangesHeld nodes (in_directory node (standing stands)) same_file core.old core.new }
+{
+    let Some(node) = node else {
+        return;
+    };
+    for number in 0..8u8 {
+        stand(core, nodes, node, number, stands);
+    }
+}
+
+// The file with one name less.
+fn less_one(file: Box<FileCell>) -> Box<FileCell>
+    ensures { result.value ≡ less_one file.value }
+{
+    let mut file = file;
+    file.links = file.links.saturating_sub(1);
+    file
+}
+
+/// Takes a name from a file that is held.
+pub(crate) fn lower_links(core: &mut FileCore, nodes: u32, node: NodeId)
+    requires { IsSome (file_held nodes core.old.held node) }
+    ensures { PutsFile nodes node less_one core.old core.new }
+{
+    let file = less_one(take_file(core, nodes, node));
+    put(core, nodes, CellId::File { node }, Cell::File { file });
+}

@@ -1,0 +1,118 @@
+// A rename by which a child moves: ready, stamped, and let go.
+ghost use Rattle.std.specs.Prelude.{◌≡◌, ◌<◌, map, Some, MatchResult, cond, true, IsSome, []};
+ghost use Rattle.sfs_tree.specs.NameRow.{node_number};
+ghost use Rattle.sfs_tree.specs.Effect.{Moves as MovesEffect};
+ghost use Rattle.sfs_tree.specs.Verdict.{done};
+ghost use Rattle.sfs_tree.specs.declared.reply.Reply.TheVariants as reply;
+ghost use Rattle.mem_values.specs.declared.cell_id.CellId.TheVariants as id;
+ghost use Rattle.mem_calls.specs.Table.{IsFileTable};
+ghost use Rattle.mem_calls.specs.Held.{value_held};
+ghost use Rattle.mem_calls.specs.Outcome.{IsAnswered, IsRefused};
+ghost use Rattle.mem_rename.specs.Seen.{call_of, rename_by};
+ghost use Rattle.mem_rename.specs.Holding.{HoldsCells, HoldsCell};
+ghost use Rattle.mem_rename.specs.Moving.{less_one, at_file, bucket_moved, CanChange, ChangesHeld, SetsLock};
+ghost use Rattle.mem_rename.specs.Plans.{asked_cells};
+ghost use Rattle.mem_rename.specs.Ready.{seen_of, IsWithin, IsReady};
+ghost use Rattle.mem_rename.specs.Rounds.{IsPlanWithin};
+ghost use Rattle.mem_rename.specs.Shifts.{shift_of};
+ghost use Rattle.mem_rename.specs.Decisions.{look_of};
+
+use crate::changing::{all_stand, lower_links, remove_row};
+use crate::plans::Plan;
+use crate::readying::prepare;
+use crate::shifts::{Shift, shifted};
+use crate::sides::Move;
+use crate::sights::look_in;
+use mem_calls::{add_entry, put};
+use mem_values::{Cell, CellId, FileCore, FileShared, Given, TreeLock};
+use sfs_base::{NoMemory, NodeId, NodeList, Stamp};
+use sfs_tree::{Ancestors, Reply};
+use std::alloc::Global;
+
+// The move of a child by what is held.
+fn shift_in(core: &FileCore, nodes: u32, mv: &Move, plan: Plan, child: NodeId) -> Shift
+    requires { HoldsCells nodes core.now.held (asked_cells mv.now plan) }
+    ensures { (above : _) → result ≡ shift_of (look_of (seen_of nodes core.now.held mv.now plan above) mv.now) mv.now child }
+{
+    let _plan = plan;
+    let look = look_in(core, nodes, mv);
+    Shift {
+        from: mv.directory,
+        to: mv.to_directory,
+        child,
+        there: look.there,
+        moves: look.moves,
+        meets: look.meets,
+    }
+}
+
+// What changes of the buckets besides the new row, and of the file that is replaced.
+fn change_held(core: &mut FileCore, nodes: u32, mv: &Move, plan: Plan)
+    requires within { IsWithin nodes mv.now }
+    requires plan { IsPlanWithin nodes plan }
+    requires held { CanChange nodes mv.now plan core.old.held }
+    ensures { ChangesHeld nodes (bucket_moved mv.now plan) (at_file plan.file less_one) core.old core.new }
+{
+    remove_row(core, nodes, mv);
+    all_stand(core, nodes, plan.directory, None);
+    all_stand(core, nodes, plan.comes, Some(mv.to_directory));
+    if let Some(node) = plan.file {
+        lower_links(core, nodes, node);
+    }
+}
+
+// The lock gets the stamp, where a directory came to another one.
+fn set_lock(core: &mut FileCore, nodes: u32, comes: bool, stamp: Stamp)
+    requires { comes ≡ true → IsSome (value_held nodes core.old.held id.Lock) }
+    ensures { SetsLock nodes comes stamp core.old core.new }
+{
+    if comes {
+        let lock = TreeLock { moved: Some(stamp) };
+        put(core, nodes, CellId::Lock, Cell::Lock { lock });
+    }
+}
+
+// The directories above, where a directory comes to another one.
+fn way_of(alloc: Global, comes: bool, above: Vec<NodeId>) -> Ancestors
+    ensures { result ≡ cond comes (map node_number above.items) [] }
+{
+    if comes {
+        Ancestors::new(NodeList::from_vec(above))
+    } else {
+        Ancestors::none(alloc)
+    }
+}
+
+/// Makes ready for a child to move, stamps the rename, counts its entry, changes what is held, and lets go of all cells. Where it is
+/// refused memory the call is given up before its stamp.
+pub(crate) fn move_child<T: Given>(
+    alloc: Global,
+    shared: &FileShared<T>,
+    core: &mut FileCore,
+    nodes: u32,
+    mv: Move,
+    plan: Plan,
+    above: Vec<NodeId>,
+    child: NodeId,
+) -> Result<(), NoMemory>
+    requires table { IsFileTable shared.now nodes }
+    requires within { IsWithin nodes mv }
+    requires plan { IsPlanWithin nodes plan }
+    requires ready { IsReady T.given shared.now nodes mv plan (map node_number above.items) core.old }
+    requires spare { 0 < core.old.spare }
+    requires moves { rename_by (seen_of nodes core.old.held mv plan (map node_number above.items)) mv
+        ≡ done (MovesEffect mv.directory.0 mv.name mv.to_directory.0 mv.to_name child.0) }
+    ensures { MatchResult result (λ _. IsAnswered shared.now (call_of mv) reply.Ok core.old core.new) (λ _. IsRefused shared.now core.old core.new) }
+{
+    core.events_are_few();
+    let comes = plan.comes.is_some();
+    let shift = shift_in(core, nodes, &mv, plan, child);
+    let noted = prepare(alloc, shared, core, nodes, &mv, shift)?;
+    change_held(core, nodes, &mv, plan);
+    let way = way_of(alloc, comes, above);
+    let stamp = core.stamp(shared, mv.into_call(), Reply::Ok);
+    set_lock(core, nodes, comes, stamp);
+    add_entry(core, nodes, shifted(alloc, noted, stamp, shift, way));
+    core.let_go(shared, 0);
+    Ok(())
+}

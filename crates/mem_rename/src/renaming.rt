@@ -1,0 +1,91 @@
+// A rename on the shared table.
+ghost use Rattle.std.specs.Prelude.{◌≡◌, ◌⊎◌, ◌<◌, ◌≤◌, MatchOption};
+ghost use Rattle.sfs_tree.specs.declared.reply.Code.TheVariants.{NoEntry as NoneThere};
+ghost use Rattle.stamp_table.specs.Table.{IsBetweenCalls};
+ghost use Rattle.mem_calls.specs.Table.{IsFileTable};
+ghost use Rattle.mem_calls.specs.Outcome.{IsAnswered, ComesTo};
+ghost use Rattle.mem_rename.specs.Seen.{call_of};
+
+use crate::answers::answer;
+use crate::looking::Decision;
+use crate::moving::move_child;
+use crate::settling::{decide_in, settle};
+use crate::sides::Move;
+use mem_calls::{answer_call, directory_fault_in, hold_directory, hold_part};
+use mem_values::{FileCore, FileShared, Given};
+use sfs_base::{Gate, NoMemory, bucket_of};
+use sfs_tree::{Code, Reply};
+use std::alloc::Global;
+use std::sync::Wait;
+
+/// How many cells a rename holds at most.
+pub const RENAME_CELLS: usize = 24;
+
+// The fault, or no such entry.
+fn fault_or(fault: Option<Code>) -> Code
+    ensures { MatchOption fault (result ≡ NoneThere) (λ code. result ≡ code) }
+{
+    match fault {
+        Some(code) => code,
+        None => Code::NoEntry,
+    }
+}
+
+// A rename of which a directory has a number that the table does not have: the old directory's fault, or no such entry.
+fn answer_outside<R: Wait, T: Given, G: Gate>(
+    rt: &R,
+    alloc: Global,
+    shared: &FileShared<T>,
+    core: &mut FileCore,
+    nodes: u32,
+    mv: Move,
+    gate: &G,
+) -> Reply
+    requires table { IsFileTable shared.now nodes }
+    requires core { IsBetweenCalls shared.now core.old }
+    requires outside { (nodes ≤ mv.directory.0) ⊎ (nodes ≤ mv.to_directory.0) }
+    requires spare { 0 < core.old.spare }
+    requires room { 24 ≤ core.old.room }
+    ensures { IsAnswered shared.now (call_of mv) result core.old core.new }
+{
+    let number = bucket_of(&mv.name);
+    hold_directory(rt, shared, core, nodes, mv.directory, number);
+    hold_part(rt, shared, core, nodes, gate);
+    let code = fault_or(directory_fault_in(core, nodes, mv.directory, number));
+    answer_call(alloc, shared, core, nodes, mv.into_call(), Reply::Error { code });
+    Reply::Error { code }
+}
+
+/// Gives the row of a name in a directory to another name, in the same directory or another one, in place of what that named. It holds
+/// the cells that it reads and changes, under the lock of the tree where a directory comes to another one. It may wait. Only want of
+/// memory refuses it.
+pub fn rename<R: Wait, T: Given, G: Gate>(
+    rt: &R,
+    alloc: Global,
+    shared: &FileShared<T>,
+    core: &mut FileCore,
+    nodes: u32,
+    mv: Move,
+    gate: &G,
+) -> Result<Reply, NoMemory>
+    requires table { IsFileTable shared.now nodes }
+    requires core { IsBetweenCalls shared.now core.old }
+    requires spare { 0 < core.old.spare }
+    requires room { 24 ≤ core.old.room }
+    ensures { ComesTo shared.now (call_of mv) core.old core.new result }
+{
+    if nodes <= mv.directory.0 || nodes <= mv.to_directory.0 {
+        return Ok(answer_outside(rt, alloc, shared, core, nodes, mv, gate));
+    }
+    let (plan, above) = settle(rt, alloc, shared, core, nodes, &mv, gate)?;
+    match decide_in(core, nodes, &mv, plan, &above) {
+        Decision::Answers { short } => {
+            answer(alloc, shared, core, nodes, mv, plan, &above, short);
+            Ok(short.reply())
+        }
+        Decision::Moves { child } => {
+            move_child(alloc, shared, core, nodes, mv, plan, above, child)?;
+            Ok(Reply::Ok)
+        }
+    }
+}

@@ -1,0 +1,138 @@
+// The changes that a rename logs of a child that moves.
+ghost use Rattle.std.specs.Prelude.{◌≡◌, ◌+◌, ◌<◌, ◌≤◌, [], ◌∷◌, ◌++◌, IfOk, option_map};
+ghost use Rattle.sfs_tree.specs.declared.changes.Act.TheVariants.{Add as Adding};
+ghost use Rattle.sfs_tree.specs.Changes.{other_side};
+ghost use Rattle.sfs_tree.specs.Logged.{numbered_node, log_entry};
+ghost use Rattle.sfs_tree.specs.Tree.{kind_if};
+ghost use Rattle.mem_rename.specs.Shifts.{gone_entry, gone_by, shift_logged, IsNoted};
+
+use crate::sides::Move;
+use sfs_base::{Kind, Name, NoMemory, NodeId, Stamp};
+use sfs_tree::{Act, Ancestors, Change, Changes};
+use std::alloc::Global;
+
+/// A child that moves from one directory to another one or the same, what stands there, and whether these two are directories.
+#[derive(Clone, Copy)]
+pub(crate) struct Shift {
+    pub(crate) from: NodeId,
+    pub(crate) to: NodeId,
+    pub(crate) child: NodeId,
+    pub(crate) there: Option<NodeId>,
+    pub(crate) moves: bool,
+    pub(crate) meets: bool,
+}
+
+/// The names of a rename once more, the new one twice, and room for three changes.
+#[derive(Drop)]
+pub(crate) struct Noted {
+    pub(crate) changes: Changes,
+    pub(crate) gone: Name,
+    pub(crate) old: Name,
+    pub(crate) new: Name,
+}
+
+/// What the changes of a rename take of memory, before its stamp.
+pub(crate) fn note(alloc: Global, mv: &Move) -> Result<Noted, NoMemory>
+    ensures { IfOk result (λ noted. IsNoted mv.now noted) }
+{
+    let gone = mv.to_name.copy()?;
+    let old = mv.name.copy()?;
+    let new = mv.to_name.copy()?;
+    let mut changes = Changes::new(alloc);
+    changes.reserve(3)?;
+    Ok(Noted {
+        changes,
+        gone,
+        old,
+        new,
+    })
+}
+
+// The other one of two directories, where they are two.
+fn other_of(dir: NodeId, other: NodeId) -> Option<NodeId>
+    ensures { result ≡ option_map numbered_node (other_side dir.0 other.0) }
+{
+    if dir == other {
+        None
+    } else {
+        Some(other)
+    }
+}
+
+// The kind of a directory or a file.
+fn kind_of(directory: bool) -> Kind
+    ensures { result ≡ kind_if directory }
+{
+    if directory {
+        Kind::Directory
+    } else {
+        Kind::File
+    }
+}
+
+// The change of a row that goes.
+fn gone(alloc: Global, stamp: Stamp, dirs: (NodeId, NodeId), name: Name, child: (NodeId, bool)) -> Change
+    ensures { result ≡ gone_entry stamp.0 dirs.0.0 name child.0 child.1 dirs.1.0 }
+{
+    Change {
+        stamp,
+        dir: dirs.0,
+        name,
+        child: child.0,
+        kind: kind_of(child.1),
+        act: Act::Remove,
+        other: other_of(dirs.0, dirs.1),
+        above: Ancestors::none(alloc),
+    }
+}
+
+// The change of the new row.
+fn come(stamp: Stamp, shift: Shift, name: Name, above: Ancestors) -> Change
+    ensures { result ≡ log_entry stamp.0 shift.to.0 name shift.child.0 (kind_if shift.moves) Adding (other_side shift.to.0 shift.from.0) above }
+{
+    Change {
+        stamp,
+        dir: shift.to,
+        name,
+        child: shift.child,
+        kind: kind_of(shift.moves),
+        act: Act::Add,
+        other: other_of(shift.to, shift.from),
+        above,
+    }
+}
+
+// The change of what is replaced, in room that was made.
+fn with_gone(alloc: Global, changes: Changes, stamp: Stamp, shift: Shift, name: Name) -> Changes
+    requires { 0 < changes.spare }
+    ensures items { result.items ≡ changes.items ++ gone_by shift name stamp.0 shift.there }
+    ensures spare { changes.spare ≤ result.spare + 1 }
+{
+    let mut changes = changes;
+    if let Some(there) = shift.there {
+        let child = (there, shift.meets);
+        changes.push(gone(alloc, stamp, (shift.to, shift.from), name, child));
+    }
+    changes
+}
+
+/// The changes that a rename logs, in room that was made.
+pub(crate) fn shifted(
+    alloc: Global,
+    noted: Noted,
+    stamp: Stamp,
+    shift: Shift,
+    above: Ancestors,
+) -> Changes
+    requires none { noted.changes.items ≡ [] }
+    requires room { 3 ≤ noted.changes.spare }
+    requires same { noted.gone ≡ noted.new }
+    ensures { result.items ≡ shift_logged shift noted.old noted.new stamp.0 above }
+{
+    let mut changes = with_gone(alloc, noted.changes, stamp, shift, noted.gone);
+    let dirs = (shift.from, shift.to);
+    let child = (shift.child, shift.moves);
+    changes.push(gone(alloc, stamp, dirs, noted.old, child));
+    changes.push(come(stamp, shift, noted.new, above));
+    changes
+}

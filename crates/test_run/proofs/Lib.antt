@@ -1,0 +1,2 @@
+pub mod SmallTrees
+pub mod Written

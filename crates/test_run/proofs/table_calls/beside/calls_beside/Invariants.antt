@@ -1,0 +1,5 @@
+use Rattle.stamp_table.specs.Table.{IsBetweenCalls}
+use Rattle.test_run.proofs.table_calls.beside.calls_beside.Given as goal
+
+abbrev pub invariant-loop-asked : goal.invariant-loop-asked
+invariant-loop-asked g l = IsBetweenCalls l.shared l.core
