@@ -44,12 +44,7 @@ pub fn is_standing(node: NodeId, bucket: &Bucket) -> bool
 }
 
 /// Why a node can't be used as a directory, by a bucket of it, and by its file where it does not stand.
-pub fn directory_fault_in(
-    core: &FileCore,
-    nodes: u32,
-    node: NodeId,
-    number: u8,
-) -> Option<Code>
+pub fn directory_fault_in(core: &FileCore, nodes: u32, node: NodeId, number: u8) -> Option<Code>
     requires counted { nodes ≡ node_count core.now.view.first }
     requires number { number < 8 }
     requires held { HoldsDirectory nodes core.now.held node number }

@@ -52,7 +52,14 @@ fn answer_outside<R: Wait, T: Given, G: Gate>(
     hold_directory(rt, shared, core, nodes, mv.directory, number);
     hold_part(rt, shared, core, nodes, gate);
     let code = fault_or(directory_fault_in(core, nodes, mv.directory, number));
-    answer_call(alloc, shared, core, nodes, mv.into_call(), Reply::Error { code });
+    answer_call(
+        alloc,
+        shared,
+        core,
+        nodes,
+        mv.into_call(),
+        Reply::Error { code },
+    );
     Reply::Error { code }
 }
 

@@ -52,11 +52,7 @@ pub(crate) fn note(alloc: Global, mv: &Move) -> Result<Noted, NoMemory>
 fn other_of(dir: NodeId, other: NodeId) -> Option<NodeId>
     ensures { result ≡ option_map numbered_node (other_side dir.0 other.0) }
 {
-    if dir == other {
-        None
-    } else {
-        Some(other)
-    }
+    if dir == other { None } else { Some(other) }
 }
 
 // The kind of a directory or a file.
@@ -71,7 +67,13 @@ fn kind_of(directory: bool) -> Kind
 }
 
 // The change of a row that goes.
-fn gone(alloc: Global, stamp: Stamp, dirs: (NodeId, NodeId), name: Name, child: (NodeId, bool)) -> Change
+fn gone(
+    alloc: Global,
+    stamp: Stamp,
+    dirs: (NodeId, NodeId),
+    name: Name,
+    child: (NodeId, bool),
+) -> Change
     ensures { result ≡ gone_entry stamp.0 dirs.0.0 name child.0 child.1 dirs.1.0 }
 {
     Change {
