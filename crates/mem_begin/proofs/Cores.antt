@@ -6,8 +6,11 @@ use Rattle.stamp_table.specs.Hand.{Hand}
 use Rattle.stamp_table.specs.Table.{TableState, AreAllCores, AreNew, IsBetweenCalls}
 use Rattle.stamp_table.proofs.Beginning.{new_between}
 
-pub between_made : {C X V E : Type 0} (hands : V → List (Hand C X)) (cores : ℕ) (first : TreeState) (result : Result (TableState × V) E) → cores ≡ length first.made → IfOk result (λ made. made.0.first ≡ first) → IfOk result (λ made. length (hands made.1) ≡ cores)
-    → IfOk result (λ made. AreAllCores made.0 (hands made.1)) → IfOk result (λ made. AreNew first (hands made.1)) → IfOk result (λ made. All (IsBetweenCalls made.0) (hands made.1))
+pub between_made : {C X V E : Type 0} (hands : V → List (Hand C X)) (cores : ℕ) (first : TreeState) (result : Result (TableState × V) E)
+    → cores ≡ length first.made → IfOk result (λ made. made.0.first ≡ first) → IfOk result (λ made. length (hands made.1) ≡ cores)
+    → IfOk result (λ made. AreAllCores made.0 (hands made.1)) → IfOk result (λ made. AreNew first (hands made.1))
+    → IfOk result (λ made. All (IsBetweenCalls made.0) (hands made.1))
 between_made hands cores first (Ok made) as_many is count all new =
-    new_between made.0 0 (hands made.1) all.ready (subst (λ (f : TreeState). AreNew f (hands made.1)) (sym is) new) (let same = ap (λ (f : TreeState). length f.made) is in omega (arith, count, as_many, same))
+    new_between made.0 0 (hands made.1) all.ready (subst (λ (f : TreeState). AreNew f (hands made.1)) (sym is) new)
+    (let same = ap (λ (f : TreeState). length f.made) is in omega (arith, count, as_many, same))
 between_made hands cores first (Err fault) as_many is count all new = tt

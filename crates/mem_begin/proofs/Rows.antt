@@ -19,9 +19,11 @@ use Rattle.sfs_tree.proofs.Names.{entries-names_where}
 use Rattle.mem_values.specs.Stands.{if_directory}
 
 -- the names of one kind of row are at most all names of the directory
-fewer_names : (d : ℕ) (test : List ℕ → Bool) (rows : List (Key × ℕ)) → length (filter_map (name_row d test) rows) ≤ length (filter_map (name_row d (λ _. true)) rows)
+fewer_names : (d : ℕ) (test : List ℕ → Bool) (rows : List (Key × ℕ))
+    → length (filter_map (name_row d test) rows) ≤ length (filter_map (name_row d (λ _. true)) rows)
 fewer_names d test [] = omega arith
-fewer_names d test (row ∷ rows) = one (nat_eq row.0.0 d) (test row.0.1) (row.0.1, row.1) (filter_map (name_row d test) rows) (filter_map (name_row d (λ _. true)) rows) (fewer_names d test rows)
+fewer_names d test (row ∷ rows) = one (nat_eq row.0.0 d) (test row.0.1) (row.0.1, row.1) (filter_map (name_row d test) rows)
+    (filter_map (name_row d (λ _. true)) rows) (fewer_names d test rows)
   where
     one : (here passes : Bool) (name : List ℕ × ℕ) (some all : List (List ℕ × ℕ)) → length some ≤ length all
         → length (cons_option (cond (here && passes) (Some name) None) some) ≤ length (cons_option (cond (here && true) (Some name) None) all)
@@ -39,9 +41,11 @@ bucket_fits d number rows =
     omega (arith, small, here, all)
 
 -- a name below each name of some rows is below that at a place
-below_at : (name : List ℕ) (rows : List (List ℕ × ℕ)) (place : ℕ) (row : List ℕ × ℕ) → T (below_all name_cmp name rows) → slice_get rows place ≡ Some row → T (is_lt (name_cmp name row.0))
+below_at : (name : List ℕ) (rows : List (List ℕ × ℕ)) (place : ℕ) (row : List ℕ × ℕ) → T (below_all name_cmp name rows) → slice_get rows place ≡ Some row
+    → T (is_lt (name_cmp name row.0))
 below_at name [] place row below is = absurd (cc)
-below_at name (first ∷ rows) zero row below is = let same : first ≡ row = cc in subst (λ (r : List ℕ × ℕ). T (is_lt (name_cmp name r.0))) same (both_first _ _ below)
+below_at name (first ∷ rows) zero row below is = let same : first ≡ row = cc in
+    subst (λ (r : List ℕ × ℕ). T (is_lt (name_cmp name r.0))) same (both_first _ _ below)
 below_at name (first ∷ rows) (suc place) row below is = below_at name rows place row (both_second _ _ below) is
 
 -- what is above a name does not tie with it
@@ -54,23 +58,30 @@ not_tied name other less = by_order (name_cmp name other) refl less
     by_order Greater is lt = absurd lt
 
 -- the name at a place is none of those before it
-new_in : (rows : List (List ℕ × ℕ)) (place : ℕ) (name : List ℕ) (child : ℕ) → T (is_sorted name_cmp rows) → slice_get rows place ≡ Some (name, child) → find name_cmp name (take place rows) ≡ None
+new_in : (rows : List (List ℕ × ℕ)) (place : ℕ) (name : List ℕ) (child : ℕ) → T (is_sorted name_cmp rows) → slice_get rows place ≡ Some (name, child)
+    → find name_cmp name (take place rows) ≡ None
 new_in [] place name child sorted is = absurd (cc)
 new_in (first ∷ rows) zero name child sorted is = refl
 new_in (first ∷ rows) (suc place) name child sorted is =
-    ap (λ b. cond b (Some first.1) (find name_cmp name (take place rows))) (not_tied first.0 name (below_at first.0 rows place (name, child) (both_first _ _ sorted) is))
+    ap (λ b. cond b (Some first.1) (find name_cmp name (take place rows)))
+    (not_tied first.0 name (below_at first.0 rows place (name, child) (both_first _ _ sorted) is))
     ∙ new_in rows place name child (both_second _ _ sorted) is
 
 -- the rows before a place do not have the name at it
-pub new_name : (rows : FinMap name_cmp ℕ) (place : ℕ) (name : List ℕ) (child : ℕ) → slice_get (entries rows) place ≡ Some (name, child) → get (from_entries {R = name_cmp} (take place (entries rows))) name ≡ None
-new_name rows place name child is = get-from_entries nat_list_cmp_total (take place (entries rows)) name ∙ new_in (entries rows) place name child (entries_sorted rows) is
+pub new_name : (rows : FinMap name_cmp ℕ) (place : ℕ) (name : List ℕ) (child : ℕ) → slice_get (entries rows) place ≡ Some (name, child)
+    → get (from_entries {R = name_cmp} (take place (entries rows))) name ≡ None
+new_name rows place name child is = get-from_entries nat_list_cmp_total (take place (entries rows)) name
+    ∙ new_in (entries rows) place name child (entries_sorted rows) is
 
 -- with it they are those before the next place
 pub one_more_row : (rows : FinMap name_cmp ℕ) (place : ℕ) (name : List ℕ) (child : ℕ) → slice_get (entries rows) place ≡ Some (name, child)
     → insert (from_entries {R = name_cmp} (take place (entries rows))) name child ≡ from_entries (take (place + 1) (entries rows))
 one_more_row rows place name child is =
-    sym (from_entries_push nat_list_cmp_total name_cmp-IsAntisymmetric (take place (entries rows)) name child (new_in (entries rows) place name child (entries_sorted rows) is))
-    ∙ ap (from_entries {R = name_cmp}) (ap (λ (e : List ℕ × ℕ). take place (entries rows) ++ e ∷ []) (sym (get_or_from_slice_get (entries rows) place (name, child) (name, child) is)) ∙ sym (take_more (entries rows) place (name, child) (slice_get_within (entries rows) place (name, child) is)))
+    sym (from_entries_push nat_list_cmp_total name_cmp-IsAntisymmetric (take place (entries rows)) name child
+    (new_in (entries rows) place name child (entries_sorted rows) is))
+    ∙ ap (from_entries {R = name_cmp})
+    (ap (λ (e : List ℕ × ℕ). take place (entries rows) ++ e ∷ []) (sym (get_or_from_slice_get (entries rows) place (name, child) (name, child) is))
+    ∙ sym (take_more (entries rows) place (name, child) (slice_get_within (entries rows) place (name, child) is)))
 
 -- past the last place they are all
 pub all_rows : (rows : FinMap name_cmp ℕ) (place : ℕ) → length (entries rows) ≤ place → from_entries {R = name_cmp} (take place (entries rows)) ≡ rows
@@ -85,7 +96,8 @@ past_last (row ∷ rows) zero none = absurd (cc)
 past_last (row ∷ rows) (suc place) none = let less = past_last rows place none in omega (arith, less)
 
 -- a row more that names a directory
-pub directory_more : (tree : TreeState) (rows directories : FinMap name_cmp ℕ) (name : List ℕ) (child : ℕ) → is_directory tree child ≡ true → ((other : List ℕ) → get directories other ≡ if_directory tree (get rows other))
+pub directory_more : (tree : TreeState) (rows directories : FinMap name_cmp ℕ) (name : List ℕ) (child : ℕ) → is_directory tree child ≡ true
+    → ((other : List ℕ) → get directories other ≡ if_directory tree (get rows other))
     → (other : List ℕ) → get (insert directories name child) other ≡ if_directory tree (get (insert rows name child) other)
 directory_more tree rows directories name child is shows other =
     get-insert nat_list_cmp_total directories name child other
@@ -98,13 +110,16 @@ directory_more tree rows directories name child is shows other =
     by_test false = refl
 
 -- a new row that names no directory
-pub file_more : (tree : TreeState) (rows directories : FinMap name_cmp ℕ) (name : List ℕ) (child : ℕ) → is_directory tree child ≡ false → get rows name ≡ None → ((other : List ℕ) → get directories other ≡ if_directory tree (get rows other))
+pub file_more : (tree : TreeState) (rows directories : FinMap name_cmp ℕ) (name : List ℕ) (child : ℕ) → is_directory tree child ≡ false → get rows name ≡ None
+    → ((other : List ℕ) → get directories other ≡ if_directory tree (get rows other))
     → (other : List ℕ) → get directories other ≡ if_directory tree (get (insert rows name child) other)
 file_more tree rows directories name child is new shows other =
     shows other
     ∙ by_test (eq_by_cmp name_cmp other name) refl
     ∙ ap (if_directory tree) (sym (get-insert nat_list_cmp_total rows name child other))
   where
-    by_test : (same : Bool) → eq_by_cmp name_cmp other name ≡ same → if_directory tree (get rows other) ≡ if_directory tree (cond same (Some child) (get rows other))
-    by_test true same = ap (if_directory tree) (ap (get rows) (name_cmp-IsAntisymmetric other name (is_equal (name_cmp other name) same)) ∙ new) ∙ sym (ap (λ b. cond b (Some child) None) is)
+    by_test : (same : Bool) → eq_by_cmp name_cmp other name ≡ same
+        → if_directory tree (get rows other) ≡ if_directory tree (cond same (Some child) (get rows other))
+    by_test true same = ap (if_directory tree) (ap (get rows) (name_cmp-IsAntisymmetric other name (is_equal (name_cmp other name) same)) ∙ new)
+        ∙ sym (ap (λ b. cond b (Some child) None) is)
     by_test false same = refl

@@ -14,7 +14,7 @@ use Rattle.mem_values.specs.declared.cell_id.CellId.TheVariants as id
 use Rattle.mem_values.specs.Stands.{if_directory}
 
 -- A tree with which a table may begin: it is sound, no file is longer than one may be, and no core has made a node.
-pub record MayBegin (tree : TreeState) : Type 0 where
+pub record CanBeginTable (tree : TreeState) : Type 0 where
   pub sound : IsSound tree
   pub short : (node : ℕ) → length (bytes_of tree node) ≤ LARGEST_FILE
   pub unmade : (core : ℕ) → made_by tree core ≡ 0

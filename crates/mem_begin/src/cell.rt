@@ -1,7 +1,7 @@
 // What each cell begins with.
 ghost use Rattle.std.specs.Prelude.{◌≡◌, [], ℕ, IfOk};
 ghost use Rattle.mem_values.specs.Home.{BeginsAs};
-ghost use Rattle.mem_begin.specs.Beginning.{MayBegin, given_in, given_of, IsGivenOf, IsFlushedOf};
+ghost use Rattle.mem_begin.specs.Beginning.{CanBeginTable, given_in, given_of, IsGivenOf, IsFlushedOf};
 
 use crate::bucket::bucket_of;
 use crate::file::file_of;
@@ -30,7 +30,7 @@ pub(crate) fn begin_cell<T: Given>(
     cell: CellId,
     old: Option<OldNode>,
 ) -> Result<Cell, NoMemory>
-    requires begins { MayBegin tree.now }
+    requires begins { CanBeginTable tree.now }
     requires given { IsGivenOf T.given cell old }
     ensures { IfOk result (BeginsAs T.given tree.now cell) }
 {

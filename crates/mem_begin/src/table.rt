@@ -3,7 +3,7 @@ ghost use Rattle.std.specs.Prelude.{◌≡◌, ◌-◌, ◌+◌, ◌*◌, ◌<�
 ghost use Rattle.stamp_table.specs.Table.{AreAllCores, AreNew, IsBetweenCalls};
 ghost use Rattle.mem_values.specs.Places.{node_count, place_count};
 ghost use Rattle.mem_values.specs.Stands.{StandsAt};
-ghost use Rattle.mem_begin.specs.Beginning.{MayBegin, HasGivenBelow, given_in, nodes_below};
+ghost use Rattle.mem_begin.specs.Beginning.{CanBeginTable, HasGivenBelow, given_in, nodes_below};
 ghost use Rattle.mem_begin.specs.Standing.{AreLastCells};
 
 use crate::cell::{begin_cell, take_given};
@@ -23,7 +23,7 @@ fn begin_place<T: Given>(
     nodes: u32,
     place: usize,
 ) -> Result<Cell, NoMemory>
-    requires begins { MayBegin tree.now }
+    requires begins { CanBeginTable tree.now }
     requires nodes { nodes ≡ node_count tree.now }
     requires place { place < place_count nodes 256 }
     requires given { HasGivenBelow T.given (nodes_below nodes (place + 1)) given.old.items }
@@ -44,7 +44,7 @@ fn cells_of<T: Given>(
     nodes: u32,
     cores: u8,
 ) -> Result<Vec<Cell>, NoMemory>
-    requires begins { MayBegin tree.now }
+    requires begins { CanBeginTable tree.now }
     requires given { T.given ≡ given_in given.items }
     requires nodes { nodes ≡ node_count tree.now }
     requires cores { cores ≡ length tree.now.made }
@@ -72,7 +72,7 @@ pub fn make<T: Given>(
     nodes: u32,
     cores: u8,
 ) -> Result<(FileShared<T>, Vec<FileCore>), NoMemory>
-    requires begins { MayBegin tree.now }
+    requires begins { CanBeginTable tree.now }
     requires given { T.given ≡ given_in given.items }
     requires nodes { nodes ≡ node_count tree.now }
     requires cores { (0 < cores) × (cores ≡ length tree.now.made) }

@@ -20,53 +20,66 @@ use Rattle.mem_calls.specs.Table.{IsFileTable}
 use Rattle.mem_calls.proofs.Stamped as stamped
 use Rattle.mem_rename.specs.declared.sides.Move.{Move}
 use Rattle.mem_rename.specs.declared.plans.Plan.{Plan}
-use Rattle.mem_rename.specs.Seen.{Seen, call_of, rename_by}
-use Rattle.mem_rename.specs.Ready.{seen_of, IsWithin, IsReady, MayMeetOn}
+use Rattle.mem_rename.specs.Sights.{Sight, rename_call, rename_by}
+use Rattle.mem_rename.specs.Ready.{seen_of, AreSidesWithin, HoldsRename, MayMeetOn}
 use Rattle.mem_rename.proofs.Verdicts.{renames_are_as_seen}
 use Rattle.mem_rename.proofs.Stamped.{still_read, calls_may_come_on_a_way}
 use Rattle.mem_rename.proofs.Readies as readies
 use Rattle.mem_rename.proofs.Fitted.{keeps_or_holds}
 
-module _ (given : ℕ → Option OldKept) (t : TableState) (nodes : ℕ) (table : IsFileTable t nodes) (move : Move) (within : IsWithin nodes move) (plan : Plan) (above : List ℕ) (hand : Hand Cell Fact)
-    (ready : IsReady given t nodes move plan above hand) where
-  abbrev seen : Seen
+module _ (given : ℕ → Option OldKept) (t : TableState) (nodes : ℕ) (table : IsFileTable t nodes) (move : Move) (within : AreSidesWithin nodes move)
+    (plan : Plan) (above : List ℕ) (hand : Hand Cell Fact)
+    (ready : HoldsRename given t nodes move plan above hand) where
+  abbrev seen : Sight
   seen = seen_of nodes hand.held move plan above
 
   -- in each tree that the core may meet the verdict is what the values say
-  pub verdict_on : (tree : TreeState) → MayMeetOn plan move.to_directory.0 above hand tree → verdict tree hand.view.core (call_of move) ≡ rename_by seen move
-  verdict_on tree on = renames_are_as_seen tree hand.view.core move seen on.meets.sound (readies.shows_move given t nodes table move within plan above hand ready tree on)
+  pub verdict_on : (tree : TreeState) → MayMeetOn plan move.to_directory.0 above hand tree
+      → verdict tree hand.view.core (rename_call move) ≡ rename_by seen move
+  verdict_on tree on = renames_are_as_seen tree hand.view.core move seen on.meets.sound
+      (readies.shows_move given t nodes table move within plan above hand ready tree on)
 
-  fits : (tree : TreeState) → MayMeetOn plan move.to_directory.0 above hand tree → CallFits hand.view tree (call_of move) (rename_by seen move).reply
+  fits : (tree : TreeState) → MayMeetOn plan move.to_directory.0 above hand tree → CallFits hand.view tree (rename_call move) (rename_by seen move).reply
   fits tree on = record {
     due = sym (ap (λ (w : Verdict). w.reply) (verdict_on tree on));
     unanswered = refl;
     keeps = λ which is_cell.
         elim (keeps_or_holds given t nodes table move within plan above hand ready tree on which
-        (subst (λ (f : TreeState). IsCell nodes (length f.made) which) ready.work.first (subst (λ n. IsCell n (length hand.view.first.made) which) (sym (stamped.counted given t nodes hand table ready.work)) is_cell))) [
+        (subst (λ (f : TreeState). IsCell nodes (length f.made) which) ready.work.first
+        (subst (λ n. IsCell n (length hand.view.first.made) which) (sym (stamped.counted given t nodes hand table ready.work)) is_cell))) [
           | inl kept ↦ inl kept
-          | inr held ↦ inr (subst (λ n. Has hand.view.held (cell_place n which)) (stamped.counted given t nodes hand table ready.work) (stamped.held_has given t nodes hand table ready.work which held))
+          | inr held ↦ inr (subst (λ n. Has hand.view.held (cell_place n which)) (stamped.counted given t nodes hand table ready.work)
+              (stamped.held_has given t nodes hand table ready.work which held))
         ];
   }
 
   -- So it may be stamped.
-  pub may_come : MayCall (IsLawfulLog given) (StandsAt given) hand.view (call_of move) (rename_by seen move).reply
+  pub may_come : MayCall (IsLawfulLog given) (StandsAt given) hand.view (rename_call move) (rename_by seen move).reply
   may_come = elim (true_or_false (is_some plan.comes)) [
-    | inl comes ↦ calls_may_come_on_a_way given hand.view hand.held move.to_directory.0 above (call_of move) (rename_by seen move).reply (stamped.sound given t nodes hand table ready.work) (stamped.core_known given t nodes hand table ready.work)
+    | inl comes ↦ calls_may_come_on_a_way given hand.view hand.held move.to_directory.0 above (rename_call move) (rename_by seen move).reply
+        (stamped.sound given t nodes hand table ready.work) (stamped.core_known given t nodes hand table ready.work)
         ready.work.knows (ready.read comes) (λ tree meets holders. fits tree (record { meets = meets; holders = λ _. holders }))
-    | inr none ↦ calls_may_come given hand.view hand.held (call_of move) (rename_by seen move).reply (stamped.sound given t nodes hand table ready.work) (stamped.core_known given t nodes hand table ready.work)
+    | inr none ↦ calls_may_come given hand.view hand.held (rename_call move) (rename_by seen move).reply (stamped.sound given t nodes hand table ready.work)
+        (stamped.core_known given t nodes hand table ready.work)
         ready.work.knows (λ tree meets. fits tree (record { meets = meets; holders = λ comes. absurd (not_both comes none) }))
   ]
 
   -- at its stamp it may meet the tree, on the way that it has read
-  pub on_stamped : (reply : Reply) (number : ℕ) (mid : Hand Cell Fact) (stamps : Stamps (IsLawfulLog given) (StandsAt given) (call_of move) reply hand number mid)
-      → MayMeetOn plan move.to_directory.0 above hand (stamped.tree given t nodes hand table ready.work (call_of move) reply number mid stamps)
+  pub on_stamped : (reply : Reply) (number : ℕ) (mid : Hand Cell Fact)
+      (stamps : Stamps (IsLawfulLog given) (StandsAt given) (rename_call move) reply hand number mid)
+      → MayMeetOn plan move.to_directory.0 above hand (stamped.tree given t nodes hand table ready.work (rename_call move) reply number mid stamps)
   on_stamped reply number mid stamps = record {
-    meets = stamped.meets given t nodes hand table ready.work (call_of move) reply number mid stamps;
-    holders = λ comes. still_read given hand.view (stamped.log given t nodes hand table ready.work (call_of move) reply number mid stamps) move.to_directory.0 above (stamped.sound given t nodes hand table ready.work)
-        (stamped.past given t nodes hand table ready.work (call_of move) reply number mid stamps) (ready.read comes);
+    meets = stamped.meets given t nodes hand table ready.work (rename_call move) reply number mid stamps;
+    holders = λ comes. still_read given hand.view
+        (stamped.log given t nodes hand table ready.work (rename_call move) reply number mid stamps) move.to_directory.0 above
+        (stamped.sound given t nodes hand table ready.work)
+        (stamped.past given t nodes hand table ready.work (rename_call move) reply number mid stamps) (ready.read comes);
   }
 
   -- and the verdict is this
-  pub verdict_stamped : (reply : Reply) (number : ℕ) (mid : Hand Cell Fact) (stamps : Stamps (IsLawfulLog given) (StandsAt given) (call_of move) reply hand number mid)
-      → verdict (stamped.tree given t nodes hand table ready.work (call_of move) reply number mid stamps) hand.view.core (call_of move) ≡ rename_by seen move
-  verdict_stamped reply number mid stamps = verdict_on (stamped.tree given t nodes hand table ready.work (call_of move) reply number mid stamps) (on_stamped reply number mid stamps)
+  pub verdict_stamped : (reply : Reply) (number : ℕ) (mid : Hand Cell Fact)
+      (stamps : Stamps (IsLawfulLog given) (StandsAt given) (rename_call move) reply hand number mid)
+      → verdict (stamped.tree given t nodes hand table ready.work (rename_call move) reply number mid stamps) hand.view.core
+      (rename_call move) ≡ rename_by seen move
+  verdict_stamped reply number mid stamps = verdict_on (stamped.tree given t nodes hand table ready.work (rename_call move) reply number mid stamps)
+      (on_stamped reply number mid stamps)

@@ -12,7 +12,7 @@ use Rattle.sfs_tree.proofs.Joined.{name_cmp-IsAntisymmetric, bucket_small}
 use Rattle.sfs_tree.proofs.Names.{get-own_bucket, get-names_where}
 use Rattle.sfs_tree.proofs.RowFacts.{no_rows, has_row, some_not_none}
 use Rattle.mem_values.specs.declared.bucket.Bucket.{Bucket}
-use Rattle.mem_rename.specs.Seen.{are_bare, ShowBucketsFrom}
+use Rattle.mem_rename.specs.Sights.{are_bare, ShowBucketsFrom}
 
 no_either : (b : Bool) → ◌≡◌ {A = Option ℕ} (cond b None None) None
 no_either true = refl
@@ -27,7 +27,8 @@ module _ (tree : TreeState) (directory : ℕ) where
   bare_bucket none number =
       ap len (same_map nat_list_cmp_total name_cmp-IsAntisymmetric (rows_in number) empty (λ n.
       get-names_where directory (λ name. nat_eq (name_bucket name) number) tree.rows n
-      ∙ (ap (λ o. cond (nat_eq (name_bucket n) number) o None) (no_rows tree directory none n) ∙ (no_either (nat_eq (name_bucket n) number) ∙ sym (get-empty name_cmp n)))))
+      ∙ (ap (λ o. cond (nat_eq (name_bucket n) number) o None) (no_rows tree directory none n)
+      ∙ (no_either (nat_eq (name_bucket n) number) ∙ sym (get-empty name_cmp n)))))
       ∙ len-empty name_cmp ℕ
 
   bare_shown : row_count tree directory ≡ 0 → (number : ℕ) (buckets : List Bucket) → ShowBucketsFrom tree directory number buckets → are_bare buckets ≡ true
@@ -36,7 +37,8 @@ module _ (tree : TreeState) (directory : ℕ) where
       and_from _ _ (eq-eqb (len b.rows) 0 (ap len show.0.rows ∙ bare_bucket none number)) (bare_shown none (number + 1) buckets show.1)
 
   -- of bare buckets each one from the first on has no row
-  each_bare : (number : ℕ) (buckets : List Bucket) → ShowBucketsFrom tree directory number buckets → are_bare buckets ≡ true → (k : ℕ) → number ≤ k → k < 8 → len (rows_in k) ≡ 0
+  each_bare : (number : ℕ) (buckets : List Bucket) → ShowBucketsFrom tree directory number buckets → are_bare buckets ≡ true → (k : ℕ) → number ≤ k → k < 8
+      → len (rows_in k) ≡ 0
   each_bare number [] end bare k le lt = absurd (past end le lt)
     where
       past : {n k : ℕ} → n ≡ 8 → n ≤ k → k < 8 → ⊥
@@ -54,7 +56,8 @@ module _ (tree : TreeState) (directory : ℕ) where
   rows_counted buckets show bare some =
       let row = has_row tree directory some in
       let none = each_bare 0 buckets show bare (name_bucket row.0) (omega arith) (bucket_small row.0) in
-      some_not_none (get (rows_in (name_bucket row.0)) row.0) row.1 (get-own_bucket directory row.0 tree.rows ∙ row.2) (ap (λ m. get m row.0) (empty_of_len (rows_in (name_bucket row.0)) none) ∙ get-empty name_cmp row.0)
+      some_not_none (get (rows_in (name_bucket row.0)) row.0) row.1 (get-own_bucket directory row.0 tree.rows ∙ row.2)
+      (ap (λ m. get m row.0) (empty_of_len (rows_in (name_bucket row.0)) none) ∙ get-empty name_cmp row.0)
 
   -- So all eight buckets are bare exactly where the directory has no row.
   pub bare_told : (buckets : List Bucket) → ShowBucketsFrom tree directory 0 buckets → are_bare buckets ≡ nat_eq (row_count tree directory) 0

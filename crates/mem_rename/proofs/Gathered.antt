@@ -37,12 +37,14 @@ use Rattle.mem_rename.proofs.Upwards.{read_ways_stay}
 use Rattle.mem_rename.proofs.SoFar.{works_on_both, holds_still}
 
 -- what a core knows stands for what it has seen
-pub each_known : (given : ℕ → Option OldKept) (view : View TreeState (Event Fact)) (cells : List (HeldCell Cell)) → KnowsCells given view cells → EachFrom 0 (Stands (IsLawfulLog given) (StandsAt given) view) cells
+pub each_known : (given : ℕ → Option OldKept) (view : View TreeState (Event Fact)) (cells : List (HeldCell Cell)) → KnowsCells given view cells
+    → EachFrom 0 (Stands (IsLawfulLog given) (StandsAt given) view) cells
 each_known given view [] knows = tt
 each_known given view (c ∷ cells) knows = ((λ le. knows.0.stood), each_known given view cells knows.1)
 
 -- a core that lets go of all has made no call
-pub refused : (given : ℕ → Option OldKept) (t : TableState) (before after : Hand Cell Fact) → IsWorking given t before → LetsGo before after → after.held ≡ left_below 0 before.held → after.view.held ≡ reverse (places_of after.held) → IsRefused t before after
+pub refused : (given : ℕ → Option OldKept) (t : TableState) (before after : Hand Cell Fact) → IsWorking given t before → LetsGo before after
+    → after.held ≡ left_below 0 before.held → after.view.held ≡ reverse (places_of after.held) → IsRefused t before after
 refused given t before after work lets left places =
     let none : after.held ≡ [] = left ∙ none_left before.held in
     let core_is : after.view.core ≡ before.view.core = ap (λ (v : View TreeState (Event Fact)). v.core) lets.view in
@@ -68,14 +70,17 @@ refused given t before after work lets left places =
       mine = ap (λ (v : View TreeState (Event Fact)). v.mine) lets.view;
     }
 
-module _ (given : ℕ → Option OldKept) (t : TableState) (nodes : ℕ) (table : IsFileTable t nodes) (move : Move) (plan : Plan) (above : List ℕ) (before locked asked after : Hand Cell Fact)
-    (work_locked : IsWorking given t locked) (work : IsWorking given t after) (on_locked : WorksOn before locked) (holds : HoldsAsked nodes (asked_cells move plan) locked asked)
+module _ (given : ℕ → Option OldKept) (t : TableState) (nodes : ℕ) (table : IsFileTable t nodes) (move : Move) (plan : Plan) (above : List ℕ)
+    (before locked asked after : Hand Cell Fact)
+    (work_locked : IsWorking given t locked) (work : IsWorking given t after) (on_locked : WorksOn before locked)
+    (holds : HoldsAsked nodes (asked_cells move plan) locked asked)
     (on : WorksOn asked after) (still : StillHolds nodes asked after) (legal : IsLegal after.view.first (calls_in after.view.seen))
     (lock : is_some plan.comes ≡ true → HoldsLock locked) (read : is_some plan.comes ≡ true → HasReadAll locked move.to_directory.0 above) where
   lock_value : (comes : is_some plan.comes ≡ true) → value_held nodes locked.held id.Lock ≡ Some (lock comes).lock.value
   lock_value comes =
       ap (λ l. value_held nodes l id.Lock) (lock comes).alone
-      ∙ ap (λ b. option_map (λ (h : HeldCell Cell). h.value) (if b then Some (lock comes).lock else Rattle.std.proofs.Common.None)) (eq-eqb (lock comes).lock.place 0 (lock comes).place)
+      ∙ ap (λ b. option_map (λ (h : HeldCell Cell). h.value) (if b then Some (lock comes).lock else Rattle.std.proofs.Common.None))
+      (eq-eqb (lock comes).lock.place 0 (lock comes).place)
 
   still_locked : (which : CellId) (value : Cell) → value_held nodes locked.held which ≡ Some value → value_held nodes after.held which ≡ Some value
   still_locked which value is = still.values which value (holds.still.values which value is)
@@ -97,12 +102,14 @@ module _ (given : ℕ → Option OldKept) (t : TableState) (nodes : ℕ) (table 
         lock = h.0;
         knows = knows;
         there = sym place;
-        holders = subst (λ (z : TreeState × List (Event Fact)). AreHolders (tree_after z.0 (calls_in z.1)) move.to_directory.0 above) (λ i. (sym first_same i, seen.seen.1 i))
+        holders = subst (λ (z : TreeState × List (Event Fact)). AreHolders (tree_after z.0 (calls_in z.1)) move.to_directory.0 above)
+            (λ i. (sym first_same i, seen.seen.1 i))
             (read_ways_stay given locked.view.first locked.view.seen seen.seen.0 (lock comes).lock.value move.to_directory.0 above
             (subst IsSoundTree (sym work_locked.first) table.sound)
             (subst (λ (z : TreeState × List (Event Fact)). IsLegal z.0 (calls_in z.1)) (λ i. (first_same i, sym seen.seen.1 i)) legal)
             (knew.stood id.Lock tt (sym (lock comes).place))
-            (subst (λ (z : TreeState × List (Event Fact)). StandsForCell given z.0 (account_of z.1) id.Lock (lock comes).lock.value) (λ i. (first_same i, sym seen.seen.1 i))
+            (subst (λ (z : TreeState × List (Event Fact)). StandsForCell given z.0 (account_of z.1) id.Lock (lock comes).lock.value)
+            (λ i. (first_same i, sym seen.seen.1 i))
             (subst (StandsForCell given after.view.first (account_of after.view.seen) id.Lock) h.2 (knows.stood id.Lock tt (sym place))))
             (read comes).holders);
       }

@@ -29,7 +29,7 @@ use Rattle.mem_values.specs.Stands.{ShowsBucket, if_directory, file_links}
 use Rattle.mem_values.specs.Touches.{touches_standing}
 use Rattle.mem_values.proofs.Standing.{standing_stays}
 use Rattle.mem_rename.specs.declared.sides.Move.{Move}
-use Rattle.mem_rename.specs.Seen.{Seen, call_of, there_seen, moves_directory, meets_directory, goes_between, ShowsMove}
+use Rattle.mem_rename.specs.Sights.{Sight, rename_call, there_seen, moves_directory, meets_directory, goes_between, ShowsMove}
 use Rattle.mem_rename.specs.After.{rows_moved, directories_moved, stands_moved, IsMovedBucket}
 use Rattle.mem_rename.specs.Laws.{MovedBucketsShow, ReplacedFilesLoseALink}
 use Rattle.mem_rename.proofs.Told.{some_counted}
@@ -38,7 +38,8 @@ use Rattle.mem_rename.proofs.Moved.{MovesChild, moves_child, is_this_there}
 use Rattle.mem_rename.proofs.Logged.{not_refused}
 use Rattle.mem_rename.proofs.Rows.{TellsDirectories, tells_gone, tells_come, tells_over, gone_or_same}
 
-module _ (tree : TreeState) (core : ℕ) (move : Move) (seen : Seen) (is : IsSoundTree tree) (lt : core < length tree.made) (shows : ShowsMove tree move seen) (child : ℕ) (moves : MovesChild tree core move child) where
+module _ (tree : TreeState) (core : ℕ) (move : Move) (seen : Sight) (is : IsSoundTree tree) (lt : core < length tree.made) (shows : ShowsMove tree move seen)
+    (child : ℕ) (moves : MovesChild tree core move child) where
   abbrev p : ℕ
   p = move.directory.0
 
@@ -55,7 +56,7 @@ module _ (tree : TreeState) (core : ℕ) (move : Move) (seen : Seen) (is : IsSou
   effect = Moves p n q m child
 
   abbrev next : TreeState
-  next = tree_after_call tree core (call_of move)
+  next = tree_after_call tree core (rename_call move)
 
   abbrev moved : TreeState
   moved = tree_with tree core effect None
@@ -64,10 +65,10 @@ module _ (tree : TreeState) (core : ℕ) (move : Move) (seen : Seen) (is : IsSou
   next_is = λ i. tree_with tree core (moves.effect i) (moves.makes i)
 
   pub fits : FitsMoves tree p n q m child
-  fits = subst (λ (z : Effect × Option Kind). Fits tree core z.0 z.1) (λ i. (moves.effect i, moves.makes i)) (calls_fit tree core (call_of move) is lt)
+  fits = subst (λ (z : Effect × Option Kind). Fits tree core z.0 z.1) (λ i. (moves.effect i, moves.makes i)) (calls_fit tree core (rename_call move) is lt)
 
   moved_sound : IsSound moved
-  moved_sound = subst IsSound next_is (calls_keep_sound tree core (call_of move) is lt).sound
+  moved_sound = subst IsSound next_is (calls_keep_sound tree core (rename_call move) is lt).sound
 
   never : {a : Effect} → a ≡ Stays → a ≡ effect → ⊥
   never {a} stays moved_is = apart (sym stays ∙ moved_is)
@@ -90,7 +91,8 @@ module _ (tree : TreeState) (core : ℕ) (move : Move) (seen : Seen) (is : IsSou
   place_free = (not_so _ _ _ (unrefused (names_child (row_of tree q m) child) (move_fault tree child q m) row_effect)).1
 
   -- a file does not take a directory's place
-  no_directory : is_directory tree child ≡ false → (there : Option ℕ) → row_of tree q m ≡ there → place_fault tree child q m there ≡ None → if_directory tree there ≡ None
+  no_directory : is_directory tree child ≡ false → (there : Option ℕ) → row_of tree q m ≡ there → place_fault tree child q m there ≡ None
+      → if_directory tree there ≡ None
   no_directory file None met free = refl
   no_directory file (Some there) met free =
       let second = (not_so _ _ _ (not_so _ _ _ free).1).0 in
@@ -107,30 +109,39 @@ module _ (tree : TreeState) (core : ℕ) (move : Move) (seen : Seen) (is : IsSou
     rows_next = parts_after tree core effect None directory test
 
     -- once the old row went, no directory stands at the new one
-    free_there : is_directory tree child ≡ false → is_in_part directory test q m ≡ true → if_directory tree (get (part_without directory test p n rows) m) ≡ None
+    free_there : is_directory tree child ≡ false → is_in_part directory test q m ≡ true
+        → if_directory tree (get (part_without directory test p n rows) m) ≡ None
     free_there file here =
         let at : q ≡ directory = eqb-true _ _ (and_first _ _ here) in
-        let met : get rows m ≡ row_of tree q m = get-names_where directory test tree.rows m ∙ (ap (λ b. cond b (get tree.rows (directory, m)) None) (and_second (nat_eq q directory) _ here) ∙ ap (λ d. row_of tree d m) (sym at)) in
+        let met : get rows m ≡ row_of tree q m = get-names_where directory test tree.rows m
+        ∙ (ap (λ b. cond b (get tree.rows (directory, m)) None) (and_second (nat_eq q directory) _ here) ∙ ap (λ d. row_of tree d m) (sym at)) in
         elim (gone_or_same directory test p n rows m) [
           | inl none ↦ ap (if_directory tree) none
           | inr same ↦ ap (if_directory tree) (same ∙ met) ∙ no_directory file (row_of tree q m) refl place_free
         ]
 
-    directories_next : (directories : FinMap name_cmp ℕ) (kind : Bool) → is_directory tree child ≡ kind → TellsDirectories tree directories rows → TellsDirectories tree (directories_moved move kind child directory number directories) (rows_moved move child directory number rows)
+    directories_next : (directories : FinMap name_cmp ℕ) (kind : Bool) → is_directory tree child ≡ kind → TellsDirectories tree directories rows
+        → TellsDirectories tree (directories_moved move kind child directory number directories) (rows_moved move child directory number rows)
     directories_next directories true kind tells =
-        tells_come tree directory test q m (part_without directory test p n directories) (part_without directory test p n rows) (tells_gone tree directory test p n directories rows tells) child kind
+        tells_come tree directory test q m (part_without directory test p n directories) (part_without directory test p n rows)
+        (tells_gone tree directory test p n directories rows tells) child kind
     directories_next directories false file tells =
-        tells_over tree directory test q m (part_without directory test p n directories) (part_without directory test p n rows) (tells_gone tree directory test p n directories rows tells) child file (free_there file)
+        tells_over tree directory test q m (part_without directory test p n directories) (part_without directory test p n rows)
+        (tells_gone tree directory test p n directories rows tells) child file (free_there file)
 
     -- a bucket's rows and those that name directories
-    pub rows_home : (before after : Bucket) → ShowsBucket tree directory number before → IsMovedBucket seen move child directory number before after → after.rows ≡ bucket_rows directory number next.rows
-    rows_home before after shown is_moved = is_moved.rows ∙ (ap (rows_moved move child directory number) shown.rows ∙ (sym rows_next ∙ ap (λ (t : TreeState). bucket_rows directory number t.rows) (sym next_is)))
+    pub rows_home : (before after : Bucket) → ShowsBucket tree directory number before → IsMovedBucket seen move child directory number before after
+        → after.rows ≡ bucket_rows directory number next.rows
+    rows_home before after shown is_moved = is_moved.rows
+        ∙ (ap (rows_moved move child directory number) shown.rows ∙ (sym rows_next ∙ ap (λ (t : TreeState). bucket_rows directory number t.rows) (sym next_is)))
 
-    pub directories_home : (before after : Bucket) → ShowsBucket tree directory number before → IsMovedBucket seen move child directory number before after → (name : List ℕ) → get after.directories name ≡ if_directory next (get (bucket_rows directory number next.rows) name)
+    pub directories_home : (before after : Bucket) → ShowsBucket tree directory number before → IsMovedBucket seen move child directory number before after
+        → (name : List ℕ) → get after.directories name ≡ if_directory next (get (bucket_rows directory number next.rows) name)
     directories_home before after shown is_moved name =
         ap (λ (d : FinMap name_cmp ℕ). get d name) is_moved.directories
         ∙ (directories_next before.directories (moves_directory seen move) (sym (child_kind tree move seen is shows child moves.row)) shown.directories name
-        ∙ (ap (λ (r : FinMap name_cmp ℕ). if_directory moved (get r name)) (sym rows_next) ∙ ap (λ (t : TreeState). if_directory t (get (bucket_rows directory number t.rows) name)) (sym next_is)))
+        ∙ (ap (λ (r : FinMap name_cmp ℕ). if_directory moved (get r name)) (sym rows_next)
+        ∙ ap (λ (t : TreeState). if_directory t (get (bucket_rows directory number t.rows) name)) (sym next_is)))
 
   abbrev stood : ℕ → Option ℕ
   stood directory = stands_of tree directory
@@ -156,20 +167,24 @@ module _ (tree : TreeState) (core : ℕ) (move : Move) (seen : Seen) (is : IsSou
   ]
 
   -- any other directory stands where it did
-  others_stay : (directory : ℕ) → (goes_between seen move && nat_eq child directory) ≡ false → (meets_directory seen move && is_this directory (there_seen seen move)) ≡ false → stands_of next directory ≡ stood directory
-  others_stay directory not_child not_there = elim (true_or_false (touches_standing tree core (call_of move) directory)) [
-    | inr untouched ↦ standing_stays tree core (call_of move) directory is lt untouched
+  others_stay : (directory : ℕ) → (goes_between seen move && nat_eq child directory) ≡ false
+      → (meets_directory seen move && is_this directory (there_seen seen move)) ≡ false → stands_of next directory ≡ stood directory
+  others_stay directory not_child not_there = elim (true_or_false (touches_standing tree core (rename_call move) directory)) [
+    | inr untouched ↦ standing_stays tree core (rename_call move) directory is lt untouched
     | inl touched ↦
         let kind = and_first _ _ touched in
         absurd (elim (true_or_false (is_this directory (row_of tree q m))) [
           | inl met ↦
               let there = is_this_there directory _ met in
-              wrong (ap₂ (λ k o. k && is_this directory o) (there_kind tree move seen is shows directory there ∙ kind) (there_row tree move seen is shows) ∙ met) not_there
+              wrong (ap₂ (λ k o. k && is_this directory o) (there_kind tree move seen is shows directory there ∙ kind) (there_row tree move seen is shows)
+              ∙ met) not_there
           | inr apart ↦
-              let source : (not (nat_eq p q) && is_this directory (row_of tree p n)) ≡ true = sym (ap (λ b. b || (not (nat_eq p q) && is_this directory (row_of tree p n))) apart) ∙ and_second (is_directory tree directory) _ touched in
+              let source : (not (nat_eq p q) && is_this directory (row_of tree p n)) ≡ true = sym
+              (ap (λ b. b || (not (nat_eq p q) && is_this directory (row_of tree p n))) apart) ∙ and_second (is_directory tree directory) _ touched in
               let row = is_this_there directory _ (and_second (not (nat_eq p q)) _ source) in
               let same : child ≡ directory = some_is child directory (sym moves.row ∙ row) in
-              wrong (ap₂ (λ b c. b && c) (ap₂ (λ s k. s && k) (and_first (not (nat_eq p q)) _ source) (child_kind tree move seen is shows directory row ∙ kind)) (eq-eqb child directory same)) not_child
+              wrong (ap₂ (λ b c. b && c) (ap₂ (λ s k. s && k) (and_first (not (nat_eq p q)) _ source) (child_kind tree move seen is shows directory row ∙ kind))
+              (eq-eqb child directory same)) not_child
         ])
   ]
     where
@@ -180,19 +195,23 @@ module _ (tree : TreeState) (core : ℕ) (move : Move) (seen : Seen) (is : IsSou
   stands_home directory = elim (true_or_false (goes_between seen move && nat_eq child directory)) [
     | inl comes ↦
         ap (λ b. cond b (Some q) (cond (meets_directory seen move && is_this directory (there_seen seen move)) None (stood directory))) comes
-        ∙ sym (ap (λ t. stands_of t directory) next_is ∙ comes_home directory (and_first _ _ comes) (eqb-true _ _ (and_second (goes_between seen move) _ comes)))
+        ∙ sym (ap (λ t. stands_of t directory) next_is
+        ∙ comes_home directory (and_first _ _ comes) (eqb-true _ _ (and_second (goes_between seen move) _ comes)))
     | inr not_child ↦
         ap (λ b. cond b (Some q) (cond (meets_directory seen move && is_this directory (there_seen seen move)) None (stood directory))) not_child
         ∙ elim (true_or_false (meets_directory seen move && is_this directory (there_seen seen move))) [
           | inl met ↦
-              let there : row_of tree q m ≡ Some directory = sym (there_row tree move seen is shows) ∙ is_this_there directory _ (and_second (meets_directory seen move) _ met) in
+              let there : row_of tree q m ≡ Some directory = sym (there_row tree move seen is shows)
+              ∙ is_this_there directory _ (and_second (meets_directory seen move) _ met) in
               ap (λ b. cond b None (stood directory)) met
-              ∙ sym (ap (λ t. stands_of t directory) next_is ∙ replaced_home directory (sym (there_kind tree move seen is shows directory there) ∙ and_first _ _ met) there)
+              ∙ sym (ap (λ t. stands_of t directory) next_is
+              ∙ replaced_home directory (sym (there_kind tree move seen is shows directory there) ∙ and_first _ _ met) there)
           | inr not_there ↦ ap (λ b. cond b None (stood directory)) not_there ∙ sym (others_stay directory not_child not_there)
         ]
   ]
 
-  bucket_home : (directory number : ℕ) (before after : Bucket) → ShowsBucket tree directory number before → IsMovedBucket seen move child directory number before after → ShowsBucket next directory number after
+  bucket_home : (directory number : ℕ) (before after : Bucket) → ShowsBucket tree directory number before
+      → IsMovedBucket seen move child directory number before after → ShowsBucket next directory number after
   bucket_home directory number before after shown is_moved = record {
     rows = rows_home directory number before after shown is_moved;
     directories = directories_home directory number before after shown is_moved;
@@ -203,7 +222,8 @@ module _ (tree : TreeState) (core : ℕ) (move : Move) (seen : Seen) (is : IsSou
   file_home : (there : ℕ) → row_of tree q m ≡ Some there → is_directory tree there ≡ false → file_links next there + 1 ≡ file_links tree there
   file_home there met file =
       let alive = named_alive tree there (record { directory = q; name = m; row = met }) in
-      let left = (nodes_after tree core effect None there fits).links ∙ ap (λ b. cond b (count_of tree.rows there - 1) (count_of tree.rows there)) (ap (is_this there) met ∙ eq-eqb there there refl) in
+      let left = (nodes_after tree core effect None there fits).links
+      ∙ ap (λ b. cond b (count_of tree.rows there - 1) (count_of tree.rows there)) (ap (is_this there) met ∙ eq-eqb there there refl) in
       ap (λ (t : TreeState). file_links t there + 1) next_is
       ∙ (ap (λ k. cond k 0 (count_of moved.rows there) + 1) file
       ∙ (ap (λ l. l + 1) left ∙ (one_less (eqb-false _ _ (some_counted tree is there alive file)) ∙ sym (ap (λ k. cond k 0 (count_of tree.rows there)) file))))
@@ -218,4 +238,5 @@ moved_buckets_show tree core move seen child directory number before after is lt
 pub replaced_files_lose_a_link : ReplacedFilesLoseALink
 replaced_files_lose_a_link tree core move seen child there is lt shows moves met file =
     let row = sym (there_row tree move seen is shows) ∙ met in
-    file_home tree core move seen is lt shows child (moves_child tree core move seen is shows child moves) there row (sym (there_kind tree move seen is shows there row) ∙ file)
+    file_home tree core move seen is lt shows child (moves_child tree core move seen is shows child moves) there row
+    (sym (there_kind tree move seen is shows there row) ∙ file)

@@ -20,7 +20,7 @@ use Rattle.mem_values.specs.declared.cell_id.CellId.TheVariants as id
 use Rattle.mem_values.specs.Places.{IsCell}
 use Rattle.mem_values.specs.Touches.{touches_standing, KeepsCell}
 use Rattle.mem_rename.specs.declared.sides.Move.{Move}
-use Rattle.mem_rename.specs.Seen.{Seen, call_of, there_seen, meets_directory, goes_between, ShowsMove}
+use Rattle.mem_rename.specs.Sights.{Sight, rename_call, there_seen, meets_directory, goes_between, ShowsMove}
 use Rattle.mem_rename.specs.Cells.{buckets_of, replaced_cells, moved_cells, cells_changed, cells_of}
 use Rattle.mem_rename.specs.Laws.{RenamesKeepCells}
 use Rattle.mem_rename.proofs.Verdicts.{child_kind, there_kind, there_row}
@@ -45,7 +45,8 @@ both_false : (a b : Bool) → a ≡ false → b ≡ false → (a || b) ≡ false
 both_false true b e f = e
 both_false false b e f = f
 
-module _ (tree : TreeState) (core : ℕ) (move : Move) (seen : Seen) (is : IsSoundTree tree) (lt : core < length tree.made) (shows : ShowsMove tree move seen) where
+module _ (tree : TreeState) (core : ℕ) (move : Move) (seen : Sight) (is : IsSoundTree tree) (lt : core < length tree.made)
+    (shows : ShowsMove tree move seen) where
   abbrev changed : Effect → List CellId
   changed effect = id.Part (record { 0 = core }) ∷ cells_changed seen move effect
 
@@ -54,35 +55,44 @@ module _ (tree : TreeState) (core : ℕ) (move : Move) (seen : Seen) (is : IsSou
     others = moved_cells (goes_between seen move) child ++ replaced_cells (meets_directory seen move) (there_seen seen move)
 
     -- a cell of these is changed
-    among : (cell : CellId) → IsOneOf (id.Bucket move.directory (name_bucket move.name) ∷ id.Bucket move.to_directory (name_bucket move.to_name) ∷ others) cell → IsOneOf (cells_of seen move core) cell
+    among : (cell : CellId) → IsOneOf (id.Bucket move.directory (name_bucket move.name) ∷ id.Bucket move.to_directory (name_bucket move.to_name) ∷ others) cell
+        → IsOneOf (cells_of seen move core) cell
     among cell one = subst (λ e. IsOneOf (changed e) cell) (sym (effect_seen tree core move seen is shows ∙ moves.effect)) (inr one)
 
     of_moved : (cell : CellId) → goes_between seen move ≡ true → IsOneOf (moved_cells true child) cell → IsOneOf (cells_of seen move core) cell
-    of_moved cell between one = among cell (inr (inr (in_left _ (replaced_cells (meets_directory seen move) (there_seen seen move)) cell (subst (λ b. IsOneOf (moved_cells b child) cell) (sym between) one))))
+    of_moved cell between one = among cell
+        (inr (inr (in_left _ (replaced_cells (meets_directory seen move) (there_seen seen move)) cell
+        (subst (λ b. IsOneOf (moved_cells b child) cell) (sym between) one))))
 
-    of_replaced : (cell : CellId) (kind : Bool) (there : ℕ) → meets_directory seen move ≡ kind → row_of tree move.to_directory.0 move.to_name ≡ Some there → IsOneOf (replaced_cells kind (Some there)) cell → IsOneOf (cells_of seen move core) cell
+    of_replaced : (cell : CellId) (kind : Bool) (there : ℕ) → meets_directory seen move ≡ kind → row_of tree move.to_directory.0 move.to_name ≡ Some there
+        → IsOneOf (replaced_cells kind (Some there)) cell → IsOneOf (cells_of seen move core) cell
     of_replaced cell kind there kind_is met one =
         among cell (inr (inr (in_right (moved_cells (goes_between seen move) child) _ cell
-        (subst (λ b. IsOneOf (replaced_cells b (there_seen seen move)) cell) (sym kind_is) (subst (λ o. IsOneOf (replaced_cells kind o) cell) (sym (there_row tree move seen is shows ∙ met)) one)))))
+        (subst (λ b. IsOneOf (replaced_cells b (there_seen seen move)) cell) (sym kind_is)
+        (subst (λ o. IsOneOf (replaced_cells kind o) cell) (sym (there_row tree move seen is shows ∙ met)) one)))))
 
-    lock_kept : KeepsCell tree core (call_of move) id.Lock ⊎ IsOneOf (cells_of seen move core) id.Lock
+    lock_kept : KeepsCell tree core (rename_call move) id.Lock ⊎ IsOneOf (cells_of seen move core) id.Lock
     lock_kept = elim (true_or_false (goes_between seen move)) [
       | inl between ↦ inr (of_moved id.Lock between (inl refl))
       | inr not_between ↦ inl (inl (lock_of tree core move seen is shows child moves ∙ not_between))
     ]
 
     -- a directory whose standing the rename may change is replaced, or comes to another directory
-    standing_named : (node : NodeId) (number : ℕ) → number < 8 → touches_standing tree core (call_of move) node.0 ≡ true → IsOneOf (cells_of seen move core) (id.Bucket node number)
+    standing_named : (node : NodeId) (number : ℕ) → number < 8 → touches_standing tree core (rename_call move) node.0 ≡ true
+        → IsOneOf (cells_of seen move core) (id.Bucket node number)
     standing_named node number small touched = elim (true_or_false (is_this node.0 (row_of tree move.to_directory.0 move.to_name))) [
       | inl met ↦
           let there = is_this_there node.0 _ met in
-          of_replaced (id.Bucket node number) true node.0 (there_kind tree move seen is shows node.0 there ∙ and_first _ _ touched) there (bucket_in node number small)
+          of_replaced (id.Bucket node number) true node.0 (there_kind tree move seen is shows node.0 there ∙ and_first _ _ touched) there
+          (bucket_in node number small)
       | inr apart ↦
           let source : (not (nat_eq move.directory.0 move.to_directory.0) && is_this node.0 (row_of tree move.directory.0 move.name)) ≡ true =
-          sym (ap (λ b. b || (not (nat_eq move.directory.0 move.to_directory.0) && is_this node.0 (row_of tree move.directory.0 move.name))) apart) ∙ and_second (is_directory tree node.0) _ touched in
+          sym (ap (λ b. b || (not (nat_eq move.directory.0 move.to_directory.0) && is_this node.0 (row_of tree move.directory.0 move.name))) apart)
+          ∙ and_second (is_directory tree node.0) _ touched in
           let row = is_this_there node.0 _ (and_second (not (nat_eq move.directory.0 move.to_directory.0)) _ source) in
           let between : goes_between seen move ≡ true =
-          ap₂ (λ s k. s && k) (and_first (not (nat_eq move.directory.0 move.to_directory.0)) _ source) (child_kind tree move seen is shows node.0 row ∙ and_first _ _ touched) in
+          ap₂ (λ s k. s && k) (and_first (not (nat_eq move.directory.0 move.to_directory.0)) _ source)
+          (child_kind tree move seen is shows node.0 row ∙ and_first _ _ touched) in
           of_moved (id.Bucket node number) between
           (subst (λ (x : ℕ). IsOneOf (moved_cells true x) (id.Bucket node number)) (same_number (sym row ∙ moves.row)) (inr (bucket_in node number small)))
     ]
@@ -91,34 +101,37 @@ module _ (tree : TreeState) (core : ℕ) (move : Move) (seen : Seen) (is : IsSou
         same_number e = cc
 
     -- a place in a bucket is that of the bucket's number
-    at_place : (directory node : NodeId) (name : List ℕ) (number : ℕ) → is_in_part node.0 (λ n. nat_eq (name_bucket n) number) directory.0 name ≡ true → id.Bucket directory (name_bucket name) ≡ id.Bucket node number
+    at_place : (directory node : NodeId) (name : List ℕ) (number : ℕ) → is_in_part node.0 (λ n. nat_eq (name_bucket n) number) directory.0 name ≡ true
+        → id.Bucket directory (name_bucket name) ≡ id.Bucket node number
     at_place directory node name number here =
         let same : directory.0 ≡ node.0 = eqb-true _ _ (and_first _ _ here) in
         let numbered : name_bucket name ≡ number = eqb-true _ _ (and_second (nat_eq directory.0 node.0) _ here) in
         λ i. id.Bucket (record { 0 = same i }) (numbered i)
 
-    bucket_kept : (node : NodeId) (number : ℕ) → number < 8 → KeepsCell tree core (call_of move) (id.Bucket node number) ⊎ IsOneOf (cells_of seen move core) (id.Bucket node number)
+    bucket_kept : (node : NodeId) (number : ℕ) → number < 8 → KeepsCell tree core (rename_call move) (id.Bucket node number)
+        ⊎ IsOneOf (cells_of seen move core) (id.Bucket node number)
     bucket_kept node number small = elim (true_or_false (is_in_part node.0 (λ n. nat_eq (name_bucket n) number) move.directory.0 move.name)) [
       | inl here ↦ inr (among _ (inl (at_place move.directory node move.name number here)))
       | inr not_old ↦ elim (true_or_false (is_in_part node.0 (λ n. nat_eq (name_bucket n) number) move.to_directory.0 move.to_name)) [
         | inl here ↦ inr (among _ (inr (inl (at_place move.to_directory node move.to_name number here))))
-        | inr not_new ↦ elim (true_or_false (touches_standing tree core (call_of move) node.0)) [
+        | inr not_new ↦ elim (true_or_false (touches_standing tree core (rename_call move) node.0)) [
           | inl touched ↦ inr (standing_named node number small touched)
           | inr untouched ↦ inl (inl (both_false _ _ (both_false _ _ not_old not_new) untouched))
         ]
       ]
     ]
 
-    fits : Fits tree core (verdict tree core (call_of move)).effect (verdict tree core (call_of move)).makes
-    fits = calls_fit tree core (call_of move) is lt
+    fits : Fits tree core (verdict tree core (rename_call move)).effect (verdict tree core (rename_call move)).makes
+    fits = calls_fit tree core (rename_call move) is lt
 
     -- a directory that is replaced stays a directory
-    still_directory : (node : ℕ) → is_directory tree node ≡ true → is_directory (tree_after_call tree core (call_of move)) node ≡ true
-    still_directory node kind = directory_stays tree core (verdict tree core (call_of move)).effect (verdict tree core (call_of move)).makes node fits (directory_node tree node kind) ∙ kind
+    still_directory : (node : ℕ) → is_directory tree node ≡ true → is_directory (tree_after_call tree core (rename_call move)) node ≡ true
+    still_directory node kind = directory_stays tree core (verdict tree core (rename_call move)).effect (verdict tree core (rename_call move)).makes node fits
+        (directory_node tree node kind) ∙ kind
 
-    file_kept : (node : NodeId) → KeepsCell tree core (call_of move) (id.File node) ⊎ IsOneOf (cells_of seen move core) (id.File node)
+    file_kept : (node : NodeId) → KeepsCell tree core (rename_call move) (id.File node) ⊎ IsOneOf (cells_of seen move core) (id.File node)
     file_kept node = elim (true_or_false (is_this node.0 (row_of tree move.to_directory.0 move.to_name))) [
-      | inr apart ↦ inl (inl (ap (λ b. b && not (is_directory (tree_after_call tree core (call_of move)) node.0)) apart))
+      | inr apart ↦ inl (inl (ap (λ b. b && not (is_directory (tree_after_call tree core (rename_call move)) node.0)) apart))
       | inl met ↦
           let there = is_this_there node.0 _ met in
           elim (true_or_false (is_directory tree node.0)) [
@@ -127,18 +140,21 @@ module _ (tree : TreeState) (core : ℕ) (move : Move) (seen : Seen) (is : IsSou
           ]
     ]
 
-  part_kept : (other : ℕ) → KeepsCell tree core (call_of move) (id.Part (record { 0 = other })) ⊎ IsOneOf (cells_of seen move core) (id.Part (record { 0 = other }))
+  part_kept : (other : ℕ) → KeepsCell tree core (rename_call move) (id.Part (record { 0 = other }))
+      ⊎ IsOneOf (cells_of seen move core) (id.Part (record { 0 = other }))
   part_kept other = elim (true_or_false (nat_eq core other)) [
     | inl same ↦ inr (inl (ap (λ (c : ℕ). id.Part (record { 0 = c })) (eqb-true _ _ same)))
     | inr apart ↦ inl (inl apart)
   ]
 
-  kept : (nodes cores : ℕ) (cell : CellId) → IsCell nodes cores cell → KeepsCell tree core (call_of move) cell ⊎ IsOneOf (cells_of seen move core) cell
+  kept : (nodes cores : ℕ) (cell : CellId) → IsCell nodes cores cell → KeepsCell tree core (rename_call move) cell ⊎ IsOneOf (cells_of seen move core) cell
   kept nodes cores (id.Part other) known = part_kept other.0
   kept nodes cores (id.Pending node) known = inl (inl refl)
   kept nodes cores id.Lock known = elim (moves_or_not tree core move) [ inl nothing ↦ inl (inr (nothing, refl)) | inr moved ↦ lock_kept moved.0 moved.1 ]
-  kept nodes cores (id.Bucket node number) known = elim (moves_or_not tree core move) [ inl nothing ↦ inl (inr (nothing, refl)) | inr moved ↦ bucket_kept moved.0 moved.1 node number known.1 ]
-  kept nodes cores (id.File node) known = elim (moves_or_not tree core move) [ inl nothing ↦ inl (inr (nothing, refl)) | inr moved ↦ file_kept moved.0 moved.1 node ]
+  kept nodes cores (id.Bucket node number) known = elim (moves_or_not tree core move)
+      [ inl nothing ↦ inl (inr (nothing, refl)) | inr moved ↦ bucket_kept moved.0 moved.1 node number known.1 ]
+  kept nodes cores (id.File node) known = elim (moves_or_not tree core move)
+      [ inl nothing ↦ inl (inr (nothing, refl)) | inr moved ↦ file_kept moved.0 moved.1 node ]
 
 pub renames_keep_cells : RenamesKeepCells
 renames_keep_cells tree core move seen nodes cores cell is lt shows known = kept tree core move seen is lt shows nodes cores cell known

@@ -51,12 +51,12 @@ use Rattle.mem_rename.specs.declared.sides.Move.{Move}
 use Rattle.mem_rename.specs.declared.plans.Plan.{Plan}
 use Rattle.mem_rename.specs.declared.shifts.Shift.{Shift}
 use Rattle.mem_rename.specs.declared.shifts.Noted.{Noted}
-use Rattle.mem_rename.specs.Seen.{Seen, call_of, rename_by, there_seen, moves_directory, meets_directory, goes_between}
+use Rattle.mem_rename.specs.Sights.{Sight, rename_call, rename_by, there_seen, moves_directory, meets_directory, goes_between}
 use Rattle.mem_rename.specs.After.{IsMovedCell}
 use Rattle.mem_rename.specs.Logged.{rename_logged, effect_logged, replaced_logged}
 use Rattle.mem_rename.specs.Decisions.{look_of}
 use Rattle.mem_rename.specs.Shifts.{shift_of, shift_logged, gone_by}
-use Rattle.mem_rename.specs.Ready.{seen_of, IsWithin, IsReady}
+use Rattle.mem_rename.specs.Ready.{seen_of, AreSidesWithin, HoldsRename}
 use Rattle.mem_rename.specs.Rounds.{IsPlanWithin}
 use Rattle.mem_rename.specs.Moving.{with_row, less_one, at_bucket, at_file, bucket_moved, IsPrepared, ChangesHeld, SetsLock}
 use Rattle.mem_rename.proofs.Answering as answering
@@ -72,7 +72,8 @@ use Rattle.mem_rename.proofs.Shifting.{PlansMove, bucket_is_moved, file_is_moved
 use Rattle.mem_rename.proofs.Turned as turned
 
 -- what is logged in the words of the code is what the rename logs
-gone_same : (seen : Seen) (move : Move) (child : NodeId) (number : ℕ) (there : Option ℕ) → gone_by (shift_of (look_of seen move) move child) move.to_name number (option_map numbered_node there) ≡ replaced_logged seen move number there
+gone_same : (seen : Sight) (move : Move) (child : NodeId) (number : ℕ) (there : Option ℕ)
+    → gone_by (shift_of (look_of seen move) move child) move.to_name number (option_map numbered_node there) ≡ replaced_logged seen move number there
 gone_same seen move child number None = refl
 gone_same seen move child number (Some there) = refl
 
@@ -91,12 +92,18 @@ mapped_some f (Some x) some = (f x, refl)
 one : {X : Type 0} {x y : X} → ◌≡◌ {A = Option X} (Some x) (Some y) → x ≡ y
 one e = cc (e)
 
-module _ (given : ℕ → Option OldKept) (t : TableState) (nodes : ℕ) (table : IsFileTable t nodes) (move : Move) (within : IsWithin nodes move) (plan : Plan) (plan_within : IsPlanWithin nodes plan) (above : List ℕ) (before : Hand Cell Fact)
-    (ready : IsReady given t nodes move plan above before) (child : NodeId) (moves_is : rename_by (seen_of nodes before.held move plan above) move ≡ done (Moves move.directory.0 move.name move.to_directory.0 move.to_name child.0))
-    (shift : Shift) (noted : Noted) (row_hand : Hand Cell Fact) (prepared : IsPrepared nodes move shift before noted row_hand) (out : Hand Cell Fact) (change : ChangesHeld nodes (bucket_moved move plan) (at_file plan.file less_one) row_hand out)
-    (number : ℕ) (mid : Hand Cell Fact) (drawn : Stamps (IsLawfulLog given) (StandsAt given) (call_of move) reply.Ok out number mid) (locked : Hand Cell Fact) (lock : SetsLock nodes (is_some plan.comes) (record { 0 = number }) mid locked)
-    (shift_is : shift ≡ shift_of (look_of (seen_of nodes before.held move plan above) move) move child) (final : Hand Cell Fact) (takes : TakesEntry nodes (shift_logged shift noted.old noted.new number (cond (is_some plan.comes) above [])) locked final) where
-  abbrev seen : Seen
+module _ (given : ℕ → Option OldKept) (t : TableState) (nodes : ℕ) (table : IsFileTable t nodes) (move : Move) (within : AreSidesWithin nodes move)
+    (plan : Plan) (plan_within : IsPlanWithin nodes plan) (above : List ℕ) (before : Hand Cell Fact)
+    (ready : HoldsRename given t nodes move plan above before) (child : NodeId)
+    (moves_is : rename_by (seen_of nodes before.held move plan above) move ≡ done
+    (Moves move.directory.0 move.name move.to_directory.0 move.to_name child.0))
+    (shift : Shift) (noted : Noted) (row_hand : Hand Cell Fact) (prepared : IsPrepared nodes move shift before noted row_hand) (out : Hand Cell Fact)
+    (change : ChangesHeld nodes (bucket_moved move plan) (at_file plan.file less_one) row_hand out)
+    (number : ℕ) (mid : Hand Cell Fact) (drawn : Stamps (IsLawfulLog given) (StandsAt given) (rename_call move) reply.Ok out number mid)
+    (locked : Hand Cell Fact) (lock : SetsLock nodes (is_some plan.comes) (record { 0 = number }) mid locked)
+    (shift_is : shift ≡ shift_of (look_of (seen_of nodes before.held move plan above) move) move child) (final : Hand Cell Fact)
+    (takes : TakesEntry nodes (shift_logged shift noted.old noted.new number (cond (is_some plan.comes) above [])) locked final) where
+  abbrev seen : Sight
   seen = seen_of nodes before.held move plan above
 
   abbrev core : ℕ
@@ -108,17 +115,17 @@ module _ (given : ℕ → Option OldKept) (t : TableState) (nodes : ℕ) (table 
   abbrev back : Hand Cell Fact
   back = turned.back given t nodes table move within plan plan_within above before ready child moves_is shift noted row_hand prepared out change number mid drawn
 
-  abbrev stamps : Stamps (IsLawfulLog given) (StandsAt given) (call_of move) reply.Ok before number back
+  abbrev stamps : Stamps (IsLawfulLog given) (StandsAt given) (rename_call move) reply.Ok before number back
   stamps = turned.stamps given t nodes table move within plan plan_within above before ready child moves_is shift noted row_hand prepared out change number mid drawn
 
   abbrev S : TreeState
-  S = stamped.tree given t nodes before table ready.work (call_of move) reply.Ok number back stamps
+  S = stamped.tree given t nodes before table ready.work (rename_call move) reply.Ok number back stamps
 
   abbrev log : List (Event Fact)
-  log = stamped.log given t nodes before table ready.work (call_of move) reply.Ok number back stamps
+  log = stamped.log given t nodes before table ready.work (rename_call move) reply.Ok number back stamps
 
   abbrev entry : Rattle.sfs_tree.specs.declared.history.Entry.Entry
-  entry = stamped.entry given t nodes before table ready.work (call_of move) reply.Ok number back stamps
+  entry = stamped.entry given t nodes before table ready.work (rename_call move) reply.Ok number back stamps
 
   abbrev after_log : List (Event Fact)
   after_log = log ++ Called entry ∷ []
@@ -129,7 +136,7 @@ module _ (given : ℕ → Option OldKept) (t : TableState) (nodes : ℕ) (table 
   on : Rattle.mem_rename.specs.Ready.MayMeetOn plan move.to_directory.0 above before S
   on = answering.on_stamped given t nodes table move within plan above before ready reply.Ok number back stamps
 
-  shows : Rattle.mem_rename.specs.Seen.ShowsMove S move seen
+  shows : Rattle.mem_rename.specs.Sights.ShowsMove S move seen
   shows = fitted.shows given t nodes table move within plan above before ready S on
 
   effect_is : (rename_by seen move).effect ≡ Moves move.directory.0 move.name move.to_directory.0 move.to_name child.0
@@ -147,8 +154,10 @@ module _ (given : ℕ → Option OldKept) (t : TableState) (nodes : ℕ) (table 
   logged_is : shift_logged shift noted.old noted.new number (cond (is_some plan.comes) above []) ≡ rename_logged seen move number
   logged_is =
       (λ i. shift_logged (shift_is i) (prepared.noted_is.old i) (prepared.noted_is.new i) number (cond (comes_is i) above []))
-      ∙ (ap (λ (l : List Change). l ++ log_entry number move.directory.0 move.name child.0 (kind_if (moves_directory seen move)) Remove (other_side move.directory.0 move.to_directory.0) []
-      ∷ log_entry number move.to_directory.0 move.to_name child.0 (kind_if (moves_directory seen move)) Add (other_side move.to_directory.0 move.directory.0) (cond (goes_between seen move) above [])
+      ∙ (ap (λ (l : List Change). l ++ log_entry number move.directory.0 move.name child.0 (kind_if (moves_directory seen move)) Remove
+      (other_side move.directory.0 move.to_directory.0) []
+      ∷ log_entry number move.to_directory.0 move.to_name child.0 (kind_if (moves_directory seen move)) Add (other_side move.to_directory.0 move.directory.0)
+      (cond (goes_between seen move) above [])
       ∷ []) (gone_same seen move child number (there_seen seen move)) ∙ ap (effect_logged seen move number) (sym effect_is))
 
   -- the values of cells that go home
@@ -160,12 +169,15 @@ module _ (given : ℕ → Option OldKept) (t : TableState) (nodes : ℕ) (table 
       by false same = ap (λ (h : Hand Cell Fact). h.view) same
 
   core_is : locked.view.core ≡ core
-  core_is = ap (λ (v : View TreeState (Event Fact)). v.core) core_locked ∙ turned.mid_core given t nodes table move within plan plan_within above before ready child moves_is shift noted row_hand prepared out change number mid drawn
+  core_is = ap (λ (v : View TreeState (Event Fact)). v.core) core_locked
+      ∙ turned.mid_core given t nodes table move within plan plan_within above before ready child moves_is shift noted row_hand prepared out change number mid drawn
 
   final_held : final.held ≡ with_value (cell_place nodes own) takes.value locked.held
-  final_held = ap (λ (h : Hand Cell Fact). h.held) takes.frame ∙ (λ i. with_value (cell_place nodes (id.Part (record { 0 = core_is i }))) takes.value locked.held)
+  final_held = ap (λ (h : Hand Cell Fact). h.held) takes.frame
+      ∙ (λ i. with_value (cell_place nodes (id.Part (record { 0 = core_is i }))) takes.value locked.held)
 
-  locked_else : (b : Bool) → SetsLock nodes b (record { 0 = number }) mid locked → (which : CellId) → (0 ≡ cell_place nodes which → ⊥) → value_held nodes locked.held which ≡ value_held nodes mid.held which
+  locked_else : (b : Bool) → SetsLock nodes b (record { 0 = number }) mid locked → (which : CellId) → (0 ≡ cell_place nodes which → ⊥)
+      → value_held nodes locked.held which ≡ value_held nodes mid.held which
   locked_else true puts which apart = ap (λ (h : Hand Cell Fact). value_held nodes h.held which) puts ∙ apart_value nodes mid.held id.Lock which _ apart
   locked_else false same which apart = ap (λ (h : Hand Cell Fact). value_held nodes h.held which) same
 
@@ -177,50 +189,68 @@ module _ (given : ℕ → Option OldKept) (t : TableState) (nodes : ℕ) (table 
   mid_held = turned.mid_held given t nodes table move within plan plan_within above before ready child moves_is shift noted row_hand prepared out change number mid drawn
 
   final_places : places_of final.held ≡ places_of before.held
-  final_places = ap (λ (l : List (HeldCell Cell)). places_of l) final_held ∙ (same_places (cell_place nodes own) locked.held takes.value ∙ (locked_places (is_some plan.comes) lock ∙ (ap (λ (l : List (HeldCell Cell)). places_of l) mid_held
+  final_places = ap (λ (l : List (HeldCell Cell)). places_of l) final_held
+      ∙ (same_places (cell_place nodes own) locked.held takes.value
+      ∙ (locked_places (is_some plan.comes) lock ∙ (ap (λ (l : List (HeldCell Cell)). places_of l) mid_held
       ∙ turned.out_places given t nodes table move within plan plan_within above before ready child moves_is shift noted row_hand prepared out change)))
 
-  final_else : (which : CellId) → (cell_place nodes own ≡ cell_place nodes which → ⊥) → (0 ≡ cell_place nodes which → ⊥) → value_held nodes final.held which ≡ value_held nodes out.held which
+  final_else : (which : CellId) → (cell_place nodes own ≡ cell_place nodes which → ⊥) → (0 ≡ cell_place nodes which → ⊥)
+      → value_held nodes final.held which ≡ value_held nodes out.held which
   final_else which not_own not_lock = ap (λ l. value_held nodes l which) final_held ∙ (apart_value nodes locked.held own which takes.value not_own
       ∙ (locked_else (is_some plan.comes) lock which not_lock ∙ ap (λ l. value_held nodes l which) mid_held))
 
   before_there : (which : CellId) (y : Cell) → value_held nodes final.held which ≡ Some y → (x : Cell) × (value_held nodes before.held which ≡ Some x)
   before_there which y found = mapped_some (λ (h : HeldCell Cell). h.value) (Rattle.stamp_table.specs.Table.cell_at (cell_place nodes which) before.held)
-      (held_too (cell_place nodes which) final.held before.held final_places (some_mapped (λ (h : HeldCell Cell). h.value) (Rattle.stamp_table.specs.Table.cell_at (cell_place nodes which) final.held) (subst IsSome (sym found) refl)))
+      (held_too (cell_place nodes which) final.held before.held final_places
+      (some_mapped (λ (h : HeldCell Cell). h.value) (Rattle.stamp_table.specs.Table.cell_at (cell_place nodes which) final.held)
+      (subst IsSome (sym found) refl)))
 
-  stood : (which : CellId) (x : Cell) → IsCell nodes (length t.first.made) which → value_held nodes before.held which ≡ Some x → StandsForCell given first (account_of log) which x
-  stood which x is_cell is = stamped.stood given t nodes before table ready.work (call_of move) reply.Ok number back stamps which x is_cell is
+  stood : (which : CellId) (x : Cell) → IsCell nodes (length t.first.made) which → value_held nodes before.held which ≡ Some x
+      → StandsForCell given first (account_of log) which x
+  stood which x is_cell is = stamped.stood given t nodes before table ready.work (rename_call move) reply.Ok number back stamps which x is_cell is
 
-  home : (which : CellId) (x y : Cell) → StandsForCell given first (account_of log) which x → IsMovedCell seen move core child.0 (record { 0 = number }) which x y → StandsForCell given first (account_of after_log) which y
-  home which x y stands is = homecoming.moved_cells_go_home given first log entry move seen child.0 which x y (stamped.sound given t nodes before table ready.work)
-      (stamped.lawful_log given t nodes before table ready.work (call_of move) reply.Ok number back stamps) (stamped.legal_next given t nodes before table ready.work (call_of move) reply.Ok number back stamps) refl shows effect_is stands is
+  home : (which : CellId) (x y : Cell) → StandsForCell given first (account_of log) which x
+      → IsMovedCell seen move core child.0 (record { 0 = number }) which x y → StandsForCell given first (account_of after_log) which y
+  home which x y stands is = homecoming.moved_cells_go_home given first log entry move seen child.0 which x y
+      (stamped.sound given t nodes before table ready.work)
+      (stamped.lawful_log given t nodes before table ready.work (rename_call move) reply.Ok number back stamps)
+      (stamped.legal_next given t nodes before table ready.work (rename_call move) reply.Ok number back stamps) refl shows effect_is stands is
 
   part_home : (y : Cell) → value_held nodes final.held own ≡ Some y → StandsForCell given first (account_of after_log) own y
   part_home y found =
-      let held = value_with nodes own takes.value locked.held (subst IsSome (sym (ap (λ (n : ℕ). value_held nodes locked.held (id.Part (record { 0 = n }))) (sym core_is))) (Rattle.mem_calls.proofs.Taken.some_and_then as_part (value_held nodes locked.held (id.Part (record { 0 = locked.view.core }))) takes.part takes.was)) in
+      let held = value_with nodes own takes.value locked.held
+      (subst IsSome (sym (ap (λ (n : ℕ). value_held nodes locked.held (id.Part (record { 0 = n }))) (sym core_is)))
+      (Rattle.mem_calls.proofs.Taken.some_and_then as_part
+      (value_held nodes locked.held (id.Part (record { 0 = locked.view.core }))) takes.part takes.was)) in
       let value_is : takes.value ≡ y = one (sym (ap (λ l. value_held nodes l own) final_held ∙ held) ∙ found) in
-      let part_is : prepared.room.keeps.next ≡ takes.part = one (sym (turned.part_locked given t nodes table move within plan plan_within above before ready child moves_is shift noted row_hand prepared out change number mid drawn (is_some plan.comes) locked lock) ∙ takes.was) in
+      let part_is : prepared.room.keeps.next ≡ takes.part = one
+      (sym (turned.part_locked given t nodes table move within plan plan_within above before ready child moves_is shift noted row_hand prepared out change number mid drawn (is_some plan.comes) locked lock) ∙ takes.was) in
       subst (StandsForCell given first (account_of after_log) own) value_is
       (value_of_part given first (account_of after_log) core takes.value takes.next takes.is
-      (homecoming.part_home given first log entry move seen child.0 (stamped.sound given t nodes before table ready.work) (stamped.lawful_log given t nodes before table ready.work (call_of move) reply.Ok number back stamps)
-      (stamped.legal_next given t nodes before table ready.work (call_of move) reply.Ok number back stamps) refl shows effect_is takes.part takes.next
+      (homecoming.part_home given first log entry move seen child.0 (stamped.sound given t nodes before table ready.work)
+      (stamped.lawful_log given t nodes before table ready.work (rename_call move) reply.Ok number back stamps)
+      (stamped.legal_next given t nodes before table ready.work (rename_call move) reply.Ok number back stamps) refl shows effect_is takes.part takes.next
       (subst (Rattle.mem_values.specs.Stands.StandsPart first (account_of log) core) part_is
       (turned.stands given t nodes table move within plan plan_within above before ready child moves_is shift noted row_hand prepared out change number mid drawn (is_some plan.comes) locked lock))
       (record { log = subst (λ l. IsAddedTo takes.part.log l takes.next.log) logged_is takes.log; made = takes.made })))
 
-  bucket_home : (at : NodeId) (n : ℕ) (x y : Cell) → at.0 < nodes → n < 8 → value_held nodes before.held (id.Bucket at n) ≡ Some x → value_held nodes final.held (id.Bucket at n) ≡ Some y
+  bucket_home : (at : NodeId) (n : ℕ) (x y : Cell) → at.0 < nodes → n < 8 → value_held nodes before.held (id.Bucket at n) ≡ Some x
+      → value_held nodes final.held (id.Bucket at n) ≡ Some y
       → StandsForCell given first (account_of log) (id.Bucket at n) x → StandsForCell given first (account_of after_log) (id.Bucket at n) y
   bucket_home at n (cell.Bucket bx) y lt small was found stands =
       let after : as_bucket y ≡ Some (Rattle.mem_rename.proofs.Shifting.bucket_after seen move plan child plan_is at n bx.value) =
       ap (option_and_then as_bucket) (sym found ∙ final_else (id.Bucket at n) (λ place. omega (arith, place, lt, small)) (λ place. omega (arith, place)))
       ∙ ((turned.all given t nodes table move within plan plan_within above before ready child moves_is shift noted row_hand prepared out change).buckets at n lt small
       ∙ (ap (option_map _) (kept_bucket nodes before prepared.mid prepared.room.keeps at n lt small ∙ ap (option_and_then as_bucket) was)
-      ∙ ap (λ (s : Shift). Some (bucket_moved move plan at n (at_bucket move.to_directory (name_bucket move.to_name) (with_row s.moves move.to_name s.child.0) at n bx.value))) shift_is)) in
+      ∙ ap (λ (s : Shift). Some (bucket_moved move plan at n
+      (at_bucket move.to_directory (name_bucket move.to_name) (with_row s.moves move.to_name s.child.0) at n bx.value))) shift_is)) in
       by y after
     where
-      by : (y : Cell) → as_bucket y ≡ Some (Rattle.mem_rename.proofs.Shifting.bucket_after seen move plan child plan_is at n bx.value) → StandsForCell given first (account_of after_log) (id.Bucket at n) y
+      by : (y : Cell) → as_bucket y ≡ Some (Rattle.mem_rename.proofs.Shifting.bucket_after seen move plan child plan_is at n bx.value)
+          → StandsForCell given first (account_of after_log) (id.Bucket at n) y
       by (cell.Bucket b) after = home (id.Bucket at n) (cell.Bucket bx) (cell.Bucket b) stands
-          (subst (λ (v : Bucket). Rattle.mem_rename.specs.After.IsMovedBucket seen move child.0 at.0 n bx.value v) (sym (one after)) (bucket_is_moved seen move plan child plan_is at n bx.value))
+          (subst (λ (v : Bucket). Rattle.mem_rename.specs.After.IsMovedBucket seen move child.0 at.0 n bx.value v) (sym (one after))
+          (bucket_is_moved seen move plan child plan_is at n bx.value))
       by (cell.Lock l) after = absurd (cc (after))
       by (cell.File l) after = absurd (cc (after))
       by (cell.Pending l) after = absurd (cc (after))
@@ -230,10 +260,12 @@ module _ (given : ℕ → Option OldKept) (t : TableState) (nodes : ℕ) (table 
   bucket_home at n (cell.Pending l) y lt small was found stands = absurd stands
   bucket_home at n (cell.Part l) y lt small was found stands = absurd stands
 
-  some_links : (at : NodeId) (f : FileCell) → f.links ≡ Rattle.mem_values.specs.Stands.file_links S at.0 → (not (meets_directory seen move) && is_this at.0 (there_seen seen move)) ≡ true → 0 < f.links
+  some_links : (at : NodeId) (f : FileCell) → f.links ≡ Rattle.mem_values.specs.Stands.file_links S at.0
+      → (not (meets_directory seen move) && is_this at.0 (there_seen seen move)) ≡ true → 0 < f.links
   some_links at f links is =
       let there = is_this_there at.0 (there_seen seen move) (and_second (not (meets_directory seen move)) _ is) in
-      let less = replaced_files_lose_a_link S core move seen child.0 at.0 on.meets.sound (fitted.core_there given t nodes table move within plan above before ready S on) shows effect_is there (not_true _ (and_first _ _ is)) in
+      let less = replaced_files_lose_a_link S core move seen child.0 at.0 on.meets.sound
+      (fitted.core_there given t nodes table move within plan above before ready S on) shows effect_is there (not_true _ (and_first _ _ is)) in
       omega (arith, less, links)
 
   file_home : (at : NodeId) (x y : Cell) → at.0 < nodes → value_held nodes before.held (id.File at) ≡ Some x → value_held nodes final.held (id.File at) ≡ Some y
@@ -247,7 +279,8 @@ module _ (given : ℕ → Option OldKept) (t : TableState) (nodes : ℕ) (table 
     where
       by : (y : Cell) → as_file y ≡ Some (at_file plan.file less_one at bx.value) → StandsForCell given first (account_of after_log) (id.File at) y
       by (cell.File b) after = home (id.File at) (cell.File bx) (cell.File b) stands
-          (subst (λ (v : FileCell). Rattle.mem_rename.specs.After.IsMovedFile seen move at.0 bx.value v) (sym (one after)) (file_is_moved seen move plan child plan_is at bx.value (some_links at bx.value stands.links)))
+          (subst (λ (v : FileCell). Rattle.mem_rename.specs.After.IsMovedFile seen move at.0 bx.value v) (sym (one after))
+          (file_is_moved seen move plan child plan_is at bx.value (some_links at bx.value stands.links)))
       by (cell.Lock l) after = absurd (cc (after))
       by (cell.Bucket l) after = absurd (cc (after))
       by (cell.Pending l) after = absurd (cc (after))
@@ -257,37 +290,49 @@ module _ (given : ℕ → Option OldKept) (t : TableState) (nodes : ℕ) (table 
   file_home at (cell.Pending l) y lt was found stands = absurd stands
   file_home at (cell.Part l) y lt was found stands = absurd stands
 
-  kept_home : (which : CellId) (y : Cell) → IsCell nodes (length t.first.made) which → value_held nodes before.held which ≡ Some y → Rattle.mem_values.specs.Touches.KeepsCell S core (call_of move) which → StandsForCell given first (account_of after_log) which y
-  kept_home which y is_cell is keeps = stamped.kept given t nodes before table ready.work (call_of move) reply.Ok number back stamps which y is_cell is keeps
+  kept_home : (which : CellId) (y : Cell) → IsCell nodes (length t.first.made) which → value_held nodes before.held which ≡ Some y
+      → Rattle.mem_values.specs.Touches.KeepsCell S core (rename_call move) which → StandsForCell given first (account_of after_log) which y
+  kept_home which y is_cell is keeps = stamped.kept given t nodes before table ready.work
+      (rename_call move) reply.Ok number back stamps which y is_cell is keeps
 
-  out_before : (which : CellId) → Rattle.mem_rename.specs.Moving.IsOther nodes which → (cell_place nodes own ≡ cell_place nodes which → ⊥) → value_held nodes out.held which ≡ value_held nodes before.held which
+  out_before : (which : CellId) → Rattle.mem_rename.specs.Moving.IsOther nodes which → (cell_place nodes own ≡ cell_place nodes which → ⊥)
+      → value_held nodes out.held which ≡ value_held nodes before.held which
   out_before which other apart =
       (turned.all given t nodes table move within plan plan_within above before ready child moves_is shift noted row_hand prepared out change).others which other ∙ kept_value nodes before prepared.mid prepared.room.keeps which apart
 
-  lock_home : (b : Bool) → SetsLock nodes b (record { 0 = number }) mid locked → is_some plan.comes ≡ b → (x y : Cell) → value_held nodes before.held id.Lock ≡ Some x → value_held nodes final.held id.Lock ≡ Some y
+  lock_home : (b : Bool) → SetsLock nodes b (record { 0 = number }) mid locked → is_some plan.comes ≡ b → (x y : Cell)
+      → value_held nodes before.held id.Lock ≡ Some x → value_held nodes final.held id.Lock ≡ Some y
       → StandsForCell given first (account_of log) id.Lock x → StandsForCell given first (account_of after_log) id.Lock y
   lock_home true puts is (cell.Lock l) y was found stands =
       let there = turned.lock_there given t nodes table move within plan plan_within above before ready child moves_is shift noted row_hand prepared out change number mid drawn is in
-      let value : cell.Lock (record { moved = Some (record { 0 = number }) }) ≡ y = one (sym (ap (λ l. value_held nodes l id.Lock) final_held ∙ (apart_value nodes locked.held own id.Lock takes.value (λ place. omega (arith, place))
+      let value : cell.Lock (record { moved = Some (record { 0 = number }) }) ≡ y = one
+      (sym (ap (λ l. value_held nodes l id.Lock) final_held ∙ (apart_value nodes locked.held own id.Lock takes.value (λ place. omega (arith, place))
       ∙ (ap (λ (h : Hand Cell Fact). value_held nodes h.held id.Lock) puts ∙ value_with nodes id.Lock _ mid.held there))) ∙ found) in
       subst (StandsForCell given first (account_of after_log) id.Lock) value
       (home id.Lock (cell.Lock l) (cell.Lock (record { moved = Some (record { 0 = number }) })) stands
-      (subst (λ b. Rattle.mem_rename.specs.After.IsMovedLock b (record { 0 = number }) l (record { moved = Some (record { 0 = number }) })) (sym (sym comes_is ∙ is)) refl))
+      (subst (λ b. Rattle.mem_rename.specs.After.IsMovedLock b (record { 0 = number }) l (record { moved = Some (record { 0 = number }) }))
+      (sym (sym comes_is ∙ is)) refl))
   lock_home true puts is (cell.Bucket l) y was found stands = absurd stands
   lock_home true puts is (cell.File l) y was found stands = absurd stands
   lock_home true puts is (cell.Pending l) y was found stands = absurd stands
   lock_home true puts is (cell.Part l) y was found stands = absurd stands
   lock_home false same is x y was found stands =
-      let value : value_held nodes before.held id.Lock ≡ Some y = sym (ap (λ l. value_held nodes l id.Lock) final_held ∙ (apart_value nodes locked.held own id.Lock takes.value (λ place. omega (arith, place))
-      ∙ (ap (λ (h : Hand Cell Fact). value_held nodes h.held id.Lock) same ∙ (ap (λ l. value_held nodes l id.Lock) mid_held ∙ out_before id.Lock tt (λ place. omega (arith, place)))))) ∙ found in
+      let value : value_held nodes before.held id.Lock ≡ Some y = sym
+      (ap (λ l. value_held nodes l id.Lock) final_held ∙ (apart_value nodes locked.held own id.Lock takes.value (λ place. omega (arith, place))
+      ∙ (ap (λ (h : Hand Cell Fact). value_held nodes h.held id.Lock) same
+      ∙ (ap (λ l. value_held nodes l id.Lock) mid_held ∙ out_before id.Lock tt (λ place. omega (arith, place)))))) ∙ found in
       kept_home id.Lock y tt value (inl (renames_need_lock S core move seen child.0 on.meets.sound shows effect_is ∙ (sym comes_is ∙ is)))
 
-  each : (which : CellId) (y : Cell) → IsCell nodes (length t.first.made) which → value_held nodes final.held which ≡ Some y → StandsForCell given first (account_of after_log) which y
-  each id.Lock y is_cell found = let x = before_there id.Lock y found in lock_home (is_some plan.comes) lock refl x.0 y x.1 found (stood id.Lock x.0 is_cell x.1)
-  each (id.Bucket at n) y is_cell found = let x = before_there (id.Bucket at n) y found in bucket_home at n x.0 y is_cell.0 is_cell.1 x.1 found (stood (id.Bucket at n) x.0 is_cell x.1)
+  each : (which : CellId) (y : Cell) → IsCell nodes (length t.first.made) which → value_held nodes final.held which ≡ Some y
+      → StandsForCell given first (account_of after_log) which y
+  each id.Lock y is_cell found = let x = before_there id.Lock y found in
+      lock_home (is_some plan.comes) lock refl x.0 y x.1 found (stood id.Lock x.0 is_cell x.1)
+  each (id.Bucket at n) y is_cell found = let x = before_there (id.Bucket at n) y found in
+      bucket_home at n x.0 y is_cell.0 is_cell.1 x.1 found (stood (id.Bucket at n) x.0 is_cell x.1)
   each (id.File at) y is_cell found = let x = before_there (id.File at) y found in file_home at x.0 y is_cell x.1 found (stood (id.File at) x.0 is_cell x.1)
   each (id.Pending at) y is_cell found = kept_home (id.Pending at) y is_cell
-      (sym (final_else (id.Pending at) (λ place. pending_low at is_cell place) (λ place. omega (arith, place)) ∙ out_before (id.Pending at) is_cell (λ place. pending_low at is_cell place)) ∙ found) (inl refl)
+      (sym (final_else (id.Pending at) (λ place. pending_low at is_cell place) (λ place. omega (arith, place))
+      ∙ out_before (id.Pending at) is_cell (λ place. pending_low at is_cell place)) ∙ found) (inl refl)
     where
       pending_low : (at : NodeId) → at.0 < nodes → 32 + 10 * nodes + 16 * core ≡ 16 + 9 * nodes + at.0 → ⊥
       pending_low at lt place = omega (arith, lt, place)
@@ -295,14 +340,16 @@ module _ (given : ℕ → Option OldKept) (t : TableState) (nodes : ℕ) (table 
     | inl same ↦ subst (λ (n : ℕ). StandsForCell given first (account_of after_log) (id.Part (record { 0 = n })) y) (eqb-true _ _ same)
         (part_home y (ap (λ (n : ℕ). value_held nodes final.held (id.Part (record { 0 = n }))) (eqb-true _ _ same) ∙ found))
     | inr other ↦ let far = borrow.Author.Tests.eqb-false _ _ other in kept_home (id.Part owner) y is_cell
-        (sym (final_else (id.Part owner) (λ place. far (omega (arith, place))) (λ place. omega (arith, place)) ∙ out_before (id.Part owner) tt (λ place. far (omega (arith, place)))) ∙ found) (inl other)
+        (sym (final_else (id.Part owner) (λ place. far (omega (arith, place))) (λ place. omega (arith, place))
+        ∙ out_before (id.Part owner) tt (λ place. far (omega (arith, place)))) ∙ found) (inl other)
   ]
 
   view_is : final.view ≡ mid.view
   view_is = ap (λ (h : Hand Cell Fact). h.view) takes.frame ∙ core_locked
 
   pub goes_home : EachFrom 0 (Stands (IsLawfulLog given) (StandsAt given) final.view) final.held
-  goes_home = stamped.home given t nodes before table ready.work (call_of move) reply.Ok number back stamps final view_is (finished.view_held_mid given t nodes before table ready.work (call_of move) reply.Ok number back stamps) final_places each
+  goes_home = stamped.home given t nodes before table ready.work (rename_call move) reply.Ok number back stamps final view_is
+      (finished.view_held_mid given t nodes before table ready.work (rename_call move) reply.Ok number back stamps) final_places each
 
   same_rest : (b : Bool) → SetsLock nodes b (record { 0 = number }) mid locked → record locked { held = before.held } ≡ back
   same_rest true puts = ap (λ (h : Hand Cell Fact). record h { held = before.held }) puts
@@ -315,7 +362,9 @@ module _ (given : ℕ → Option OldKept) (t : TableState) (nodes : ℕ) (table 
       let b = Rattle.std.proofs.lemmas.List.length-map before.held (λ (h : HeldCell Cell). h.place) in
       omega (arith, same, a, b)
 
-  pub answers : (last : Hand Cell Fact) → LetsGo final last → last.held ≡ left_below 0 final.held → last.view.held ≡ reverse (places_of last.held) → IsAnswered t (call_of move) reply.Ok before last
-  answers last lets left at = finished.ends_as given t nodes before table ready.work (call_of move) reply.Ok number back stamps (done (Moves move.directory.0 move.name move.to_directory.0 move.to_name child.0)) final last
+  pub answers : (last : Hand Cell Fact) → LetsGo final last → last.held ≡ left_below 0 final.held → last.view.held ≡ reverse (places_of last.held)
+      → IsAnswered t (rename_call move) reply.Ok before last
+  answers last lets left at = finished.ends_as given t nodes before table ready.work (rename_call move) reply.Ok number back stamps
+      (done (Moves move.directory.0 move.name move.to_directory.0 move.to_name child.0)) final last
       (answering.verdict_stamped given t nodes table move within plan above before ready reply.Ok number back stamps ∙ moves_is) refl refl
       (ap (λ (h : Hand Cell Fact). record h { held = before.held }) takes.frame ∙ same_rest (is_some plan.comes) lock) many lets left at

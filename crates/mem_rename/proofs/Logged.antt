@@ -19,7 +19,7 @@ use Rattle.sfs_tree.proofs.Fitting.{neither, may_hold}
 use Rattle.sfs_tree.proofs.Holders.{read_holders_are_above}
 use Rattle.sfs_tree.proofs.Readings.{directory_by_kind}
 use Rattle.mem_rename.specs.declared.sides.Move.{Move}
-use Rattle.mem_rename.specs.Seen.{Seen, moves_directory, meets_directory, goes_between, ShowsMove}
+use Rattle.mem_rename.specs.Sights.{Sight, moves_directory, meets_directory, goes_between, ShowsMove}
 use Rattle.mem_rename.specs.Logged.{replaced_logged, effect_logged}
 use Rattle.mem_rename.specs.Laws.{RenamesLog}
 use Rattle.mem_rename.proofs.Verdicts.{child_kind, there_kind, there_row, stands}
@@ -30,19 +30,24 @@ kind_by : (tree : TreeState) (node : ℕ) (b : Bool) → b ≡ is_directory tree
 kind_by tree node b is = ap kind_if (is ∙ directory_by_kind tree node) ∙ kind_again (kind_of tree node)
 
 -- a rename that moves a child was refused by neither directory
-pub not_refused : (tree : TreeState) (core : ℕ) (move : Move) (child : ℕ) → MovesChild tree core move child → (fault : Option Code) → option_or (directory_fault tree move.directory.0) (directory_fault tree move.to_directory.0) ≡ fault → fault ≡ None
+pub not_refused : (tree : TreeState) (core : ℕ) (move : Move) (child : ℕ) → MovesChild tree core move child → (fault : Option Code)
+    → option_or (directory_fault tree move.directory.0) (directory_fault tree move.to_directory.0) ≡ fault → fault ≡ None
 not_refused tree core move child moves None is = refl
-not_refused tree core move child moves (Some code) is = absurd (never (sym (ap (λ f. (or_else f (move_row tree move.directory.0 move.name move.to_directory.0 move.to_name (row_of tree move.directory.0 move.name))).effect) is) ∙ moves.effect))
+not_refused tree core move child moves (Some code) is = absurd
+    (never (sym (ap (λ f. (or_else f
+    (move_row tree move.directory.0 move.name move.to_directory.0 move.to_name (row_of tree move.directory.0 move.name))).effect) is) ∙ moves.effect))
   where
     never : ◌≡◌ {A = Effect} Stays (Moves move.directory.0 move.name move.to_directory.0 move.to_name child) → ⊥
     never e = cc
 
 -- so its new directory may hold rows
 pub holder_of_moved : (tree : TreeState) (core : ℕ) (move : Move) (child : ℕ) → MovesChild tree core move child → MayHold tree move.to_directory.0
-holder_of_moved tree core move child moves = may_hold tree move.to_directory.0 (neither (directory_fault tree move.directory.0) (directory_fault tree move.to_directory.0) (not_refused tree core move child moves _ refl)).1
+holder_of_moved tree core move child moves = may_hold tree move.to_directory.0
+    (neither (directory_fault tree move.directory.0) (directory_fault tree move.to_directory.0) (not_refused tree core move child moves _ refl)).1
 
-module _ (tree : TreeState) (core stamp : ℕ) (move : Move) (seen : Seen) (is : IsSoundTree tree) (shows : ShowsMove tree move seen) where
-  replaced_told : (there : Option ℕ) → row_of tree move.to_directory.0 move.to_name ≡ there → replaced_logged seen move stamp there ≡ logged_replaced tree stamp move.directory.0 move.to_directory.0 move.to_name there
+module _ (tree : TreeState) (core stamp : ℕ) (move : Move) (seen : Sight) (is : IsSoundTree tree) (shows : ShowsMove tree move seen) where
+  replaced_told : (there : Option ℕ) → row_of tree move.to_directory.0 move.to_name ≡ there
+      → replaced_logged seen move stamp there ≡ logged_replaced tree stamp move.directory.0 move.to_directory.0 move.to_name there
   replaced_told None met = refl
   replaced_told (Some there) met =
       ap (λ kind. log_entry stamp move.to_directory.0 move.to_name there kind Remove (other_side move.to_directory.0 move.directory.0) [] ∷ [])
@@ -64,8 +69,10 @@ module _ (tree : TreeState) (core stamp : ℕ) (move : Move) (seen : Seen) (is :
     above_told : cond (goes_between seen move) seen.above [] ≡ recorded_above tree effect move.to_directory.0
     above_told = elim (true_or_false (goes_between seen move)) [
       | inl between ↦
-          ap (λ b. cond b seen.above []) between ∙ (way_up between ∙ sym (ap (λ b. cond b (walk_up (len tree.rows) tree move.to_directory.0) []) (sym between_is ∙ between)))
-      | inr not_between ↦ ap (λ b. cond b seen.above []) not_between ∙ sym (ap (λ b. cond b (walk_up (len tree.rows) tree move.to_directory.0) []) (sym between_is ∙ not_between))
+          ap (λ b. cond b seen.above []) between
+          ∙ (way_up between ∙ sym (ap (λ b. cond b (walk_up (len tree.rows) tree move.to_directory.0) []) (sym between_is ∙ between)))
+      | inr not_between ↦ ap (λ b. cond b seen.above []) not_between
+          ∙ sym (ap (λ b. cond b (walk_up (len tree.rows) tree move.to_directory.0) []) (sym between_is ∙ not_between))
     ]
 
     abbrev rows_put : Kind → List ℕ → List Change
@@ -76,13 +83,16 @@ module _ (tree : TreeState) (core stamp : ℕ) (move : Move) (seen : Seen) (is :
 
     moved_logged : effect_logged seen move stamp effect ≡ logged_by tree core stamp effect None
     moved_logged =
-        ap₂ (λ front rest. front ++ rest) (ap (replaced_logged seen move stamp) (there_row tree move seen is shows) ∙ replaced_told (row_of tree move.to_directory.0 move.to_name) refl)
+        ap₂ (λ front rest. front ++ rest)
+        (ap (replaced_logged seen move stamp) (there_row tree move seen is shows) ∙ replaced_told (row_of tree move.to_directory.0 move.to_name) refl)
         (ap₂ rows_put (kind_by tree child (moves_directory seen move) (child_kind tree move seen is shows child moves.row)) above_told)
 
 pub renames_log : RenamesLog
 renames_log tree core stamp move seen is shows = elim (moves_or_not tree core move) [
-  | inl nothing ↦ ap₂ (λ e m. logged_by tree core stamp e m) nothing.effect nothing.makes ∙ sym (ap (effect_logged seen move stamp) (effect_seen tree core move seen is shows ∙ nothing.effect))
+  | inl nothing ↦ ap₂ (λ e m. logged_by tree core stamp e m) nothing.effect nothing.makes
+      ∙ sym (ap (effect_logged seen move stamp) (effect_seen tree core move seen is shows ∙ nothing.effect))
   | inr moved ↦
       ap₂ (λ e m. logged_by tree core stamp e m) moved.1.effect moved.1.makes
-      ∙ (sym (moved_logged tree core stamp move seen is shows moved.0 moved.1) ∙ sym (ap (effect_logged seen move stamp) (effect_seen tree core move seen is shows ∙ moved.1.effect)))
+      ∙ (sym (moved_logged tree core stamp move seen is shows moved.0 moved.1)
+      ∙ sym (ap (effect_logged seen move stamp) (effect_seen tree core move seen is shows ∙ moved.1.effect)))
 ]

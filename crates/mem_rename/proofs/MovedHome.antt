@@ -46,10 +46,10 @@ use Rattle.mem_rename.specs.declared.plans.Plan.{Plan}
 use Rattle.mem_rename.specs.declared.looking.Look.{Look}
 use Rattle.mem_rename.specs.declared.shifts.Shift.{Shift}
 use Rattle.mem_rename.specs.declared.shifts.Noted.{Noted}
-use Rattle.mem_rename.specs.Seen.{Seen, call_of, child_seen, there_seen, moves_directory, meets_directory, goes_between, rename_by, ShowsMove, stands_by}
+use Rattle.mem_rename.specs.Sights.{Sight, rename_call, child_seen, there_seen, moves_directory, meets_directory, goes_between, rename_by, ShowsMove, stands_by}
 use Rattle.mem_rename.specs.Decisions.{look_of, same_child}
 use Rattle.mem_rename.specs.Shifts.{shift_of}
-use Rattle.mem_rename.specs.Ready.{seen_of, IsWithin, IsReady, MayMeetOn}
+use Rattle.mem_rename.specs.Ready.{seen_of, AreSidesWithin, HoldsRename, MayMeetOn}
 use Rattle.mem_rename.specs.Moving.{with_row, less_one, same_bucket, same_file, at_bucket, at_file, bucket_moved, IsPrepared, ChangesHeld, SetsLock}
 use Rattle.mem_rename.proofs.Moved.{MovesChild, moves_child}
 use Rattle.mem_rename.proofs.Verdicts.{child_row, there_row}
@@ -78,9 +78,11 @@ none_either true o is = is
 none_either false o is = refl
 
 -- in a tree that a core may meet which is ready to move a child its plan is this
-module _ (given : ℕ → Option OldKept) (t : TableState) (nodes : ℕ) (table : IsFileTable t nodes) (move : Move) (within : IsWithin nodes move) (plan : Plan) (above : List ℕ) (hand : Hand Cell Fact)
-    (ready : IsReady given t nodes move plan above hand) (tree : TreeState) (on : MayMeetOn plan move.to_directory.0 above hand tree) (child : NodeId) (moves : MovesChild tree hand.view.core move child.0) where
-  abbrev seen : Seen
+module _ (given : ℕ → Option OldKept) (t : TableState) (nodes : ℕ) (table : IsFileTable t nodes) (move : Move) (within : AreSidesWithin nodes move)
+    (plan : Plan) (above : List ℕ) (hand : Hand Cell Fact)
+    (ready : HoldsRename given t nodes move plan above hand) (tree : TreeState) (on : MayMeetOn plan move.to_directory.0 above hand tree) (child : NodeId)
+    (moves : MovesChild tree hand.view.core move child.0) where
+  abbrev seen : Sight
   seen = seen_of nodes hand.held move plan above
 
   abbrev look : Look
@@ -96,34 +98,50 @@ module _ (given : ℕ → Option OldKept) (t : TableState) (nodes : ℕ) (table 
   same_kind there is = fitted.same_kind given t nodes table move within plan above hand ready tree on child.0 moves there is
 
   comes_by : (between : Bool) → goes_between seen move ≡ between → plan.comes ≡ cond between (Some child) None
-  comes_by true is = readies.comes_is given t nodes table move within plan above hand ready tree on child.0 child_is (fitted.new_stands given t nodes table move within plan above hand ready tree on child.0 moves) is
-  comes_by false is = ap (λ (x : Plan). x.comes) ready.asked ∙ ap (λ b. cond b look.child None) (drop_last look.to_stands (not (nat_eq move.directory.0 move.to_directory.0)) look.moves is)
+  comes_by true is = readies.comes_is given t nodes table move within plan above hand ready tree on child.0 child_is
+      (fitted.new_stands given t nodes table move within plan above hand ready tree on child.0 moves) is
+  comes_by false is = ap (λ (x : Plan). x.comes) ready.asked
+      ∙ ap (λ b. cond b look.child None) (drop_last look.to_stands (not (nat_eq move.directory.0 move.to_directory.0)) look.moves is)
 
-  directory_by : (meets : Bool) (there : Option ℕ) → meets_directory seen move ≡ meets → there_seen seen move ≡ there → plan.directory ≡ cond meets (option_map numbered_node there) None
-  directory_by true None is met = ap (λ (x : Plan). x.directory) ready.asked ∙ none_either ((look.moves && look.meets) && not (same_child look.child look.there)) look.there (ap (option_map numbered_node) met)
-  directory_by true (Some there) is met = readies.directory_is given t nodes table move within plan above hand ready tree on child.0 there child_is (ap₂ (λ x y. x && y) (same_kind there met ∙ is) is) apart met
-  directory_by false there is met = ap (λ (x : Plan). x.directory) ready.asked ∙ ap (λ b. cond b look.there None) (drop_last look.moves look.meets (not (same_child look.child look.there)) (drop_more look.meets (not (same_child look.child look.there)) is))
+  directory_by : (meets : Bool) (there : Option ℕ) → meets_directory seen move ≡ meets → there_seen seen move ≡ there
+      → plan.directory ≡ cond meets (option_map numbered_node there) None
+  directory_by true None is met = ap (λ (x : Plan). x.directory) ready.asked
+      ∙ none_either ((look.moves && look.meets) && not (same_child look.child look.there)) look.there (ap (option_map numbered_node) met)
+  directory_by true (Some there) is met = readies.directory_is given t nodes table move within plan above hand ready tree on child.0 there child_is
+      (ap₂ (λ x y. x && y) (same_kind there met ∙ is) is) apart met
+  directory_by false there is met = ap (λ (x : Plan). x.directory) ready.asked
+      ∙ ap (λ b. cond b look.there None)
+      (drop_last look.moves look.meets (not (same_child look.child look.there)) (drop_more look.meets (not (same_child look.child look.there)) is))
 
-  file_by : (meets : Bool) (there : Option ℕ) → meets_directory seen move ≡ meets → there_seen seen move ≡ there → plan.file ≡ cond meets None (option_map numbered_node there)
+  file_by : (meets : Bool) (there : Option ℕ) → meets_directory seen move ≡ meets → there_seen seen move ≡ there
+      → plan.file ≡ cond meets None (option_map numbered_node there)
   file_by true there is met = ap (λ (x : Plan). x.file) ready.asked
-      ∙ ap (λ b. cond b look.there None) (drop_third (is_some look.child) (not look.moves) (not look.meets) (not (same_child look.child look.there)) (ap not is))
-  file_by false None is met = ap (λ (x : Plan). x.file) ready.asked ∙ none_either (((is_some look.child && not look.moves) && not look.meets) && not (same_child look.child look.there)) look.there (ap (option_map numbered_node) met)
-  file_by false (Some there) is met = readies.file_is given t nodes table move within plan above hand ready tree on child.0 there child_is (same_kind there met ∙ is) is apart met
+      ∙ ap (λ b. cond b look.there None)
+      (drop_third (is_some look.child) (not look.moves) (not look.meets) (not (same_child look.child look.there)) (ap not is))
+  file_by false None is met = ap (λ (x : Plan). x.file) ready.asked
+      ∙ none_either (((is_some look.child && not look.moves) && not look.meets) && not (same_child look.child look.there)) look.there
+      (ap (option_map numbered_node) met)
+  file_by false (Some there) is met = readies.file_is given t nodes table move within plan above hand ready tree on child.0 there child_is
+      (same_kind there met ∙ is) is apart met
 
   pub plans : PlansMove seen move plan child
   plans = record {
     comes = comes_by (goes_between seen move) refl;
     directory = directory_by (meets_directory seen move) (there_seen seen move) refl refl;
     file = file_by (meets_directory seen move) (there_seen seen move) refl refl;
-    apart = λ same name. (home.fits tree hand.view.core move seen on.meets.sound (fitted.core_there given t nodes table move within plan above hand ready tree on) (fitted.shows given t nodes table move within plan above hand ready tree on) child.0 moves).apart
+    apart = λ same name. (home.fits tree hand.view.core move seen on.meets.sound
+        (fitted.core_there given t nodes table move within plan above hand ready tree on)
+        (fitted.shows given t nodes table move within plan above hand ready tree on) child.0 moves).apart
         ((λ i. Rattle.sfs_tree.specs.Tree.row_of tree (sym same i) (name i)) ∙ moves.row);
   }
 
 -- what is held at a place is held there too where the places are the same
-here_too : (place : ℕ) (c d : HeldCell Cell) (a b : List (HeldCell Cell)) (here : Bool) → nat_eq d.place place ≡ here → (IsSome (cell_at place a) → IsSome (cell_at place b)) → IsSome (cond (nat_eq d.place place) (Some c) (cell_at place a))
+here_too : (place : ℕ) (c d : HeldCell Cell) (a b : List (HeldCell Cell)) (here : Bool) → nat_eq d.place place ≡ here
+    → (IsSome (cell_at place a) → IsSome (cell_at place b)) → IsSome (cond (nat_eq d.place place) (Some c) (cell_at place a))
     → IsSome (cond (nat_eq d.place place) (Some d) (cell_at place b))
 here_too place c d a b true is rest some = subst (λ x. IsSome (cond x (Some d) (cell_at place b))) (sym is) refl
-here_too place c d a b false is rest some = subst (λ x. IsSome (cond x (Some d) (cell_at place b))) (sym is) (rest (subst (λ x. IsSome (cond x (Some c) (cell_at place a))) is some))
+here_too place c d a b false is rest some = subst (λ x. IsSome (cond x (Some d) (cell_at place b))) (sym is)
+    (rest (subst (λ x. IsSome (cond x (Some c) (cell_at place a))) is some))
 
 pub held_too : (place : ℕ) (a b : List (HeldCell Cell)) → places_of a ≡ places_of b → IsSome (cell_at place a) → IsSome (cell_at place b)
 held_too place [] b same some = absurd cc
@@ -131,4 +149,5 @@ held_too place (c ∷ a) [] same some = absurd (cc (same))
 held_too place (c ∷ a) (d ∷ b) same some =
     let first : c.place ≡ d.place = cc (same) in
     let rest : places_of a ≡ places_of b = cc (same) in
-    here_too place c d a b (nat_eq d.place place) refl (held_too place a b rest) (subst (λ p. IsSome (cond (nat_eq p place) (Some c) (cell_at place a))) first some)
+    here_too place c d a b (nat_eq d.place place) refl (held_too place a b rest)
+    (subst (λ p. IsSome (cond (nat_eq p place) (Some c) (cell_at place a))) first some)

@@ -21,7 +21,8 @@ module _ (nodes last : ℕ) where
   le_of c cell n same le = subst (λ (x : CellId). cell_place nodes x ≤ n) same le
 
   -- where a further cell is nearer, it is the least above
-  taken : (cells : List CellId) (next : Option CellId) (c : CellId) → IsNextAbove nodes last cells next → last < cell_place nodes c → is_before nodes (cell_place nodes c) next ≡ true → IsNextAbove nodes last (cells ++ c ∷ []) (Some c)
+  taken : (cells : List CellId) (next : Option CellId) (c : CellId) → IsNextAbove nodes last cells next → last < cell_place nodes c
+      → is_before nodes (cell_place nodes c) next ≡ true → IsNextAbove nodes last (cells ++ c ∷ []) (Some c)
   taken cells None c is above before = record {
     among = in_right cells (c ∷ []) c (inl refl);
     above = above;
@@ -43,7 +44,8 @@ module _ (nodes last : ℕ) where
   }
 
   -- where it is not, all stays
-  left : (cells : List CellId) (next : Option CellId) (c : CellId) → IsNextAbove nodes last cells next → (nat_lt last (cell_place nodes c) && is_before nodes (cell_place nodes c) next) ≡ false → IsNextAbove nodes last (cells ++ c ∷ []) next
+  left : (cells : List CellId) (next : Option CellId) (c : CellId) → IsNextAbove nodes last cells next
+      → (nat_lt last (cell_place nodes c) && is_before nodes (cell_place nodes c) next) ≡ false → IsNextAbove nodes last (cells ++ c ∷ []) next
   left cells None c is not = λ cell among. elim (last_or_front cells c cell among) [
     | inl front ↦ is cell front
     | inr same ↦ le_of c cell last same (not_above (nat_lt last (cell_place nodes c)) refl not)
@@ -57,19 +59,24 @@ module _ (nodes last : ℕ) where
     above = is.above;
     least = λ cell among. elim (last_or_front cells c cell among) [
       | inl front ↦ is.least cell front
-      | inr same ↦ subst (λ (x : CellId). (cell_place nodes x ≤ last) ⊎ (cell_place nodes n ≤ cell_place nodes x)) same (either (nat_lt last (cell_place nodes c)) refl not)
+      | inr same ↦ subst (λ (x : CellId). (cell_place nodes x ≤ last) ⊎ (cell_place nodes n ≤ cell_place nodes x)) same
+          (either (nat_lt last (cell_place nodes c)) refl not)
     ];
   }
     where
-      either : (b : Bool) → nat_lt last (cell_place nodes c) ≡ b → (b && nat_lt (cell_place nodes c) (cell_place nodes n)) ≡ false → (cell_place nodes c ≤ last) ⊎ (cell_place nodes n ≤ cell_place nodes c)
+      either : (b : Bool) → nat_lt last (cell_place nodes c) ≡ b → (b && nat_lt (cell_place nodes c) (cell_place nodes n)) ≡ false → (cell_place nodes c ≤ last)
+          ⊎ (cell_place nodes n ≤ cell_place nodes c)
       either true is_b e = let ge = ltb-false _ _ e in inr (omega (arith, ge))
       either false is_b e = let ge = ltb-false _ _ is_b in inl (omega (arith, ge))
 
-  pub next_more : (cells : List CellId) (next : Option CellId) (c : CellId) → IsNextAbove nodes last cells next → IsNextAbove nodes last (cells ++ c ∷ []) (nearer nodes last next c)
+  pub next_more : (cells : List CellId) (next : Option CellId) (c : CellId) → IsNextAbove nodes last cells next
+      → IsNextAbove nodes last (cells ++ c ∷ []) (nearer nodes last next c)
   next_more cells next c is = elim (true_or_false (nat_lt last (cell_place nodes c) && is_before nodes (cell_place nodes c) next)) [
-    | inl better ↦ subst (λ b. IsNextAbove nodes last (cells ++ c ∷ []) (cond b (Some c) next)) (sym better) (taken cells next c is (ltb-true _ _ (and_first _ _ better)) (and_second (nat_lt last (cell_place nodes c)) _ better))
+    | inl better ↦ subst (λ b. IsNextAbove nodes last (cells ++ c ∷ []) (cond b (Some c) next)) (sym better)
+        (taken cells next c is (ltb-true _ _ (and_first _ _ better)) (and_second (nat_lt last (cell_place nodes c)) _ better))
     | inr not ↦ subst (λ b. IsNextAbove nodes last (cells ++ c ∷ []) (cond b (Some c) next)) (sym not) (left cells next c is not)
   ]
 
-  pub next_all : (cells : List CellId) (i : ℕ) (next : Option CellId) → IsNextAbove nodes last (take i cells) next → length cells ≤ i → IsNextAbove nodes last cells next
+  pub next_all : (cells : List CellId) (i : ℕ) (next : Option CellId) → IsNextAbove nodes last (take i cells) next → length cells ≤ i
+      → IsNextAbove nodes last cells next
   next_all cells i next is end = subst (λ l. IsNextAbove nodes last l next) (take_all i cells end) is

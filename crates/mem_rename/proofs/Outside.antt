@@ -11,14 +11,19 @@ use Rattle.mem_values.specs.Places.{node_count}
 use Rattle.sfs_tree.specs.Laws.{IsSoundTree}
 use Rattle.mem_calls.proofs.Faults.{fault_beyond}
 use Rattle.mem_rename.specs.declared.sides.Move.{Move}
-use Rattle.mem_rename.specs.Seen.{call_of}
+use Rattle.mem_rename.specs.Sights.{rename_call}
 
-pub outside_due : (tree : TreeState) (core nodes : ℕ) (move : Move) (fault : Option Code) (code : Code) → IsSoundTree tree → node_count tree ≡ nodes → (nodes ≤ move.directory.0) ⊎ (nodes ≤ move.to_directory.0)
-    → fault ≡ directory_fault tree move.directory.0 → (fault ≡ None → move.directory.0 < nodes) → MatchOption fault (code ≡ NoEntry) (λ c. code ≡ c) → verdict tree core (call_of move) ≡ answered (reply.Error code)
+pub outside_due : (tree : TreeState) (core nodes : ℕ) (move : Move) (fault : Option Code) (code : Code) → IsSoundTree tree → node_count tree ≡ nodes
+    → (nodes ≤ move.directory.0) ⊎ (nodes ≤ move.to_directory.0)
+    → fault ≡ directory_fault tree move.directory.0 → (fault ≡ None → move.directory.0 < nodes) → MatchOption fault (code ≡ NoEntry) (λ c. code ≡ c)
+    → verdict tree core (rename_call move) ≡ answered (reply.Error code)
 outside_due tree core nodes move (Some found) code is count outside first within told =
-    ap (λ f. or_else (option_or f (directory_fault tree move.to_directory.0)) (move_row tree move.directory.0 move.name move.to_directory.0 move.to_name (row_of tree move.directory.0 move.name))) (sym first) ∙ ap refused (sym told)
+    ap (λ f. or_else (option_or f (directory_fault tree move.to_directory.0))
+    (move_row tree move.directory.0 move.name move.to_directory.0 move.to_name (row_of tree move.directory.0 move.name))) (sym first)
+    ∙ ap refused (sym told)
 outside_due tree core nodes move None code is count outside first within told =
-    ap₂ (λ f g. or_else (option_or f g) (move_row tree move.directory.0 move.name move.to_directory.0 move.to_name (row_of tree move.directory.0 move.name))) (sym first)
+    ap₂ (λ f g. or_else (option_or f g) (move_row tree move.directory.0 move.name move.to_directory.0 move.to_name (row_of tree move.directory.0 move.name)))
+    (sym first)
     (fault_beyond tree is move.to_directory.0 (beyond outside)) ∙ ap refused (sym told)
   where
     beyond : (nodes ≤ move.directory.0) ⊎ (nodes ≤ move.to_directory.0) → node_count tree ≤ move.to_directory.0

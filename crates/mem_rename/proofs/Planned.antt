@@ -23,15 +23,17 @@ use Rattle.mem_rename.specs.declared.looking.Look.{Look}
 use Rattle.mem_rename.specs.Decisions.{look_by}
 use Rattle.mem_rename.specs.Holding.{HoldsCells}
 use Rattle.mem_rename.specs.Plans.{asked_cells, plan_by}
-use Rattle.mem_rename.specs.Ready.{bucket_or, IsWithin}
+use Rattle.mem_rename.specs.Ready.{bucket_or, AreSidesWithin}
 use Rattle.mem_rename.specs.Rounds.{IsPlanWithin}
 use Rattle.mem_rename.proofs.Told.{row_told}
 use Rattle.mem_rename.proofs.Readies.{held_bucket}
 
-module _ (nodes : ℕ) (hand : Hand Cell Fact) (count : nodes ≡ node_count hand.view.first) (move : Move) (within : IsWithin nodes move) (plan : Plan) (holds : HoldsCells nodes hand.held (asked_cells move plan))
+module _ (nodes : ℕ) (hand : Hand Cell Fact) (count : nodes ≡ node_count hand.view.first) (move : Move) (within : AreSidesWithin nodes move) (plan : Plan)
+    (holds : HoldsCells nodes hand.held (asked_cells move plan))
     (tree : TreeState) (met : MayMeet hand.view hand.held tree) where
   -- what a row of a held bucket names has a number of the table
-  named_within : (node : NodeId) (name : List ℕ) → node.0 < nodes → Rattle.mem_rename.specs.Holding.HoldsCell nodes hand.held (id.Bucket node (name_bucket name)) → (child : NodeId)
+  named_within : (node : NodeId) (name : List ℕ) → node.0 < nodes
+      → Rattle.mem_rename.specs.Holding.HoldsCell nodes hand.held (id.Bucket node (name_bucket name)) → (child : NodeId)
       → option_map numbered_node (get (bucket_or (bucket_held nodes hand.held node (name_bucket name))).rows name) ≡ Some child → child.0 < nodes
   named_within node name lt holds_it child is =
       let b = held_bucket nodes hand node (name_bucket name) holds_it in
@@ -46,17 +48,20 @@ module _ (nodes : ℕ) (hand : Hand Cell Fact) (count : nodes ≡ node_count han
       by_row (Some x) e = ap (λ (n : NodeId). Some n.0) (some_is (numbered_node x) child e)
 
   abbrev look : Look
-  look = look_by (bucket_or (bucket_held nodes hand.held move.directory (name_bucket move.name))) (bucket_or (bucket_held nodes hand.held move.to_directory (name_bucket move.to_name))) move
+  look = look_by (bucket_or (bucket_held nodes hand.held move.directory (name_bucket move.name)))
+      (bucket_or (bucket_held nodes hand.held move.to_directory (name_bucket move.to_name))) move
 
   either : (b : Bool) (o : Option NodeId) (node : NodeId) → cond b o None ≡ Some node → o ≡ Some node
   either true o node e = e
   either false o node e = absurd (none_some e)
 
   child_within : (node : NodeId) → look.child ≡ Some node → node.0 < nodes
-  child_within node is = named_within move.directory move.name within.old (holds (id.Bucket move.directory (name_bucket move.name)) (Rattle.std.proofs.Common.inl refl)) node is
+  child_within node is = named_within move.directory move.name within.old
+      (holds (id.Bucket move.directory (name_bucket move.name)) (Rattle.std.proofs.Common.inl refl)) node is
 
   there_within : (node : NodeId) → look.there ≡ Some node → node.0 < nodes
-  there_within node is = named_within move.to_directory move.to_name within.new (holds (id.Bucket move.to_directory (name_bucket move.to_name)) (Rattle.std.proofs.Common.inr (Rattle.std.proofs.Common.inl refl))) node is
+  there_within node is = named_within move.to_directory move.to_name within.new
+      (holds (id.Bucket move.to_directory (name_bucket move.to_name)) (Rattle.std.proofs.Common.inr (Rattle.std.proofs.Common.inl refl))) node is
 
   pub plan_within : IsPlanWithin nodes (plan_by look move)
   plan_within = record {

@@ -36,12 +36,15 @@ same_twice one two = record {
 }
 
 -- what comes of a log that gets room or is refused it
-pub room_or_same : {X : Type 0} (nodes : ℕ) (move : Move) (before after : Hand Cell Fact) (outcome : Result X NoMemory) (keeps : KeepsPart nodes before after) → OnOk outcome (3 ≤ room_kept keeps.next.log move.directory.0)
-    → OnOk outcome (3 ≤ room_kept keeps.next.log move.to_directory.0) → MatchResult outcome (λ _. MakesRoom nodes move before after) (λ _. KeepsPart nodes before after)
+pub room_or_same : {X : Type 0} (nodes : ℕ) (move : Move) (before after : Hand Cell Fact) (outcome : Result X NoMemory) (keeps : KeepsPart nodes before after)
+    → OnOk outcome (3 ≤ room_kept keeps.next.log move.directory.0)
+    → OnOk outcome (3 ≤ room_kept keeps.next.log move.to_directory.0)
+    → MatchResult outcome (λ _. MakesRoom nodes move before after) (λ _. KeepsPart nodes before after)
 room_or_same nodes move before after (Ok x) keeps old new = record { keeps = keeps; old = old; new = new }
 room_or_same nodes move before after (Err fault) keeps old new = keeps
 
-module _ (given : ℕ → Option OldKept) (t : TableState) (nodes : ℕ) (before : Hand Cell Fact) (table : IsFileTable t nodes) (work : IsWorking given t before) where
+module _ (given : ℕ → Option OldKept) (t : TableState) (nodes : ℕ) (before : Hand Cell Fact) (table : IsFileTable t nodes)
+    (work : IsWorking given t before) where
   -- a core whose log has more room
   module _ (mid : Hand Cell Fact) (keeps : KeepsPart nodes before mid) where
     pub works_kept : IsWorking given t mid
@@ -51,10 +54,14 @@ module _ (given : ℕ → Option OldKept) (t : TableState) (nodes : ℕ) (before
     refused_kept last refused = back_ready given t nodes before table work keeps.part keeps.next keeps.was keeps.same keeps.made keeps.value keeps.is mid keeps.puts last refused
 
   -- a core whose bucket is the same
-  module _ (node : NodeId) (number : ℕ) (lt : node.0 < nodes) (small : number < 8) (after : Hand Cell Fact) (same : PutsBucket nodes node number (λ b. b) before after) where
-    bucket_stands : (first : TreeState) (account : Account) (x y : Cell) (b : Bucket) → as_bucket x ≡ Some b → as_bucket y ≡ Some b → StandsForCell given first account (id.Bucket node number) x → StandsForCell given first account (id.Bucket node number) y
+  module _ (node : NodeId) (number : ℕ) (lt : node.0 < nodes) (small : number < 8) (after : Hand Cell Fact)
+      (same : PutsBucket nodes node number (λ b. b) before after) where
+    bucket_stands : (first : TreeState) (account : Account) (x y : Cell) (b : Bucket) → as_bucket x ≡ Some b → as_bucket y ≡ Some b
+        → StandsForCell given first account (id.Bucket node number) x → StandsForCell given first account (id.Bucket node number) y
     bucket_stands first account (cell.Bucket box) (cell.Bucket other) b is is_y stood =
-        let equal : box.value ≡ other.value = cc (is ∙ sym is_y) in subst (λ (v : Bucket). Rattle.mem_values.specs.Stands.ShowsBucket (Rattle.sfs_tree.specs.History.tree_after first account.calls) node.0 number v) equal stood
+        let equal : box.value ≡ other.value = cc (is ∙ sym is_y) in
+        subst (λ (v : Bucket). Rattle.mem_values.specs.Stands.ShowsBucket
+        (Rattle.sfs_tree.specs.History.tree_after first account.calls) node.0 number v) equal stood
     bucket_stands first account (cell.Bucket box) (cell.Lock l) b is is_y stood = absurd (cc (is_y))
     bucket_stands first account (cell.Bucket box) (cell.File l) b is is_y stood = absurd (cc (is_y))
     bucket_stands first account (cell.Bucket box) (cell.Pending l) b is is_y stood = absurd (cc (is_y))
@@ -66,21 +73,27 @@ module _ (given : ℕ → Option OldKept) (t : TableState) (nodes : ℕ) (before
 
     stands : StandsForCell given before.view.first (account_of before.view.seen) (id.Bucket node number) same.change.value
     stands = option_and_then_some as_bucket (value_held nodes before.held (id.Bucket node number)) same.change.old same.change.was
-        (λ v found kind. bucket_stands before.view.first (account_of before.view.seen) v same.change.value same.change.old kind (same.change.is ∙ ap Some same.is) (stands_now given t nodes before table work (id.Bucket node number) v (lt, small) found))
+        (λ v found kind. bucket_stands before.view.first (account_of before.view.seen) v same.change.value same.change.old kind
+        (same.change.is ∙ ap Some same.is) (stands_now given t nodes before table work (id.Bucket node number) v (lt, small) found))
 
     pub works_same : IsWorking given t after
     works_same = works_put given t nodes before table work (id.Bucket node number) same.change.value after (lt, small) stands same.change.puts
 
     pub refused_same : (last : Hand Cell Fact) → IsRefused t after last → IsRefused t before last
-    refused_same last refused = refused_back t before after last (with_value (cell_place nodes (id.Bucket node number)) same.change.value before.held) same.change.puts
+    refused_same last refused = refused_back t before after last
+        (with_value (cell_place nodes (id.Bucket node number)) same.change.value before.held) same.change.puts
         (same_length given t nodes before table work (id.Bucket node number) same.change.value after (lt, small) stands same.change.puts) refused
 
 -- what is held besides the own log is the same
 module _ (nodes : ℕ) (before mid : Hand Cell Fact) (keeps : KeepsPart nodes before mid) where
-  pub kept_value : (which : Rattle.mem_values.specs.declared.cell_id.CellId.CellId) → (cell_place nodes (id.Part (record { 0 = before.view.core })) ≡ cell_place nodes which → ⊥) → value_held nodes mid.held which ≡ value_held nodes before.held which
-  kept_value which apart = ap (λ (h : Hand Cell Fact). value_held nodes h.held which) keeps.puts ∙ apart_value nodes before.held (id.Part (record { 0 = before.view.core })) which keeps.value apart
+  pub kept_value : (which : Rattle.mem_values.specs.declared.cell_id.CellId.CellId)
+      → (cell_place nodes (id.Part (record { 0 = before.view.core })) ≡ cell_place nodes which → ⊥)
+      → value_held nodes mid.held which ≡ value_held nodes before.held which
+  kept_value which apart = ap (λ (h : Hand Cell Fact). value_held nodes h.held which) keeps.puts
+      ∙ apart_value nodes before.held (id.Part (record { 0 = before.view.core })) which keeps.value apart
 
-  pub kept_bucket : (node : NodeId) (number : ℕ) → node.0 < nodes → number < 8 → bucket_held nodes mid.held node number ≡ bucket_held nodes before.held node number
+  pub kept_bucket : (node : NodeId) (number : ℕ) → node.0 < nodes → number < 8
+      → bucket_held nodes mid.held node number ≡ bucket_held nodes before.held node number
   kept_bucket node number lt small = ap (option_and_then as_bucket) (kept_value (id.Bucket node number) (λ place. omega (arith, place, lt, small)))
 
   pub kept_file : (node : NodeId) → node.0 < nodes → file_held nodes mid.held node ≡ file_held nodes before.held node

@@ -30,12 +30,12 @@ use Rattle.mem_calls.proofs.Stamped.{counted}
 use Rattle.mem_rename.specs.declared.sides.Move.{Move}
 use Rattle.mem_rename.specs.declared.plans.Plan.{Plan}
 use Rattle.mem_rename.specs.declared.looking.Look.{Look}
-use Rattle.mem_rename.specs.Seen.{Seen, stands_by, child_seen, there_seen, moves_directory, meets_directory, goes_between, replaced_directory, ShowBucketsFrom, ShowsMove}
+use Rattle.mem_rename.specs.Sights.{Sight, stands_by, child_seen, there_seen, moves_directory, meets_directory, goes_between, replaced_directory, ShowBucketsFrom, ShowsMove}
 use Rattle.mem_rename.specs.Cells.{buckets_of}
 use Rattle.mem_rename.specs.Decisions.{look_of, same_child}
 use Rattle.mem_rename.specs.Plans.{file_if, buckets_if, file_of, asked_cells}
 use Rattle.mem_rename.specs.Holding.{HoldsCell}
-use Rattle.mem_rename.specs.Ready.{bucket_or, links_if, buckets_held, seen_of, IsWithin, IsReady, MayMeetOn}
+use Rattle.mem_rename.specs.Ready.{bucket_or, links_if, buckets_held, seen_of, AreSidesWithin, HoldsRename, MayMeetOn}
 
 is_value : {X : Type 0} (o : Option X) → IsSome o → (x : X) × (o ≡ Some x)
 is_value None some = absurd cc
@@ -43,11 +43,14 @@ is_value (Some x) some = (x, refl)
 
 module _ (nodes : ℕ) (hand : Hand Cell Fact) where
   -- a bucket of which the cell is held, and a file
-  pub held_bucket : (node : NodeId) (number : ℕ) → HoldsCell nodes hand.held (id.Bucket node number) → (b : Bucket) × (bucket_held nodes hand.held node number ≡ Some b)
-  held_bucket node number holds = is_value (bucket_held nodes hand.held node number) (subst (λ o. IsSome (option_and_then as_bucket o)) (sym holds.1) (bucket_kind node number holds.0 holds.2))
+  pub held_bucket : (node : NodeId) (number : ℕ) → HoldsCell nodes hand.held (id.Bucket node number) → (b : Bucket)
+      × (bucket_held nodes hand.held node number ≡ Some b)
+  held_bucket node number holds = is_value (bucket_held nodes hand.held node number)
+      (subst (λ o. IsSome (option_and_then as_bucket o)) (sym holds.1) (bucket_kind node number holds.0 holds.2))
 
   pub held_file : (node : NodeId) → HoldsCell nodes hand.held (id.File node) → (f : FileCell) × (file_held nodes hand.held node ≡ Some f)
-  held_file node holds = is_value (file_held nodes hand.held node) (subst (λ o. IsSome (option_and_then as_file o)) (sym holds.1) (file_kind node holds.0 holds.2))
+  held_file node holds = is_value (file_held nodes hand.held node)
+      (subst (λ o. IsSome (option_and_then as_file o)) (sym holds.1) (file_kind node holds.0 holds.2))
 
 module _ (move : Move) (plan : Plan) where
   abbrev rest_after : List CellId → List CellId
@@ -63,7 +66,9 @@ module _ (move : Move) (plan : Plan) where
   with_directory = with_comes ++ buckets_if plan.directory
 
   of_files : (cell : CellId) → IsOneOf files cell → IsOneOf (asked_cells move plan) cell
-  of_files cell among = inr (inr (in_left with_directory (file_of plan.file) cell (in_left with_comes (buckets_if plan.directory) cell (in_left files (buckets_if plan.comes) cell among))))
+  of_files cell among = inr (inr
+      (in_left with_directory (file_of plan.file) cell
+      (in_left with_comes (buckets_if plan.directory) cell (in_left files (buckets_if plan.comes) cell among))))
 
   pub old_file_asked : plan.old_file ≡ true → IsOneOf (asked_cells move plan) (id.File move.directory)
   old_file_asked is =
@@ -72,7 +77,8 @@ module _ (move : Move) (plan : Plan) where
 
   pub new_file_asked : plan.new_file ≡ true → IsOneOf (asked_cells move plan) (id.File move.to_directory)
   new_file_asked is =
-      of_files (id.File move.to_directory) (in_right (file_if plan.old_file move.directory) (file_if plan.new_file move.to_directory) (id.File move.to_directory)
+      of_files (id.File move.to_directory)
+      (in_right (file_if plan.old_file move.directory) (file_if plan.new_file move.to_directory) (id.File move.to_directory)
       (subst (λ b. IsOneOf (file_if b move.to_directory) (id.File move.to_directory)) (sym is) (inl refl)))
 
   pub comes_asked : (node : NodeId) (cell : CellId) → plan.comes ≡ Some node → IsOneOf (buckets_of node) cell → IsOneOf (asked_cells move plan) cell
@@ -82,14 +88,16 @@ module _ (move : Move) (plan : Plan) where
 
   pub directory_asked : (node : NodeId) (cell : CellId) → plan.directory ≡ Some node → IsOneOf (buckets_of node) cell → IsOneOf (asked_cells move plan) cell
   directory_asked node cell is among =
-      inr (inr (in_left with_directory (file_of plan.file) cell (in_right with_comes (buckets_if plan.directory) cell (subst (λ o. IsOneOf (buckets_if o) cell) (sym is) among))))
+      inr (inr (in_left with_directory (file_of plan.file) cell
+      (in_right with_comes (buckets_if plan.directory) cell (subst (λ o. IsOneOf (buckets_if o) cell) (sym is) among))))
 
   pub file_asked : (node : NodeId) (cell : CellId) → plan.file ≡ Some node → IsOneOf (id.File node ∷ []) cell → IsOneOf (asked_cells move plan) cell
   file_asked node cell is among = inr (inr (in_right with_directory (file_of plan.file) cell (subst (λ o. IsOneOf (file_of o) cell) (sym is) among)))
 
-module _ (given : ℕ → Option OldKept) (t : TableState) (nodes : ℕ) (table : IsFileTable t nodes) (move : Move) (within : IsWithin nodes move) (plan : Plan) (above : List ℕ) (hand : Hand Cell Fact)
-    (ready : IsReady given t nodes move plan above hand) where
-  abbrev pub seen : Seen
+module _ (given : ℕ → Option OldKept) (t : TableState) (nodes : ℕ) (table : IsFileTable t nodes) (move : Move) (within : AreSidesWithin nodes move)
+    (plan : Plan) (above : List ℕ) (hand : Hand Cell Fact)
+    (ready : HoldsRename given t nodes move plan above hand) where
+  abbrev pub seen : Sight
   seen = seen_of nodes hand.held move plan above
 
   abbrev look : Look
@@ -107,18 +115,22 @@ module _ (given : ℕ → Option OldKept) (t : TableState) (nodes : ℕ) (table 
       by_there (Some there) = refl
 
   module _ (tree : TreeState) (on : MayMeetOn plan move.to_directory.0 above hand tree) where
-    shown : (node : NodeId) (number : ℕ) → node.0 < nodes → number < 8 → HoldsCell nodes hand.held (id.Bucket node number) → ShowsBucket tree node.0 number (bucket_or (bucket_held nodes hand.held node number))
+    shown : (node : NodeId) (number : ℕ) → node.0 < nodes → number < 8 → HoldsCell nodes hand.held (id.Bucket node number)
+        → ShowsBucket tree node.0 number (bucket_or (bucket_held nodes hand.held node number))
     shown node number lt small holds =
         let b = held_bucket nodes hand node number holds in
         subst (λ o. ShowsBucket tree node.0 number (bucket_or o)) (sym b.1) (bucket_shows hand nodes count tree on.meets node number b.0 lt small b.1)
 
     old_shown : ShowsBucket tree move.directory.0 (name_bucket move.name) seen.old
-    old_shown = shown move.directory (name_bucket move.name) within.old (bucket_small move.name) (ready.cells (id.Bucket move.directory (name_bucket move.name)) (inl refl))
+    old_shown = shown move.directory (name_bucket move.name) within.old (bucket_small move.name)
+        (ready.cells (id.Bucket move.directory (name_bucket move.name)) (inl refl))
 
     new_shown : ShowsBucket tree move.to_directory.0 (name_bucket move.to_name) seen.new
-    new_shown = shown move.to_directory (name_bucket move.to_name) within.new (bucket_small move.to_name) (ready.cells (id.Bucket move.to_directory (name_bucket move.to_name)) (inr (inl refl)))
+    new_shown = shown move.to_directory (name_bucket move.to_name) within.new (bucket_small move.to_name)
+        (ready.cells (id.Bucket move.to_directory (name_bucket move.to_name)) (inr (inl refl)))
 
-    links_shown : (asked : Bool) (node : NodeId) → asked ≡ true → node.0 < nodes → HoldsCell nodes hand.held (id.File node) → links_if asked (file_held nodes hand.held node) ≡ file_links tree node.0
+    links_shown : (asked : Bool) (node : NodeId) → asked ≡ true → node.0 < nodes → HoldsCell nodes hand.held (id.File node)
+        → links_if asked (file_held nodes hand.held node) ≡ file_links tree node.0
     links_shown asked node is lt holds =
         let f = held_file nodes hand node holds in
         ap₂ links_if is f.1 ∙ (file_shows hand nodes count tree on.meets node f.0 lt f.1).0
@@ -129,26 +141,31 @@ module _ (given : ℕ → Option OldKept) (t : TableState) (nodes : ℕ) (table 
       where
         by_row : (row : Option ℕ) → child_seen seen move ≡ row → (child : ℕ) × (child_seen seen move ≡ Some child)
         by_row (Some child) is = (child, is)
-        by_row None is = absurd (never (sym (ap is_some (old_shown.directories move.name ∙ ap (λ (o : Option ℕ). if_directory tree o) (ap (λ m. get m move.name) (sym old_shown.rows) ∙ is))) ∙ moves))
+        by_row None is = absurd (never
+            (sym (ap is_some (old_shown.directories move.name
+            ∙ ap (λ (o : Option ℕ). if_directory tree o) (ap (λ m. get m move.name) (sym old_shown.rows) ∙ is))) ∙ moves))
           where
             never : ◌≡◌ {A = Bool} false true → ⊥
             never e = Rattle.sfs_base.proofs.BasicTruth.false_not_true e
 
     -- where the way is needed, the lock was asked for
-    pub comes_is : (child : ℕ) → child_seen seen move ≡ Some child → stands_by move.to_directory.0 seen.new ≡ true → goes_between seen move ≡ true → plan.comes ≡ Some (numbered_node child)
+    pub comes_is : (child : ℕ) → child_seen seen move ≡ Some child → stands_by move.to_directory.0 seen.new ≡ true → goes_between seen move ≡ true
+        → plan.comes ≡ Some (numbered_node child)
     comes_is child is stands between =
         ap (λ (x : Plan). x.comes) ready.asked
         ∙ (ap (λ s. cond ((s && not (nat_eq move.directory.0 move.to_directory.0)) && moves_directory seen move) look.child None) stands
         ∙ (ap (λ b. cond b look.child None) between ∙ ap (option_map numbered_node) is))
 
-    pub directory_is : (child there : ℕ) → child_seen seen move ≡ Some child → (moves_directory seen move && meets_directory seen move) ≡ true → names_child (there_seen seen move) child ≡ false → there_seen seen move ≡ Some there
+    pub directory_is : (child there : ℕ) → child_seen seen move ≡ Some child → (moves_directory seen move && meets_directory seen move) ≡ true
+        → names_child (there_seen seen move) child ≡ false → there_seen seen move ≡ Some there
         → plan.directory ≡ Some (numbered_node there)
     directory_is child there is both apart met =
         ap (λ (x : Plan). x.directory) ready.asked
         ∙ (ap (λ b. cond (b && not (same_child look.child look.there)) look.there None) both
         ∙ (ap (λ b. cond (not b) look.there None) (same_told child is ∙ apart) ∙ ap (option_map numbered_node) met))
 
-    pub file_is : (child there : ℕ) → child_seen seen move ≡ Some child → moves_directory seen move ≡ false → meets_directory seen move ≡ false → names_child (there_seen seen move) child ≡ false → there_seen seen move ≡ Some there
+    pub file_is : (child there : ℕ) → child_seen seen move ≡ Some child → moves_directory seen move ≡ false → meets_directory seen move ≡ false
+        → names_child (there_seen seen move) child ≡ false → there_seen seen move ≡ Some there
         → plan.file ≡ Some (numbered_node there)
     file_is child there is file met_file apart met =
         ap (λ (x : Plan). x.file) ready.asked
@@ -157,16 +174,20 @@ module _ (given : ℕ → Option OldKept) (t : TableState) (nodes : ℕ) (table 
         ∙ (ap (λ b. cond (not b) look.there None) (same_told child is ∙ apart) ∙ ap (option_map numbered_node) met)))
 
     -- the directory that would be replaced is the plan's
-    replaced_is : (child : Option ℕ) → child_seen seen move ≡ child → (there : ℕ) → replaced_directory seen move child ≡ Some there → plan.directory ≡ Some (numbered_node there)
+    replaced_is : (child : Option ℕ) → child_seen seen move ≡ child → (there : ℕ) → replaced_directory seen move child ≡ Some there
+        → plan.directory ≡ Some (numbered_node there)
     replaced_is None is there met = absurd (none_some met)
-    replaced_is (Some child) is there met = elim (true_or_false (moves_directory seen move && meets_directory seen move && not (names_child (there_seen seen move) child))) [
-      | inr not_all ↦ absurd (none_some (sym (ap (λ b. cond b (there_seen seen move) None) not_all) ∙ met))
-      | inl all ↦
-          directory_is child there is (and_first _ _ all)
-          (Rattle.sfs_base.proofs.BasicTruth.not_true _ (and_second (moves_directory seen move && meets_directory seen move) _ all)) (sym (ap (λ b. cond b (there_seen seen move) None) all) ∙ met)
-    ]
+    replaced_is (Some child) is there met = elim
+        (true_or_false (moves_directory seen move && meets_directory seen move && not (names_child (there_seen seen move) child))) [
+          | inr not_all ↦ absurd (none_some (sym (ap (λ b. cond b (there_seen seen move) None) not_all) ∙ met))
+          | inl all ↦
+              directory_is child there is (and_first _ _ all)
+              (Rattle.sfs_base.proofs.BasicTruth.not_true _ (and_second (moves_directory seen move && meets_directory seen move) _ all))
+              (sym (ap (λ b. cond b (there_seen seen move) None) all) ∙ met)
+        ]
 
-    eight_shown : (node : NodeId) → node.0 < nodes → ((cell : CellId) → IsOneOf (buckets_of node) cell → HoldsCell nodes hand.held cell) → ShowBucketsFrom tree node.0 0 (buckets_held nodes hand.held (Some node))
+    eight_shown : (node : NodeId) → node.0 < nodes → ((cell : CellId) → IsOneOf (buckets_of node) cell → HoldsCell nodes hand.held cell)
+        → ShowBucketsFrom tree node.0 0 (buckets_held nodes hand.held (Some node))
     eight_shown node lt holds = (
       shown node 0 lt (omega arith) (holds (id.Bucket node 0) (inl refl)),
       (
@@ -196,22 +217,26 @@ module _ (given : ℕ → Option OldKept) (t : TableState) (nodes : ℕ) (table 
     there_within : (there : ℕ) → there_seen seen move ≡ Some there → there < nodes
     there_within there met =
         let row = Rattle.mem_rename.proofs.Told.row_told tree move.to_directory.0 move.to_name seen.new new_shown in
-        let lt = Rattle.mem_calls.proofs.Faults.node_within tree on.meets.sound there (on.meets.sound.sound.node move.to_directory.0 move.to_name there (sym row ∙ met)) in
+        let lt = Rattle.mem_calls.proofs.Faults.node_within tree on.meets.sound there
+        (on.meets.sound.sound.node move.to_directory.0 move.to_name there (sym row ∙ met)) in
         let same = Rattle.mem_calls.proofs.Faults.same_count hand tree on.meets in
         omega (arith, lt, same, count)
 
-    target_shown : (there : ℕ) → replaced_directory seen move (child_seen seen move) ≡ Some there → there_seen seen move ≡ Some there → ShowBucketsFrom tree there 0 seen.target
+    target_shown : (there : ℕ) → replaced_directory seen move (child_seen seen move) ≡ Some there → there_seen seen move ≡ Some there
+        → ShowBucketsFrom tree there 0 seen.target
     target_shown there is met =
         let directory = replaced_is (child_seen seen move) refl there is in
         subst (λ o. ShowBucketsFrom tree there 0 (buckets_held nodes hand.held o)) (sym directory)
-        (eight_shown (numbered_node there) (there_within there met) (λ cell among. ready.cells cell (directory_asked move plan (numbered_node there) cell directory among)))
+        (eight_shown (numbered_node there) (there_within there met)
+        (λ cell among. ready.cells cell (directory_asked move plan (numbered_node there) cell directory among)))
 
     replaced_there : (child : Option ℕ) (there : ℕ) → replaced_directory seen move child ≡ Some there → there_seen seen move ≡ Some there
     replaced_there None there is = absurd (none_some is)
-    replaced_there (Some child) there is = elim (true_or_false (moves_directory seen move && meets_directory seen move && not (names_child (there_seen seen move) child))) [
-      | inr not_all ↦ absurd (none_some (sym (ap (λ b. cond b (there_seen seen move) None) not_all) ∙ is))
-      | inl all ↦ sym (ap (λ b. cond b (there_seen seen move) None) all) ∙ is
-    ]
+    replaced_there (Some child) there is = elim
+        (true_or_false (moves_directory seen move && meets_directory seen move && not (names_child (there_seen seen move) child))) [
+          | inr not_all ↦ absurd (none_some (sym (ap (λ b. cond b (there_seen seen move) None) not_all) ∙ is))
+          | inl all ↦ sym (ap (λ b. cond b (there_seen seen move) None) all) ∙ is
+        ]
 
     -- What is held shows the tree.
     pub shows_move : ShowsMove tree move seen

@@ -20,8 +20,10 @@ use Rattle.mem_calls.proofs.PartKept.{room_for_one}
 use Rattle.mem_rename.specs.declared.shifts.Shift.{Shift}
 use Rattle.mem_rename.specs.Shifts.{gone_entry, gone_by, shift_logged}
 
-module _ (first : TreeState) (account : Account) (core : ℕ) (p : PartCell) (stood : StandsPart first account core p) (legal : IsLegal first account.calls) (few : p.log.entries < 2 ^ 64 - 1)
-    (shift : Shift) (name to_name : List ℕ) (number : ℕ) (above : List ℕ) (number_is : number ≡ length account.calls) (old : 3 ≤ room_kept p.log shift.from.0) (new : 3 ≤ room_kept p.log shift.to.0) where
+module _ (first : TreeState) (account : Account) (core : ℕ) (p : PartCell) (stood : StandsPart first account core p) (legal : IsLegal first account.calls)
+    (few : p.log.entries < 2 ^ 64 - 1)
+    (shift : Shift) (name to_name : List ℕ) (number : ℕ) (above : List ℕ) (number_is : number ≡ length account.calls) (old : 3 ≤ room_kept p.log shift.from.0)
+    (new : 3 ≤ room_kept p.log shift.to.0) where
   abbrev Behind : Change → Type 0
   Behind change = All (λ other. log_place other ≤ log_place change) (changes_kept p.log change.dir.0)
 
@@ -44,15 +46,19 @@ module _ (first : TreeState) (account : Account) (core : ℕ) (p : PartCell) (st
   order_two : (front : List Change) → IsInOrder front → All (λ other. log_place other ≤ 2 * number + 0) front → IsInOrder (front ++ goes ∷ comes ∷ [])
   order_two front order low = subst IsInOrder (Rattle.std.proofs.Common.append_assoc front (goes ∷ []) (comes ∷ []))
       (in_order-push (front ++ goes ∷ []) comes (in_order-push front goes order low)
-      (All-append (λ other. log_place other ≤ log_place comes) front (goes ∷ []) (more front low) (All-cons (λ other. log_place other ≤ log_place comes) goes [] (omega arith) (All-nil (λ other. log_place other ≤ log_place comes)))))
+      (All-append (λ other. log_place other ≤ log_place comes) front (goes ∷ []) (more front low)
+      (All-cons (λ other. log_place other ≤ log_place comes) goes [] (omega arith) (All-nil (λ other. log_place other ≤ log_place comes)))))
     where
       more : (l : List Change) → All (λ other. log_place other ≤ 2 * number + 0) l → All (λ other. log_place other ≤ 2 * number + 1) l
       more l all i d within = let le = all i d within in omega (arith, le)
 
   order_gone : (there : Option Rattle.sfs_base.specs.declared.numbers.NodeId.NodeId) → IsInOrder (gone_by shift to_name number there ++ goes ∷ comes ∷ [])
   order_gone None = order_two [] nothing_in_order (All-nil (λ other. log_place other ≤ 2 * number + 0))
-  order_gone (Some there) = order_two (gone_entry number shift.to.0 to_name there shift.meets shift.from.0 ∷ []) (in_order-push [] (gone_entry number shift.to.0 to_name there shift.meets shift.from.0) nothing_in_order (All-nil (λ other. log_place other ≤ 2 * number + 0)))
-      (All-cons (λ other. log_place other ≤ 2 * number + 0) (gone_entry number shift.to.0 to_name there shift.meets shift.from.0) [] (omega arith) (All-nil (λ other. log_place other ≤ 2 * number + 0)))
+  order_gone (Some there) = order_two (gone_entry number shift.to.0 to_name there shift.meets shift.from.0 ∷ [])
+      (in_order-push [] (gone_entry number shift.to.0 to_name there shift.meets shift.from.0) nothing_in_order
+      (All-nil (λ other. log_place other ≤ 2 * number + 0)))
+      (All-cons (λ other. log_place other ≤ 2 * number + 0) (gone_entry number shift.to.0 to_name there shift.meets shift.from.0) [] (omega arith)
+      (All-nil (λ other. log_place other ≤ 2 * number + 0)))
 
   room_two : (a b : Bool) (r : ℕ) → (a ≡ true → 3 ≤ r) → (b ≡ true → 3 ≤ r) → (front : ℕ) → (front ≤ cond b 1 0) → front + (cond a 1 0 + cond b 1 0) ≤ r
   room_two true b r one two front le = let three = one refl in by b le
@@ -70,7 +76,8 @@ module _ (first : TreeState) (account : Account) (core : ℕ) (p : PartCell) (st
       by true = omega arith
       by false = omega arith
 
-  room_gone : (d : ℕ) (there : Option Rattle.sfs_base.specs.declared.numbers.NodeId.NodeId) → length (filter (is_logged_in d) (gone_by shift to_name number there ++ goes ∷ comes ∷ [])) ≤ room_kept p.log d
+  room_gone : (d : ℕ) (there : Option Rattle.sfs_base.specs.declared.numbers.NodeId.NodeId)
+      → length (filter (is_logged_in d) (gone_by shift to_name number there ++ goes ∷ comes ∷ [])) ≤ room_kept p.log d
   room_gone d None =
       let one = counted d goes (comes ∷ []) in
       let two = counted d comes [] in
@@ -86,7 +93,8 @@ module _ (first : TreeState) (account : Account) (core : ℕ) (p : PartCell) (st
       let front = counted d (gone_entry number shift.to.0 to_name there shift.meets shift.from.0) (goes ∷ comes ∷ []) in
       let one = counted d goes (comes ∷ []) in
       let two = counted d comes [] in
-      let le = room_two (nat_eq shift.from.0 d) (nat_eq shift.to.0 d) (room_kept p.log d) (at_old d) (at_new d) (cond (nat_eq shift.to.0 d) 1 0) (omega arith) in
+      let le = room_two (nat_eq shift.from.0 d) (nat_eq shift.to.0 d) (room_kept p.log d) (at_old d) (at_new d) (cond (nat_eq shift.to.0 d) 1 0)
+      (omega arith) in
       omega (arith, front, one, two, le)
     where
       at_old : (d : ℕ) → nat_eq shift.from.0 d ≡ true → 3 ≤ room_kept p.log d

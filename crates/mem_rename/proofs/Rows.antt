@@ -30,7 +30,8 @@ module _ (tree : TreeState) where
     tells_gone = gone (is_in_part directory test at n)
 
     module _ (child : ℕ) where
-      come : is_directory tree child ≡ true → (b : Bool) → TellsDirectories (cond b (insert directories n child) directories) (cond b (insert rows n child) rows)
+      come : is_directory tree child ≡ true → (b : Bool)
+          → TellsDirectories (cond b (insert directories n child) directories) (cond b (insert rows n child) rows)
       come kind false name = tells name
       come kind true name =
           get-insert nat_list_cmp_total directories n child name
@@ -41,20 +42,24 @@ module _ (tree : TreeState) where
           by_place false = tells name
 
       -- and once the row of a directory came to both
-      pub tells_come : is_directory tree child ≡ true → TellsDirectories (part_with directory test at n child directories) (part_with directory test at n child rows)
+      pub tells_come : is_directory tree child ≡ true
+          → TellsDirectories (part_with directory test at n child directories) (part_with directory test at n child rows)
       tells_come kind = come kind (is_in_part directory test at n)
 
-      over : is_directory tree child ≡ false → (b : Bool) → (b ≡ true → if_directory tree (get rows n) ≡ None) → TellsDirectories directories (cond b (insert rows n child) rows)
+      over : is_directory tree child ≡ false → (b : Bool) → (b ≡ true → if_directory tree (get rows n) ≡ None)
+          → TellsDirectories directories (cond b (insert rows n child) rows)
       over file false none name = tells name
       over file true none name = by_place (eq_by_cmp name_cmp name n) refl ∙ ap (if_directory tree) (sym (get-insert nat_list_cmp_total rows n child name))
         where
           by_place : (here : Bool) → eq_by_cmp name_cmp name n ≡ here → get directories name ≡ if_directory tree (cond here (Some child) (get rows name))
           by_place false is = tells name
           by_place true is =
-              tells name ∙ (ap (λ x. if_directory tree (get rows x)) (name_cmp-IsAntisymmetric name n (is_equal _ is)) ∙ (none refl ∙ sym (ap (λ k. cond k (Some child) None) file)))
+              tells name ∙ (ap (λ x. if_directory tree (get rows x)) (name_cmp-IsAntisymmetric name n (is_equal _ is))
+              ∙ (none refl ∙ sym (ap (λ k. cond k (Some child) None) file)))
 
       -- and once the row of a file came to the rows, where no directory stood there
-      pub tells_over : is_directory tree child ≡ false → (is_in_part directory test at n ≡ true → if_directory tree (get rows n) ≡ None) → TellsDirectories directories (part_with directory test at n child rows)
+      pub tells_over : is_directory tree child ≡ false → (is_in_part directory test at n ≡ true → if_directory tree (get rows n) ≡ None)
+          → TellsDirectories directories (part_with directory test at n child rows)
       tells_over file none = over file (is_in_part directory test at n) none
 
 -- once a row went, at each name there is nothing or what was there

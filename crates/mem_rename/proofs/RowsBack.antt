@@ -17,7 +17,8 @@ same_name q n same = name_cmp-IsAntisymmetric q n (is_equal _ same)
 module _ (rows : FinMap name_cmp ℕ) (n : List ℕ) where
   -- a row that is not there can't go
   pub absent : get rows n ≡ None → remove rows n ≡ rows
-  absent none = same_map nat_list_cmp_total name_cmp-IsAntisymmetric (remove rows n) rows (λ q. get-remove nat_list_cmp_total rows n q ∙ by q (eq_by_cmp name_cmp q n) refl)
+  absent none = same_map nat_list_cmp_total name_cmp-IsAntisymmetric (remove rows n) rows
+      (λ q. get-remove nat_list_cmp_total rows n q ∙ by q (eq_by_cmp name_cmp q n) refl)
     where
       by : (q : List ℕ) (same : Bool) → eq_by_cmp name_cmp q n ≡ same → cond same None (get rows q) ≡ get rows q
       by q false is = refl
@@ -38,13 +39,15 @@ module _ (rows : FinMap name_cmp ℕ) (n : List ℕ) where
     -- a row that was put goes back to what it was
     pub undone : (there : Option NodeId) → number_of there ≡ get rows n → row_again n there (insert rows n child) ≡ rows
     undone None told = same_map nat_list_cmp_total name_cmp-IsAntisymmetric (remove (insert rows n child) n) rows
-        (λ q. get-remove nat_list_cmp_total (insert rows n child) n q ∙ (ap (cond (eq_by_cmp name_cmp q n) None) (get-insert nat_list_cmp_total rows n child q) ∙ by q (eq_by_cmp name_cmp q n) refl))
+        (λ q. get-remove nat_list_cmp_total (insert rows n child) n q
+        ∙ (ap (cond (eq_by_cmp name_cmp q n) None) (get-insert nat_list_cmp_total rows n child q) ∙ by q (eq_by_cmp name_cmp q n) refl))
       where
         by : (q : List ℕ) (same : Bool) → eq_by_cmp name_cmp q n ≡ same → cond same None (cond same (Some child) (get rows q)) ≡ get rows q
         by q false is = refl
         by q true is = told ∙ ap (get rows) (sym (same_name q n is))
     undone (Some old) told = same_map nat_list_cmp_total name_cmp-IsAntisymmetric (insert (insert rows n child) n old.0) rows
-        (λ q. get-insert nat_list_cmp_total (insert rows n child) n old.0 q ∙ (ap (cond (eq_by_cmp name_cmp q n) (Some old.0)) (get-insert nat_list_cmp_total rows n child q) ∙ by q (eq_by_cmp name_cmp q n) refl))
+        (λ q. get-insert nat_list_cmp_total (insert rows n child) n old.0 q
+        ∙ (ap (cond (eq_by_cmp name_cmp q n) (Some old.0)) (get-insert nat_list_cmp_total rows n child q) ∙ by q (eq_by_cmp name_cmp q n) refl))
       where
         by : (q : List ℕ) (same : Bool) → eq_by_cmp name_cmp q n ≡ same → cond same (Some old.0) (cond same (Some child) (get rows q)) ≡ get rows q
         by q false is = refl
@@ -55,9 +58,11 @@ pub come_then_go : (rows : FinMap name_cmp ℕ) (n m : List ℕ) (child : ℕ) �
 come_then_go rows n m child apart = same_map nat_list_cmp_total name_cmp-IsAntisymmetric (remove (insert rows m child) n) (insert (remove rows n) m child)
     (λ q. get-remove nat_list_cmp_total (insert rows m child) n q ∙ (ap (cond (eq_by_cmp name_cmp q n) None) (get-insert nat_list_cmp_total rows m child q)
     ∙ (by q (eq_by_cmp name_cmp q n) (eq_by_cmp name_cmp q m) refl refl
-    ∙ sym (get-insert nat_list_cmp_total (remove rows n) m child q ∙ ap (cond (eq_by_cmp name_cmp q m) (Some child)) (get-remove nat_list_cmp_total rows n q)))))
+    ∙ sym (get-insert nat_list_cmp_total (remove rows n) m child q
+    ∙ ap (cond (eq_by_cmp name_cmp q m) (Some child)) (get-remove nat_list_cmp_total rows n q)))))
   where
-    by : (q : List ℕ) (a b : Bool) → eq_by_cmp name_cmp q n ≡ a → eq_by_cmp name_cmp q m ≡ b → cond a None (cond b (Some child) (get rows q)) ≡ cond b (Some child) (cond a None (get rows q))
+    by : (q : List ℕ) (a b : Bool) → eq_by_cmp name_cmp q n ≡ a → eq_by_cmp name_cmp q m ≡ b
+        → cond a None (cond b (Some child) (get rows q)) ≡ cond b (Some child) (cond a None (get rows q))
     by q true true is_n is_m = absurd (apart (sym (same_name q m is_m) ∙ same_name q n is_n))
     by q true false is_n is_m = refl
     by q false true is_n is_m = refl

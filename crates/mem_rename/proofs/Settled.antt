@@ -18,8 +18,8 @@ use Rattle.mem_rename.specs.declared.sides.Move.{Move}
 use Rattle.mem_rename.specs.declared.plans.Plan.{Plan}
 use Rattle.mem_rename.specs.Decisions.{look_of}
 use Rattle.mem_rename.specs.Plans.{no_plan, same_node, same_truth, is_plan, plan_by}
-use Rattle.mem_rename.specs.Ready.{seen_of, IsReady}
-use Rattle.mem_rename.specs.Rounds.{IsPlanWithin, HoldsRound, Settles}
+use Rattle.mem_rename.specs.Ready.{seen_of, HoldsRename}
+use Rattle.mem_rename.specs.Rounds.{IsPlanWithin, HoldsRound, SettlesRename}
 
 pub refused_same : (t : TableState) (hand : Hand Cell Fact) → IsBetweenCalls t hand → IsRefused t hand hand
 refused_same t hand between = record {
@@ -35,7 +35,12 @@ refused_same t hand between = record {
 pub refused_both : (t : TableState) (a b c : Hand Cell Fact) → IsRefused t a b → IsRefused t b c → IsRefused t a c
 refused_both t a b c one two = record {
   between = two.between;
-  same = record { table = two.same.table ∙ one.same.table; cores = two.same.cores ∙ one.same.cores; leads = two.same.leads ∙ one.same.leads; number = two.same.number ∙ one.same.number };
+  same = record {
+    table = two.same.table ∙ one.same.table;
+    cores = two.same.cores ∙ one.same.cores;
+    leads = two.same.leads ∙ one.same.leads;
+    number = two.same.number ∙ one.same.number;
+  };
   room = (let r = one.room in let s = two.room in let none = ap length one.between.holds_none in omega (arith, r, s, none));
   spare = two.spare ∙ one.spare;
   seen = (one.seen.0 ++ two.seen.0, sym (append_assoc a.view.seen one.seen.0 two.seen.0) ∙ (ap (λ l. l ++ two.seen.0) one.seen.1 ∙ two.seen.1));
@@ -82,13 +87,18 @@ plan_same a b is =
       old_file = truth_same a.old_file b.old_file (and_first _ _ two) i;
       new_file = truth_same a.new_file b.new_file (and_second (same_truth a.old_file b.old_file) _ two) i;
       comes = node_same a.comes b.comes (and_second (same_truth a.old_file b.old_file && same_truth a.new_file b.new_file) _ three) i;
-      directory = node_same a.directory b.directory (and_second (same_truth a.old_file b.old_file && same_truth a.new_file b.new_file && same_node a.comes b.comes) _ four) i;
-      file = node_same a.file b.file (and_second (same_truth a.old_file b.old_file && same_truth a.new_file b.new_file && same_node a.comes b.comes && same_node a.directory b.directory) _ is) i;
+      directory = node_same a.directory b.directory
+          (and_second (same_truth a.old_file b.old_file && same_truth a.new_file b.new_file && same_node a.comes b.comes) _ four) i;
+      file = node_same a.file b.file
+          (and_second (same_truth a.old_file b.old_file && same_truth a.new_file b.new_file && same_node a.comes b.comes
+          && same_node a.directory b.directory) _ is) i;
     }
 
 -- A round that holds what follows from it has settled.
-pub settled : (given : ℕ → Option OldKept) (t : TableState) (nodes : ℕ) (move : Move) (plan next : Plan) (above : List ℕ) (start begun hand : Hand Cell Fact) → IsPlanWithin nodes plan → IsRefused t start begun → HoldsRound given t nodes move plan above begun hand
-    → next ≡ plan_by (look_of (seen_of nodes hand.held move plan above) move) move → is_plan next plan ≡ true → Settles given t nodes move plan above start hand
+pub settled : (given : ℕ → Option OldKept) (t : TableState) (nodes : ℕ) (move : Move) (plan next : Plan) (above : List ℕ) (start begun hand : Hand Cell Fact)
+    → IsPlanWithin nodes plan → IsRefused t start begun → HoldsRound given t nodes move plan above begun hand
+    → next ≡ plan_by (look_of (seen_of nodes hand.held move plan above) move) move → is_plan next plan ≡ true
+    → SettlesRename given t nodes move plan above start hand
 settled given t nodes move plan next above start begun hand within again round asked same = record {
   begun = begun;
   again = again;

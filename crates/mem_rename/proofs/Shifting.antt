@@ -13,13 +13,13 @@ use Rattle.mem_values.specs.declared.cell.FileCell.{FileCell}
 use Rattle.mem_values.specs.declared.bucket.Bucket.{Bucket}
 use Rattle.mem_rename.specs.declared.sides.Move.{Move}
 use Rattle.mem_rename.specs.declared.plans.Plan.{Plan}
-use Rattle.mem_rename.specs.Seen.{Seen, there_seen, moves_directory, meets_directory, goes_between}
+use Rattle.mem_rename.specs.Sights.{Sight, there_seen, moves_directory, meets_directory, goes_between}
 use Rattle.mem_rename.specs.After.{rows_moved, directories_moved, stands_moved, IsMovedBucket, IsMovedFile}
 use Rattle.mem_rename.specs.Moving.{with_row, without_row, standing, less_one, at_bucket, in_directory, at_file, bucket_moved}
 use Rattle.mem_rename.proofs.RowsBack.{come_then_go}
 
 -- What a plan has where a child moves.
-pub record PlansMove (seen : Seen) (move : Move) (plan : Plan) (child : NodeId) : Type 0 where
+pub record PlansMove (seen : Sight) (move : Move) (plan : Plan) (child : NodeId) : Type 0 where
   pub comes : plan.comes ≡ cond (goes_between seen move) (Some child) None
   pub directory : plan.directory ≡ cond (meets_directory seen move) (option_map numbered_node (there_seen seen move)) None
   pub file : plan.file ≡ cond (meets_directory seen move) None (option_map numbered_node (there_seen seen move))
@@ -64,7 +64,9 @@ module _ (move : Move) (child : NodeId) (at : NodeId) (n : ℕ) (b : Bucket) whe
     by_rows moves false false is_a is_g = refl
 
     by_directories : (moves a g : Bool) → comes_here ≡ a → goes_here ≡ g
-        → (rowed moves a g).directories ≡ cond moves (cond a (insert (cond g (remove b.directories move.name) b.directories) move.to_name child.0) (cond g (remove b.directories move.name) b.directories)) (cond g (remove b.directories move.name) b.directories)
+        → (rowed moves a g).directories ≡ cond moves
+        (cond a (insert (cond g (remove b.directories move.name) b.directories) move.to_name child.0)
+        (cond g (remove b.directories move.name) b.directories)) (cond g (remove b.directories move.name) b.directories)
     by_directories true true true is_a is_g = come_then_go b.directories move.name move.to_name child.0 (names_apart is_a is_g)
     by_directories true true false is_a is_g = refl
     by_directories true false true is_a is_g = refl
@@ -92,18 +94,23 @@ module _ (move : Move) (child : NodeId) (at : NodeId) (n : ℕ) (b : Bucket) whe
   stands_if s true = refl
   stands_if s false = refl
 
-  comes_stand : (between : Bool) → number_of (in_directory (cond between (Some child) None) (standing (Some move.to_directory)) at n b).stands ≡ cond (between && nat_eq child.0 at.0) (Some move.to_directory.0) (number_of b.stands)
+  comes_stand : (between : Bool)
+      → number_of (in_directory (cond between (Some child) None) (standing (Some move.to_directory)) at n b).stands ≡ cond (between && nat_eq child.0 at.0)
+      (Some move.to_directory.0) (number_of b.stands)
   comes_stand true = stands_if (Some move.to_directory) (nat_eq child.0 at.0)
   comes_stand false = refl
 
-  gone_stand : (meets : Bool) (there : Option ℕ) → number_of (in_directory (cond meets (option_map numbered_node there) None) (standing None) at n b).stands ≡ cond (meets && is_this at.0 there) None (number_of b.stands)
+  gone_stand : (meets : Bool) (there : Option ℕ)
+      → number_of (in_directory (cond meets (option_map numbered_node there) None) (standing None) at n b).stands ≡ cond (meets && is_this at.0 there) None
+      (number_of b.stands)
   gone_stand true None = refl
   gone_stand true (Some there) = stands_if None (nat_eq there at.0)
   gone_stand false there = refl
 
-module _ (seen : Seen) (move : Move) (plan : Plan) (child : NodeId) (plans : PlansMove seen move plan child) where
+module _ (seen : Sight) (move : Move) (plan : Plan) (child : NodeId) (plans : PlansMove seen move plan child) where
   abbrev pub bucket_after : NodeId → ℕ → Bucket → Bucket
-  bucket_after at n b = bucket_moved move plan at n (at_bucket move.to_directory (name_bucket move.to_name) (with_row (moves_directory seen move) move.to_name child.0) at n b)
+  bucket_after at n b = bucket_moved move plan at n
+      (at_bucket move.to_directory (name_bucket move.to_name) (with_row (moves_directory seen move) move.to_name child.0) at n b)
 
   pub bucket_is_moved : (at : NodeId) (n : ℕ) (b : Bucket) → IsMovedBucket seen move child.0 at.0 n b (bucket_after at n b)
   bucket_is_moved at n b =
@@ -112,13 +119,15 @@ module _ (seen : Seen) (move : Move) (plan : Plan) (child : NodeId) (plans : Pla
       let mid : Bucket = in_directory plan.directory (standing None) at n inner in
       record {
         rows = in_rows (Some move.to_directory) at n mid plan.comes ∙ (in_rows None at n inner plan.directory ∙ moved_rows move child at n b plans.apart moves);
-        directories = in_directories (Some move.to_directory) at n mid plan.comes ∙ (in_directories None at n inner plan.directory ∙ moved_directories move child at n b plans.apart moves);
+        directories = in_directories (Some move.to_directory) at n mid plan.comes
+            ∙ (in_directories None at n inner plan.directory ∙ moved_directories move child at n b plans.apart moves);
         stands = ap (λ o. number_of (in_directory o (standing (Some move.to_directory)) at n mid).stands) plans.comes
             ∙ (comes_stand move child at n mid (goes_between seen move)
             ∙ ap (cond (goes_between seen move && nat_eq child.0 at.0) (Some move.to_directory.0))
             (ap (λ o. number_of (in_directory o (standing None) at n inner).stands) plans.directory
             ∙ (gone_stand move child at n inner (meets_directory seen move) (there_seen seen move)
-            ∙ ap (λ s. cond (meets_directory seen move && is_this at.0 (there_seen seen move)) None (number_of s)) (same_stands move child at n b moves (comes_here move child at n b) (goes_here move child at n b)))));
+            ∙ ap (λ s. cond (meets_directory seen move && is_this at.0 (there_seen seen move)) None (number_of s))
+            (same_stands move child at n b moves (comes_here move child at n b) (goes_here move child at n b)))));
       }
 
   less : (at : NodeId) (f : FileCell) (meets : Bool) (there : Option ℕ) → ((not meets && is_this at.0 there) ≡ true → 0 < f.links)
@@ -139,8 +148,10 @@ module _ (seen : Seen) (move : Move) (plan : Plan) (child : NodeId) (plans : Pla
       by true = refl
       by false = refl
 
-  pub file_is_moved : (at : NodeId) (f : FileCell) → ((not (meets_directory seen move) && is_this at.0 (there_seen seen move)) ≡ true → 0 < f.links) → IsMovedFile seen move at.0 f (at_file plan.file less_one at f)
+  pub file_is_moved : (at : NodeId) (f : FileCell) → ((not (meets_directory seen move) && is_this at.0 (there_seen seen move)) ≡ true → 0 < f.links)
+      → IsMovedFile seen move at.0 f (at_file plan.file less_one at f)
   file_is_moved at f some = record {
-    links = ap (λ o. (at_file o less_one at f).links + cond (not (meets_directory seen move) && is_this at.0 (there_seen seen move)) 1 0) plans.file ∙ less at f (meets_directory seen move) (there_seen seen move) some;
+    links = ap (λ o. (at_file o less_one at f).links + cond (not (meets_directory seen move) && is_this at.0 (there_seen seen move)) 1 0) plans.file
+        ∙ less at f (meets_directory seen move) (there_seen seen move) some;
     file = same_bytes at f plan.file;
   }

@@ -35,10 +35,12 @@ pub still_same : (nodes : ℕ) (hand : Hand Cell Fact) → StillHolds nodes hand
 still_same nodes hand = record { values = λ which value is. is; trees = λ tree meets. meets }
 
 pub still_both : (nodes : ℕ) (a b c : Hand Cell Fact) → StillHolds nodes a b → StillHolds nodes b c → StillHolds nodes a c
-still_both nodes a b c one two = record { values = λ which value is. two.values which value (one.values which value is); trees = λ tree meets. one.trees tree (two.trees tree meets) }
+still_both nodes a b c one two = record
+    { values = λ which value is. two.values which value (one.values which value is); trees = λ tree meets. one.trees tree (two.trees tree meets) }
 
 -- what is held is still held
-pub holds_still : (nodes : ℕ) (before after : Hand Cell Fact) (cell : CellId) → StillHolds nodes before after → HoldsCell nodes before.held cell → HoldsCell nodes after.held cell
+pub holds_still : (nodes : ℕ) (before after : Hand Cell Fact) (cell : CellId) → StillHolds nodes before after → HoldsCell nodes before.held cell
+    → HoldsCell nodes after.held cell
 holds_still nodes before after cell still holds = (holds.0, still.values cell holds.0 holds.1, holds.2)
 
 -- a bucket or a file lies between the lock and the logs
@@ -76,19 +78,25 @@ low_one place last later le = elim (true_or_false (nat_le place last)) [
 
 count_more : (nodes last later : ℕ) (cells : List CellId) → last ≤ later → count_low nodes last cells ≤ count_low nodes later cells
 count_more nodes last later [] le = omega arith
-count_more nodes last later (c ∷ cells) le = let a = low_one (cell_place nodes c) last later le in let b = count_more nodes last later cells le in omega (arith, a, b)
+count_more nodes last later (c ∷ cells) le = let a = low_one (cell_place nodes c) last later le in let b = count_more nodes last later cells le in
+    omega (arith, a, b)
 
 -- one more where a cell lies between
-count_next : (nodes last : ℕ) (cells : List CellId) (next : CellId) → IsOneOf cells next → last < cell_place nodes next → count_low nodes last cells + 1 ≤ count_low nodes (cell_place nodes next) cells
+count_next : (nodes last : ℕ) (cells : List CellId) (next : CellId) → IsOneOf cells next → last < cell_place nodes next
+    → count_low nodes last cells + 1 ≤ count_low nodes (cell_place nodes next) cells
 count_next nodes last [] next among above = absurd among
 count_next nodes last (c ∷ cells) next among above = elim among [
   | inl same ↦
       let le = count_more nodes last (cell_place nodes next) cells (omega (arith, above)) in
-      subst (λ (x : CellId). cond (nat_le (cell_place nodes x) last) 1 0 + count_low nodes last cells + 1 ≤ cond (nat_le (cell_place nodes x) (cell_place nodes next)) 1 0 + count_low nodes (cell_place nodes next) cells) (sym same) (here le)
-  | inr rest ↦ let a = low_one (cell_place nodes c) last (cell_place nodes next) (omega (arith, above)) in let b = count_next nodes last cells next rest above in omega (arith, a, b)
+      subst (λ (x : CellId). cond (nat_le (cell_place nodes x) last) 1 0 + count_low nodes last cells + 1 ≤ cond
+      (nat_le (cell_place nodes x) (cell_place nodes next)) 1 0 + count_low nodes (cell_place nodes next) cells) (sym same) (here le)
+  | inr rest ↦ let a = low_one (cell_place nodes c) last (cell_place nodes next) (omega (arith, above)) in
+      let b = count_next nodes last cells next rest above in omega (arith, a, b)
 ]
   where
-    here : count_low nodes last cells ≤ count_low nodes (cell_place nodes next) cells → cond (nat_le (cell_place nodes next) last) 1 0 + count_low nodes last cells + 1 ≤ cond (nat_le (cell_place nodes next) (cell_place nodes next)) 1 0 + count_low nodes (cell_place nodes next) cells
+    here : count_low nodes last cells ≤ count_low nodes (cell_place nodes next) cells
+        → cond (nat_le (cell_place nodes next) last) 1 0 + count_low nodes last cells + 1 ≤ cond
+        (nat_le (cell_place nodes next) (cell_place nodes next)) 1 0 + count_low nodes (cell_place nodes next) cells
     here le = elim (true_or_false (nat_le (cell_place nodes next) last)) [
       | inl low ↦ let a = leb-true _ _ low in absurd (omega (arith, a, above))
       | inr high ↦ rw high (rw (le-leb (cell_place nodes next) (cell_place nodes next) (omega arith)) (omega (arith, le)))
@@ -129,7 +137,8 @@ module _ (given : ℕ → Option OldKept) (t : TableState) (nodes : ℕ) (cells 
   }
 
   module _ (last : ℕ) (now : Hand Cell Fact) (so : HoldsSoFar given t nodes cells last start now) where
-    pub goes_on : (next : CellId) (after : Hand Cell Fact) → IsLeastAbove nodes last cells next → IsWorking given t after → Gains nodes next now after → HoldsSoFar given t nodes cells (cell_place nodes next) start after
+    pub goes_on : (next : CellId) (after : Hand Cell Fact) → IsLeastAbove nodes last cells next → IsWorking given t after → Gains nodes next now after
+        → HoldsSoFar given t nodes cells (cell_place nodes next) start after
     goes_on next after least work gains = record {
       work = work;
       on = works_on_both start now after so.on gains.on;
@@ -137,7 +146,8 @@ module _ (given : ℕ → Option OldKept) (t : TableState) (nodes : ℕ) (cells 
       held = λ cell among le. elim (least.least cell among) [
         | inl below ↦ holds_still nodes now after cell gains.still (so.held cell among below)
         | inr further ↦
-            let same = places_apart nodes 0 next cell (tree_cell nodes 0 next (one_is_tree_cell nodes cells next are least.among)) (tree_cell nodes 0 cell (one_is_tree_cell nodes cells cell are among)) (omega (arith, le, further)) in
+            let same = places_apart nodes 0 next cell (tree_cell nodes 0 next (one_is_tree_cell nodes cells next are least.among))
+            (tree_cell nodes 0 cell (one_is_tree_cell nodes cells cell are among)) (omega (arith, le, further)) in
             subst (HoldsCell nodes after.held) same gains.there
       ];
       above = subst (LiesAbove (cell_place nodes next + 1)) (sym gains.top) (omega arith);
@@ -156,7 +166,12 @@ module _ (given : ℕ → Option OldKept) (t : TableState) (nodes : ℕ) (cells 
         omega (arith, more, all, r, enough)
 
     pub ends : IsNextAbove nodes last cells None → HoldsAsked nodes cells start now
-    ends none = record { on = so.on; still = so.still; holds = λ cell among. so.held cell among (none cell among); below = higher now.view.held last (32 + 10 * nodes) so.above so.low }
+    ends none = record {
+      on = so.on;
+      still = so.still;
+      holds = λ cell among. so.held cell among (none cell among);
+      below = higher now.view.held last (32 + 10 * nodes) so.above so.low;
+    }
 
     pub room_left : start.room ≤ now.room + length cells
     room_left = let r = so.room in let all = count_all nodes last cells in omega (arith, r, all)

@@ -34,14 +34,16 @@ lock_left lock last place above =
     ap (λ b. reverse (cond b (cond (nat_le 1 lock.place) [] (lock ∷ [])) (last ∷ lock ∷ []))) (le-leb 1 last.place above)
     ∙ ap (λ (p : ℕ). reverse (cond (nat_le 1 p) [] (lock ∷ []))) place
 
-module _ (given : ℕ → Option OldKept) (t : TableState) (nodes : ℕ) (table : IsFileTable t nodes) (node : NodeId) (within : node.0 < nodes) (before mid after : Hand Cell Fact)
+module _ (given : ℕ → Option OldKept) (t : TableState) (nodes : ℕ) (table : IsFileTable t nodes) (node : NodeId) (within : node.0 < nodes)
+    (before mid after : Hand Cell Fact)
     (work : IsWorking given t before) (lock : HoldsLock before) (work_mid : IsWorking given t mid) (gains : Gains nodes (id.Bucket node 0) before mid)
     (lets : LetsGo mid after) (left : after.held ≡ left_below 1 mid.held) (places : after.view.held ≡ reverse (places_of after.held)) where
   both_held : mid.held ≡ lock.lock ∷ gains.held.0 ∷ []
   both_held = gains.held.1 ∙ ap (λ l. l ++ gains.held.0 ∷ []) lock.alone
 
   held_after : after.held ≡ before.held
-  held_after = left ∙ (ap (left_below 1) both_held ∙ (lock_left lock.lock gains.held.0 lock.place (subst (λ p. 1 ≤ p) (sym gains.held.2) (omega arith)) ∙ sym lock.alone))
+  held_after = left ∙ (ap (left_below 1) both_held
+      ∙ (lock_left lock.lock gains.held.0 lock.place (subst (λ p. 1 ≤ p) (sym gains.held.2) (omega arith)) ∙ sym lock.alone))
 
   view_held_after : after.view.held ≡ before.view.held
   view_held_after = places ∙ (ap (λ (l : List (HeldCell Cell)). reverse (places_of l)) held_after ∙ sym work.places)
@@ -74,7 +76,8 @@ module _ (given : ℕ → Option OldKept) (t : TableState) (nodes : ℕ) (table 
       let knew = (subst (KnowsCells given mid.view) both_held work_mid.knows).0 in
       record {
         holds = subst (λ l. Has l lock.lock.place) (sym view_held_after) here.holds;
-        stood = subst (λ (z : TreeState × List (Event Fact)). StandsAt given z.0 z.1 lock.lock.place lock.lock.value) (λ i. ((first_mid ∙ sym first_after) i, sym seen_after i)) knew.stood;
+        stood = subst (λ (z : TreeState × List (Event Fact)). StandsAt given z.0 z.1 lock.lock.place lock.lock.value)
+            (λ i. ((first_mid ∙ sym first_after) i, sym seen_after i)) knew.stood;
       }
 
   pub works_after : IsWorking given t after
@@ -98,11 +101,13 @@ module _ (given : ℕ → Option OldKept) (t : TableState) (nodes : ℕ) (table 
       sound = subst IsSoundTree tree_same gains.seen_met.sound;
       first = ap (λ (x : TreeState). x.first) (sym tree_same) ∙ (gains.seen_met.first ∙ ap (λ (f : TreeState). f.first) (first_mid ∙ sym first_after));
       share = ap (λ (x : TreeState). x.share) (sym tree_same) ∙ (gains.seen_met.share ∙ ap (λ (f : TreeState). f.share) (first_mid ∙ sym first_after));
-      cores = ap (λ (x : TreeState). length x.made) (sym tree_same) ∙ (gains.seen_met.cores ∙ ap (λ (f : TreeState). length f.made) (first_mid ∙ sym first_after));
+      cores = ap (λ (x : TreeState). length x.made) (sym tree_same)
+          ∙ (gains.seen_met.cores ∙ ap (λ (f : TreeState). length f.made) (first_mid ∙ sym first_after));
       shows = tt;
     };
     bucket = bucket;
     shows = subst (λ (x : TreeState). ShowsBucket x node.0 0 bucket) tree_same
-        (bucket_shows mid nodes (counted given t nodes mid table work_mid) (tree_after mid.view.first (calls_in mid.view.seen)) gains.seen_met node 0 bucket within (omega arith) is);
+        (bucket_shows mid nodes (counted given t nodes mid table work_mid)
+        (tree_after mid.view.first (calls_in mid.view.seen)) gains.seen_met node 0 bucket within (omega arith) is);
     stands = refl;
   }

@@ -16,7 +16,7 @@ use Rattle.sfs_tree.proofs.Names.{get-own_bucket}
 use Rattle.sfs_tree.proofs.Holders.{standing_is_alive}
 use Rattle.mem_values.specs.declared.bucket.Bucket.{Bucket}
 use Rattle.mem_values.specs.Stands.{ShowsBucket, if_directory, file_links}
-use Rattle.mem_rename.specs.Seen.{stands_by, fault_by}
+use Rattle.mem_rename.specs.Sights.{stands_by, fault_by}
 
 -- a node has a number where it is there
 some_number : (node : Option NodeId) → is_some node ≡ is_some (number_of node)
@@ -33,13 +33,15 @@ module _ (tree : TreeState) where
   row_told d n b shows = ap (λ m. get m n) shows.rows ∙ get-own_bucket d n tree.rows
 
   -- and whether that is a directory
-  pub kind_told : (directory : ℕ) (n : List ℕ) (b : Bucket) (child : ℕ) → ShowsBucket tree directory (name_bucket n) b → row_of tree directory n ≡ Some child → is_some (get b.directories n) ≡ is_directory tree child
+  pub kind_told : (directory : ℕ) (n : List ℕ) (b : Bucket) (child : ℕ) → ShowsBucket tree directory (name_bucket n) b → row_of tree directory n ≡ Some child
+      → is_some (get b.directories n) ≡ is_directory tree child
   kind_told d n b child shows row =
       ap is_some (shows.directories n ∙ ap (if_directory tree) (get-own_bucket d n tree.rows ∙ row)) ∙ some_if (is_directory tree child) child
 
   module _ (is : IsSoundTree tree) where
     -- a bucket tells whether its directory stands: it is alive, and a directory
-    pub standing_told : (directory number : ℕ) (b : Bucket) → ShowsBucket tree directory number b → stands_by directory b ≡ (is_alive tree directory && is_directory tree directory)
+    pub standing_told : (directory number : ℕ) (b : Bucket) → ShowsBucket tree directory number b
+        → stands_by directory b ≡ (is_alive tree directory && is_directory tree directory)
     standing_told d number b shows = ap (λ o. nat_eq d 0 || o) (some_number b.stands ∙ ap is_some shows.stands) ∙ standing_is_alive tree d is
 
     -- no row names what is not alive
@@ -59,7 +61,8 @@ module _ (tree : TreeState) where
     abbrev by_tree : Bool → Bool → Option Code
     by_tree alive kind = cond (not alive) (Some NoEntry) (cond (not kind) (Some NotDir) None)
 
-    links_told : (directory links : ℕ) → links ≡ file_links tree directory → (is_alive tree directory && is_directory tree directory) ≡ false → by_links links ≡ by_tree (is_alive tree directory) (is_directory tree directory)
+    links_told : (directory links : ℕ) → links ≡ file_links tree directory → (is_alive tree directory && is_directory tree directory) ≡ false
+        → by_links links ≡ by_tree (is_alive tree directory) (is_directory tree directory)
     links_told d links shown apart = elim (true_or_false (is_alive tree d)) [
       | inl alive ↦
           let file = then_false (is_alive tree d) (is_directory tree d) apart alive in
@@ -75,7 +78,8 @@ module _ (tree : TreeState) where
         same_both false = refl
 
     -- so the fault of a directory is known by a bucket of it and, where it does not stand, by its links as a file
-    pub fault_told : (directory number links : ℕ) (b : Bucket) → ShowsBucket tree directory number b → (stands_by directory b ≡ false → links ≡ file_links tree directory) → fault_by directory b links ≡ directory_fault tree directory
+    pub fault_told : (directory number links : ℕ) (b : Bucket) → ShowsBucket tree directory number b
+        → (stands_by directory b ≡ false → links ≡ file_links tree directory) → fault_by directory b links ≡ directory_fault tree directory
     fault_told d number links b shows linked = elim (true_or_false (stands_by d b)) [
       | inl stands ↦
           let both : (is_alive tree d && is_directory tree d) ≡ true = sym (standing_told d number b shows) ∙ stands in

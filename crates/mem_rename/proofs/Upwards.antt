@@ -21,13 +21,16 @@ use Rattle.mem_rename.specs.Ways.{last_read}
 use Rattle.mem_rename.specs.Laws.{ReadingGoesUp, ReadingEndsAtTheRoot, ReadingBreaksOffBelowTheDead, ReadWaysStay}
 
 -- what stands in another directory is a directory, and the other is its holder
-standing_holder : (tree : TreeState) (node holder : ℕ) (kind : Bool) → is_directory tree node ≡ kind → Rattle.std.specs.Prelude.if◌then◌else◌ kind (holder_of tree node) None ≡ Some holder → IsHolder tree node holder
+standing_holder : (tree : TreeState) (node holder : ℕ) (kind : Bool) → is_directory tree node ≡ kind
+    → Rattle.std.specs.Prelude.if◌then◌else◌ kind (holder_of tree node) None ≡ Some holder → IsHolder tree node holder
 standing_holder tree node holder true is stands = record { kind = is; held = λ alive. stands }
 standing_holder tree node holder false is stands = absurd (none_some stands)
 
 pub reading_goes_up : ReadingGoesUp
-reading_goes_up tree node number holder [] bucket are shows stands = (standing_holder tree node holder (is_directory tree node) refl (sym shows.stands ∙ stands), tt)
-reading_goes_up tree node number holder (next ∷ above) bucket are shows stands = (are.0, reading_goes_up tree next number holder above bucket are.1 shows stands)
+reading_goes_up tree node number holder [] bucket are shows stands =
+    (standing_holder tree node holder (is_directory tree node) refl (sym shows.stands ∙ stands), tt)
+reading_goes_up tree node number holder (next ∷ above) bucket are shows stands =
+    (are.0, reading_goes_up tree next number holder above bucket are.1 shows stands)
 
 pub reading_ends_at_the_root : ReadingEndsAtTheRoot
 reading_ends_at_the_root node [] last = last
@@ -46,18 +49,21 @@ module _ (tree : TreeState) (is : IsSoundTree tree) where
   ]
 
   -- so all directories that were read above a live one are live
-  last_lives : (node : ℕ) (above : List ℕ) → AreHolders tree node above → (is_alive tree node && is_directory tree node) ≡ true → (is_alive tree (last_read node above) && is_directory tree (last_read node above)) ≡ true
+  last_lives : (node : ℕ) (above : List ℕ) → AreHolders tree node above → (is_alive tree node && is_directory tree node) ≡ true
+      → (is_alive tree (last_read node above) && is_directory tree (last_read node above)) ≡ true
   last_lives node [] are lives = lives
   last_lives node (next ∷ above) are lives = last_lives next above are.1 (holder_lives node next are.0 (and_first _ _ lives))
 
   -- what stands nowhere and is not the root is no live directory
-  stands_nowhere : (node number : ℕ) (bucket : Bucket) → ShowsBucket tree node number bucket → number_of bucket.stands ≡ None → node ≢ 0 → (is_alive tree node && is_directory tree node) ≡ false
+  stands_nowhere : (node number : ℕ) (bucket : Bucket) → ShowsBucket tree node number bucket → number_of bucket.stands ≡ None → node ≢ 0
+      → (is_alive tree node && is_directory tree node) ≡ false
   stands_nowhere node number bucket shows none other =
       sym (standing_is_alive tree node is) ∙ (ap (λ o. nat_eq node 0 || is_some o) (sym shows.stands ∙ none) ∙ ap (λ b. b || false) (not_same node 0 other))
 
 pub reading_breaks_off_below_the_dead : ReadingBreaksOffBelowTheDead
 reading_breaks_off_below_the_dead tree node number above bucket is are shows none other =
-    false_from_ne_true _ (λ lives. not_both (last_lives tree is node above are lives) (stands_nowhere tree is (last_read node above) number bucket shows none other))
+    false_from_ne_true _ (λ lives. not_both (last_lives tree is node above are lives)
+    (stands_nowhere tree is (last_read node above) number bucket shows none other))
 
 pub read_ways_stay : ReadWaysStay
 read_ways_stay given first before after (cell.Lock lock) node above sound legal stood stands are =

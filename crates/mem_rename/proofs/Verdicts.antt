@@ -18,7 +18,7 @@ use Rattle.sfs_tree.proofs.Fitting.{may_hold}
 use Rattle.sfs_tree.proofs.Walks.{not_below_own}
 use Rattle.sfs_tree.proofs.Holders.{read_holders_are_above}
 use Rattle.mem_rename.specs.declared.sides.Move.{Move}
-use Rattle.mem_rename.specs.Seen.{Seen, call_of, stands_by, fault_by, child_seen, there_seen, moves_directory, meets_directory, goes_between, goes_below, are_bare, place_fault_by, move_fault_by, move_by, rename_by, ShowsMove}
+use Rattle.mem_rename.specs.Sights.{Sight, rename_call, stands_by, fault_by, child_seen, there_seen, moves_directory, meets_directory, goes_between, goes_below, are_bare, place_fault_by, move_fault_by, move_by, rename_by, ShowsMove}
 use Rattle.mem_rename.specs.Laws.{RenamesAreAsSeen}
 use Rattle.mem_rename.proofs.Told.{row_told, kind_told, standing_told, fault_told}
 use Rattle.mem_rename.proofs.Bare.{bare_told}
@@ -34,7 +34,7 @@ bare_matters_not true false bare other apart = refl
 bare_matters_not false true bare other apart = refl
 bare_matters_not false false bare other apart = refl
 
-module _ (tree : TreeState) (move : Move) (seen : Seen) (is : IsSoundTree tree) (shows : ShowsMove tree move seen) where
+module _ (tree : TreeState) (move : Move) (seen : Sight) (is : IsSoundTree tree) (shows : ShowsMove tree move seen) where
   abbrev p : ℕ
   p = move.directory.0
 
@@ -60,14 +60,16 @@ module _ (tree : TreeState) (move : Move) (seen : Seen) (is : IsSoundTree tree) 
   there_kind there row = kind_told tree q m seen.new there shows.new row
 
   -- a directory that may hold rows stands, by its bucket
-  pub stands : (directory number : ℕ) (b : Rattle.mem_values.specs.declared.bucket.Bucket.Bucket) → Rattle.mem_values.specs.Stands.ShowsBucket tree directory number b → MayHold tree directory → stands_by directory b ≡ true
+  pub stands : (directory number : ℕ) (b : Rattle.mem_values.specs.declared.bucket.Bucket.Bucket)
+      → Rattle.mem_values.specs.Stands.ShowsBucket tree directory number b → MayHold tree directory → stands_by directory b ≡ true
   stands directory number b shown holder = standing_told tree is directory number b shown ∙ ap₂ (λ a k. a && k) holder.alive holder.kind
 
   old_fault : fault_by p seen.old seen.old_links ≡ directory_fault tree p
   old_fault = fault_told tree is p (name_bucket n) seen.old_links seen.old shows.old shows.old_links
 
   new_fault : directory_fault tree p ≡ None → fault_by q seen.new seen.new_links ≡ directory_fault tree q
-  new_fault none = fault_told tree is q (name_bucket m) seen.new_links seen.new shows.new (shows.new_links (stands p (name_bucket n) seen.old shows.old (may_hold tree p none)))
+  new_fault none = fault_told tree is q (name_bucket m) seen.new_links seen.new shows.new
+      (shows.new_links (stands p (name_bucket n) seen.old shows.old (may_hold tree p none)))
 
   -- the directories above the new one are those that were read
   pub below_told : MayHold tree q → goes_between seen move ≡ true → (child : ℕ) → lies_below tree q child ≡ list_any (λ above. nat_eq above child) seen.above
@@ -78,13 +80,16 @@ module _ (tree : TreeState) (move : Move) (seen : Seen) (is : IsSoundTree tree) 
   abbrev at_or_below : ℕ → Bool
   at_or_below child = nat_eq q child || list_any (λ above. nat_eq above child) seen.above
 
-  invalid_told : MayHold tree q → (child : ℕ) → row_of tree p n ≡ Some child → goes_below seen move child ≡ (is_directory tree child && (nat_eq q child || lies_below tree q child))
+  invalid_told : MayHold tree q → (child : ℕ) → row_of tree p n ≡ Some child
+      → goes_below seen move child ≡ (is_directory tree child && (nat_eq q child || lies_below tree q child))
   invalid_told holder child row = elim (true_or_false (is_directory tree child)) [
-    | inr file ↦ ap (λ k. (not (nat_eq p q) && k) && at_or_below child) (child_kind child row ∙ file) ∙ (neither (nat_eq p q) (at_or_below child) ∙ sym (ap (λ k. k && (nat_eq q child || lies_below tree q child)) file))
+    | inr file ↦ ap (λ k. (not (nat_eq p q) && k) && at_or_below child) (child_kind child row ∙ file)
+        ∙ (neither (nat_eq p q) (at_or_below child) ∙ sym (ap (λ k. k && (nat_eq q child || lies_below tree q child)) file))
     | inl kind ↦ elim (true_or_false (nat_eq p q)) [
       | inl same ↦
           ap (λ s. (not s && moves_directory seen move) && at_or_below child) same
-          ∙ sym (ap (λ k. k && (nat_eq q child || lies_below tree q child)) kind ∙ subst (λ (z : ℕ). (nat_eq z child || lies_below tree z child) ≡ false) (eqb-true _ _ same) (not_below_own tree is.sound p child n row kind))
+          ∙ sym (ap (λ k. k && (nat_eq q child || lies_below tree q child)) kind
+          ∙ subst (λ (z : ℕ). (nat_eq z child || lies_below tree z child) ≡ false) (eqb-true _ _ same) (not_below_own tree is.sound p child n row kind))
       | inr other ↦
           let between : goes_between seen move ≡ true = ap₂ (λ s k. not s && k) other (child_kind child row ∙ kind) in
           ap (λ b. b && at_or_below child) between
@@ -97,15 +102,18 @@ module _ (tree : TreeState) (move : Move) (seen : Seen) (is : IsSoundTree tree) 
       neither false any = refl
 
   -- the directory that is replaced has no row exactly where its buckets have none
-  bare_there : (child there : ℕ) → row_of tree p n ≡ Some child → row_of tree q m ≡ Some there → nat_eq there child ≡ false → is_directory tree child ≡ true → is_directory tree there ≡ true
+  bare_there : (child there : ℕ) → row_of tree p n ≡ Some child → row_of tree q m ≡ Some there → nat_eq there child ≡ false → is_directory tree child ≡ true
+      → is_directory tree there ≡ true
       → are_bare seen.target ≡ nat_eq (row_count tree there) 0
   bare_there child there row met apart kind kind_there =
       bare_told tree there seen.target (shows.target there (
-      ap (Rattle.mem_rename.specs.Seen.replaced_directory seen move) (child_row ∙ row)
-      ∙ (ap₂ (λ x y. cond (x && y && not (names_child (there_seen seen move) child)) (there_seen seen move) None) (child_kind child row ∙ kind) (there_kind there met ∙ kind_there)
+      ap (Rattle.mem_rename.specs.Sights.replaced_directory seen move) (child_row ∙ row)
+      ∙ (ap₂ (λ x y. cond (x && y && not (names_child (there_seen seen move) child)) (there_seen seen move) None) (child_kind child row ∙ kind)
+      (there_kind there met ∙ kind_there)
       ∙ (ap (λ o. cond (not (names_child o child)) o None) (there_row ∙ met) ∙ ap (λ b. cond (not b) (Some there) None) apart))))
 
-  place_told : (child : ℕ) → row_of tree p n ≡ Some child → names_child (row_of tree q m) child ≡ false → (there : Option ℕ) → row_of tree q m ≡ there → place_fault_by seen move there ≡ place_fault tree child q m there
+  place_told : (child : ℕ) → row_of tree p n ≡ Some child → names_child (row_of tree q m) child ≡ false → (there : Option ℕ) → row_of tree q m ≡ there
+      → place_fault_by seen move there ≡ place_fault tree child q m there
   place_told child row apart None met = ap (λ l. cond (nat_le BUCKET_ROWS l) (Some DirFull) None) (ap len shows.new.rows)
   place_told child row apart (Some there) met =
       ap₂ (λ x y. by_kinds x y (are_bare seen.target)) (child_kind child row) (there_kind there met)
@@ -115,7 +123,8 @@ module _ (tree : TreeState) (move : Move) (seen : Seen) (is : IsSoundTree tree) 
         | inr not_both ↦ bare_matters_not (is_directory tree child) (is_directory tree there) _ _ not_both
       ]
 
-  move_told : MayHold tree q → (child : ℕ) → row_of tree p n ≡ Some child → names_child (row_of tree q m) child ≡ false → move_fault_by seen move child ≡ move_fault tree child q m
+  move_told : MayHold tree q → (child : ℕ) → row_of tree p n ≡ Some child → names_child (row_of tree q m) child ≡ false
+      → move_fault_by seen move child ≡ move_fault tree child q m
   move_told holder child row apart =
       ap₂ (λ b f. cond b (Some Invalid) f) (invalid_told holder child row)
       (ap (place_fault_by seen move) there_row ∙ place_told child row apart (row_of tree q m) refl)
@@ -124,20 +133,25 @@ module _ (tree : TreeState) (move : Move) (seen : Seen) (is : IsSoundTree tree) 
   moved_told holder None row = refl
   moved_told holder (Some child) row = elim (true_or_false (names_child (row_of tree q m) child)) [
     | inl same ↦
-        ap (λ b. cond b (answered reply.Ok) (or_else (move_fault_by seen move child) (done (Moves p n q m child)))) (ap (λ o. names_child o child) there_row ∙ same)
+        ap (λ b. cond b (answered reply.Ok) (or_else (move_fault_by seen move child) (done (Moves p n q m child))))
+        (ap (λ o. names_child o child) there_row ∙ same)
         ∙ sym (ap (λ b. cond b (answered reply.Ok) (or_else (move_fault tree child q m) (done (Moves p n q m child)))) same)
     | inr apart ↦
-        ap₂ (λ b f. cond b (answered reply.Ok) (or_else f (done (Moves p n q m child)))) (ap (λ o. names_child o child) there_row) (move_told holder child row apart)
+        ap₂ (λ b f. cond b (answered reply.Ok) (or_else f (done (Moves p n q m child)))) (ap (λ o. names_child o child) there_row)
+        (move_told holder child row apart)
   ]
 
   -- the table goes by the faults of both directories
-  by_faults : (core : ℕ) (old new : Option Code) → directory_fault tree p ≡ old → directory_fault tree q ≡ new → rename_by seen move ≡ or_else (option_or old new) (move_row tree p n q m (row_of tree p n))
-  by_faults core (Some code) new old_is new_is = ap (λ f. or_else (option_or f (fault_by q seen.new seen.new_links)) (move_by seen move (child_seen seen move))) (old_fault ∙ old_is)
+  by_faults : (core : ℕ) (old new : Option Code) → directory_fault tree p ≡ old → directory_fault tree q ≡ new
+      → rename_by seen move ≡ or_else (option_or old new) (move_row tree p n q m (row_of tree p n))
+  by_faults core (Some code) new old_is new_is = ap (λ f. or_else (option_or f (fault_by q seen.new seen.new_links)) (move_by seen move (child_seen seen move)))
+      (old_fault ∙ old_is)
   by_faults core None new old_is new_is =
       ap (λ f. or_else (option_or f (fault_by q seen.new seen.new_links)) (move_by seen move (child_seen seen move))) (old_fault ∙ old_is)
       ∙ (ap (λ f. or_else f (move_by seen move (child_seen seen move))) (new_fault old_is ∙ new_is) ∙ by_new new new_is)
     where
-      by_new : (new : Option Code) → directory_fault tree q ≡ new → or_else new (move_by seen move (child_seen seen move)) ≡ or_else new (move_row tree p n q m (row_of tree p n))
+      by_new : (new : Option Code) → directory_fault tree q ≡ new
+          → or_else new (move_by seen move (child_seen seen move)) ≡ or_else new (move_row tree p n q m (row_of tree p n))
       by_new (Some code) is_fault = refl
       by_new None none = ap (move_by seen move) child_row ∙ moved_told (may_hold tree q none) (row_of tree p n) refl
 

@@ -31,7 +31,8 @@ use Rattle.mem_rename.specs.Ways.{last_read, HoldsLock, ReadsOn, SawStanding, Ha
 use Rattle.mem_rename.proofs.Upwards.{read_ways_stay, reading_goes_up, reading_ends_at_the_root}
 
 -- So far directories above one have been read, the last of which stands here.
-pub record HasWalked (given : ℕ → Option OldKept) (t : TableState) (nodes node : ℕ) (start now : Hand Cell Fact) (above : List NodeId) (at : NodeId) : Type 0 where
+pub record HasWalked (given : ℕ → Option OldKept) (t : TableState) (nodes node : ℕ) (start now : Hand Cell Fact) (above : List NodeId)
+    (at : NodeId) : Type 0 where
   pub on : ReadsOn start now
   pub work : IsWorking given t now
   pub lock : HoldsLock now
@@ -66,30 +67,39 @@ holder_node tree is node holder stands = node_within tree is holder (directory_n
     ]
 
 module _ (given : ℕ → Option OldKept) (t : TableState) (nodes : ℕ) (table : IsFileTable t nodes) (node : ℕ) (start : Hand Cell Fact) where
-  pub walk_begins : (at : NodeId) → node ≡ at.0 → IsWorking given t start → HoldsLock start → IsLegal start.view.first (calls_in start.view.seen) → at.0 < nodes → HasWalked given t nodes node start start [] at
+  pub walk_begins : (at : NodeId) → node ≡ at.0 → IsWorking given t start → HoldsLock start → IsLegal start.view.first (calls_in start.view.seen) → at.0 < nodes
+      → HasWalked given t nodes node start start [] at
   walk_begins at same work lock legal within = record { on = reads_on_same start legal; work = work; lock = lock; holders = tt; last = same; within = within }
 
   module _ (now : Hand Cell Fact) (above : List NodeId) (at : NodeId) (walked : HasWalked given t nodes node start now above at) where
     pub walk_ends : at.0 ≡ 0 → HasReadAll now node (map node_number above)
     walk_ends root = record { holders = walked.holders; ends = reading_ends_at_the_root node (map node_number above) (walked.last ∙ root) }
 
-    lock_stands : (hand : Hand Cell Fact) → IsWorking given t hand → (lock : HoldsLock hand) → StandsForCell given hand.view.first (account_of hand.view.seen) id.Lock lock.lock.value
+    lock_stands : (hand : Hand Cell Fact) → IsWorking given t hand → (lock : HoldsLock hand)
+        → StandsForCell given hand.view.first (account_of hand.view.seen) id.Lock lock.lock.value
     lock_stands hand work lock = (subst (KnowsCells given hand.view) lock.alone work.knows).0.stood id.Lock tt (sym lock.place)
 
     module _ (after : Hand Cell Fact) (holder : NodeId) (work : IsWorking given t after) (saw : SawStanding at.0 now (Some holder) after) where
       abbrev pub lock_after : HoldsLock after
-      lock_after = record { lock = walked.lock.lock; alone = ap (λ (h : Hand Cell Fact). h.held) saw.on.frame ∙ walked.lock.alone; place = walked.lock.place; kind = walked.lock.kind }
+      lock_after = record {
+        lock = walked.lock.lock;
+        alone = ap (λ (h : Hand Cell Fact). h.held) saw.on.frame ∙ walked.lock.alone;
+        place = walked.lock.place;
+        kind = walked.lock.kind;
+      }
 
       first_after : after.view.first ≡ now.view.first
       first_after = ap (λ (v : View TreeState (Event Fact)). v.first) saw.on.view
 
       -- what was read is still so
       still : AreHolders (tree_seen after) node (map node_number above)
-      still = subst (λ (z : TreeState × List (Event Fact)). AreHolders (tree_after z.0 (calls_in z.1)) node (map node_number above)) (λ i. (sym first_after i, saw.on.seen.1 i))
+      still = subst (λ (z : TreeState × List (Event Fact)). AreHolders (tree_after z.0 (calls_in z.1)) node (map node_number above))
+          (λ i. (sym first_after i, saw.on.seen.1 i))
           (read_ways_stay given now.view.first now.view.seen saw.on.seen.0 walked.lock.lock.value node (map node_number above)
           (subst IsSoundTree (sym walked.work.first) table.sound) (subst (λ l. IsLegal now.view.first (calls_in l)) (sym saw.on.seen.1) saw.on.legal)
           (lock_stands now walked.work walked.lock)
-          (subst (λ (z : TreeState × List (Event Fact)). StandsForCell given z.0 (account_of z.1) id.Lock walked.lock.lock.value) (λ i. (first_after i, sym saw.on.seen.1 i)) (lock_stands after work lock_after))
+          (subst (λ (z : TreeState × List (Event Fact)). StandsForCell given z.0 (account_of z.1) id.Lock walked.lock.lock.value)
+          (λ i. (first_after i, sym saw.on.seen.1 i)) (lock_stands after work lock_after))
           walked.holders)
 
       stands : number_of saw.bucket.stands ≡ Some holder.0
@@ -101,10 +111,12 @@ module _ (given : ℕ → Option OldKept) (t : TableState) (nodes : ℕ) (table 
         work = work;
         lock = lock_after;
         holders = subst (AreHolders (tree_seen after) node) (sym (map-append node_number above (holder ∷ [])))
-            (reading_goes_up (tree_seen after) node 0 holder.0 (map node_number above) saw.bucket still (subst (λ (n : ℕ). ShowsBucket (tree_seen after) n 0 saw.bucket) (sym walked.last) saw.shows) stands);
+            (reading_goes_up (tree_seen after) node 0 holder.0 (map node_number above) saw.bucket still
+            (subst (λ (n : ℕ). ShowsBucket (tree_seen after) n 0 saw.bucket) (sym walked.last) saw.shows) stands);
         last = ap (last_read node) (map-append node_number above (holder ∷ [])) ∙ last_read-push node holder.0 (map node_number above);
         within =
             let lt = holder_node (tree_seen after) saw.met.sound at.0 holder.0 (sym saw.shows.stands ∙ stands) in
-            let same : node_count (tree_seen after) ≡ nodes = (λ i. saw.met.first i + saw.met.share i * saw.met.cores i) ∙ (ap node_count (first_after ∙ walked.work.first) ∙ sym table.counted) in
+            let same : node_count (tree_seen after) ≡ nodes = (λ i. saw.met.first i + saw.met.share i * saw.met.cores i)
+            ∙ (ap node_count (first_after ∙ walked.work.first) ∙ sym table.counted) in
             omega (arith, lt, same);
       }

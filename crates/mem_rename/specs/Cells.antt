@@ -7,7 +7,7 @@ use Rattle.sfs_tree.specs.Logged.{numbered_node}
 use Rattle.mem_values.specs.declared.cell_id.CellId.{CellId}
 use Rattle.mem_values.specs.declared.cell_id.CellId.TheVariants as id
 use Rattle.mem_rename.specs.declared.sides.Move.{Move}
-use Rattle.mem_rename.specs.Seen.{Seen, there_seen, meets_directory, goes_between, rename_by}
+use Rattle.mem_rename.specs.Sights.{Sight, there_seen, meets_directory, goes_between, rename_by}
 
 -- the eight buckets of a directory
 abbrev pub buckets_of : NodeId → List CellId
@@ -26,7 +26,7 @@ moved_cells true child = id.Lock ∷ buckets_of (numbered_node child)
 moved_cells false child = []
 
 -- the cells that a rename's effect changes: both buckets, those of a directory that comes to another one, and those of what is replaced
-abbrev pub cells_changed : Seen → Move → Effect → List CellId
+abbrev pub cells_changed : Sight → Move → Effect → List CellId
 cells_changed seen move (Moves directory name to_directory to_name child) =
     id.Bucket move.directory (name_bucket move.name)
     ∷ id.Bucket move.to_directory (name_bucket move.to_name)
@@ -34,5 +34,5 @@ cells_changed seen move (Moves directory name to_directory to_name child) =
 cells_changed seen move _ = []
 
 -- The cells that a rename changes: its core's log, and those that its effect does.
-abbrev pub cells_of : Seen → Move → ℕ → List CellId
+abbrev pub cells_of : Sight → Move → ℕ → List CellId
 cells_of seen move core = id.Part (record { 0 = core }) ∷ cells_changed seen move (rename_by seen move).effect

@@ -18,7 +18,7 @@ use Rattle.mem_rename.specs.declared.looking.Look.{Look}
 use Rattle.mem_rename.specs.declared.looking.Reads.{Reads}
 use Rattle.mem_rename.specs.declared.looking.Decision.{Decision}
 use Rattle.mem_rename.specs.declared.looking.Decision.TheVariants.{Answers, Moves}
-use Rattle.mem_rename.specs.Seen.{Seen, stands_by, child_seen, are_bare}
+use Rattle.mem_rename.specs.Sights.{Sight, stands_by, child_seen, are_bare}
 
 -- what two buckets tell
 abbrev pub look_by : Bucket → Bucket → Move → Look
@@ -31,16 +31,16 @@ look_by old new move = record {
   meets = is_some (get new.directories move.to_name);
 }
 
-abbrev pub look_of : Seen → Move → Look
+abbrev pub look_of : Sight → Move → Look
 look_of seen move = look_by seen.old seen.new move
 
 -- whether the child is the new directory or above it
-abbrev pub is_at_or_below : Seen → Move → Option ℕ → Bool
+abbrev pub is_at_or_below : Sight → Move → Option ℕ → Bool
 is_at_or_below seen move None = false
 is_at_or_below seen move (Some child) = move.to_directory.0 == child || list_any (λ above. above == child) seen.above
 
 -- what a rename reads besides
-abbrev pub reads_of : Seen → Move → Reads
+abbrev pub reads_of : Sight → Move → Reads
 reads_of seen move = record {
   old_links = seen.old_links;
   new_links = seen.new_links;

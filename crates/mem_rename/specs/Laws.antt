@@ -31,13 +31,13 @@ use Rattle.mem_values.specs.Facts.{IsLawfulLog}
 use Rattle.mem_values.specs.Touches.{KeepsCell}
 use Rattle.mem_values.specs.Laws.{KnowsCells, MayMeet, CallFits}
 use Rattle.mem_rename.specs.declared.sides.Move.{Move}
-use Rattle.mem_rename.specs.Seen.{Seen, call_of, rename_by, there_seen, meets_directory, goes_between, ShowsMove}
+use Rattle.mem_rename.specs.Sights.{Sight, rename_call, rename_by, there_seen, meets_directory, goes_between, ShowsMove}
 use Rattle.stamp_table.specs.Hand.{Hand}
 use Rattle.stamp_table.specs.Table.{TableState}
 use Rattle.mem_calls.specs.Table.{IsFileTable}
 use Rattle.mem_calls.specs.Held.{value_held}
 use Rattle.mem_rename.specs.declared.plans.Plan.{Plan}
-use Rattle.mem_rename.specs.Ready.{seen_of, IsWithin, IsReady, MayMeetOn}
+use Rattle.mem_rename.specs.Ready.{seen_of, AreSidesWithin, HoldsRename, MayMeetOn}
 use Rattle.mem_rename.specs.Cells.{cells_of}
 use Rattle.mem_rename.specs.Decisions.{look_of, reads_of, decision_by, verdict_of}
 use Rattle.mem_rename.specs.Logged.{rename_logged}
@@ -46,38 +46,46 @@ use Rattle.mem_rename.specs.After.{IsMovedBucket, IsMovedCell}
 
 -- In every sound tree that shows what a rename reads, it answers and does what these values say.
 abbrev pub RenamesAreAsSeen : Type 0
-RenamesAreAsSeen = (tree : TreeState) (core : ℕ) (move : Move) (seen : Seen) → IsSoundTree tree → ShowsMove tree move seen → verdict tree core (call_of move) ≡ rename_by seen move
+RenamesAreAsSeen = (tree : TreeState) (core : ℕ) (move : Move) (seen : Sight) → IsSoundTree tree → ShowsMove tree move seen
+    → verdict tree core (rename_call move) ≡ rename_by seen move
 
 -- It keeps every cell but those that the values name.
 abbrev pub RenamesKeepCells : Type 0
-RenamesKeepCells = (tree : TreeState) (core : ℕ) (move : Move) (seen : Seen) (nodes cores : ℕ) (cell : CellId) → IsSoundTree tree → core < length tree.made → ShowsMove tree move seen → IsCell nodes cores cell
-    → KeepsCell tree core (call_of move) cell ⊎ IsOneOf (cells_of seen move core) cell
+RenamesKeepCells = (tree : TreeState) (core : ℕ) (move : Move) (seen : Sight) (nodes cores : ℕ) (cell : CellId) → IsSoundTree tree → core < length tree.made
+    → ShowsMove tree move seen → IsCell nodes cores cell
+    → KeepsCell tree core (rename_call move) cell ⊎ IsOneOf (cells_of seen move core) cell
 
 -- It logs what the values say.
 abbrev pub RenamesLog : Type 0
-RenamesLog = (tree : TreeState) (core stamp : ℕ) (move : Move) (seen : Seen) → IsSoundTree tree → ShowsMove tree move seen
-    → logged_by tree core stamp (verdict tree core (call_of move)).effect (verdict tree core (call_of move)).makes ≡ rename_logged seen move stamp
+RenamesLog = (tree : TreeState) (core stamp : ℕ) (move : Move) (seen : Sight) → IsSoundTree tree → ShowsMove tree move seen
+    → logged_by tree core stamp (verdict tree core (rename_call move)).effect (verdict tree core (rename_call move)).makes ≡ rename_logged seen move stamp
 
 -- It needs the lock of the tree exactly where a directory comes to another one.
 abbrev pub RenamesNeedLock : Type 0
-RenamesNeedLock = (tree : TreeState) (core : ℕ) (move : Move) (seen : Seen) (child : ℕ) → IsSoundTree tree → ShowsMove tree move seen
-    → (rename_by seen move).effect ≡ Moves move.directory.0 move.name move.to_directory.0 move.to_name child → needs_lock tree core (call_of move) ≡ goes_between seen move
+RenamesNeedLock = (tree : TreeState) (core : ℕ) (move : Move) (seen : Sight) (child : ℕ) → IsSoundTree tree → ShowsMove tree move seen
+    → (rename_by seen move).effect ≡ Moves move.directory.0 move.name move.to_directory.0 move.to_name child
+    → needs_lock tree core (rename_call move) ≡ goes_between seen move
 
 -- Once a child has moved, a bucket that is as the rename leaves it shows the tree after it.
 abbrev pub MovedBucketsShow : Type 0
-MovedBucketsShow = (tree : TreeState) (core : ℕ) (move : Move) (seen : Seen) (child directory number : ℕ) (before after : Bucket) → IsSoundTree tree → core < length tree.made → ShowsMove tree move seen
+MovedBucketsShow = (tree : TreeState) (core : ℕ) (move : Move) (seen : Sight) (child directory number : ℕ) (before after : Bucket) → IsSoundTree tree
+    → core < length tree.made → ShowsMove tree move seen
     → (rename_by seen move).effect ≡ Moves move.directory.0 move.name move.to_directory.0 move.to_name child
-    → ShowsBucket tree directory number before → IsMovedBucket seen move child directory number before after → ShowsBucket (tree_after_call tree core (call_of move)) directory number after
+    → ShowsBucket tree directory number before → IsMovedBucket seen move child directory number before after
+    → ShowsBucket (tree_after_call tree core (rename_call move)) directory number after
 
 -- And a file that it replaced has one row less that names it.
 abbrev pub ReplacedFilesLoseALink : Type 0
-ReplacedFilesLoseALink = (tree : TreeState) (core : ℕ) (move : Move) (seen : Seen) (child there : ℕ) → IsSoundTree tree → core < length tree.made → ShowsMove tree move seen
+ReplacedFilesLoseALink = (tree : TreeState) (core : ℕ) (move : Move) (seen : Sight) (child there : ℕ) → IsSoundTree tree → core < length tree.made
+    → ShowsMove tree move seen
     → (rename_by seen move).effect ≡ Moves move.directory.0 move.name move.to_directory.0 move.to_name child
-    → there_seen seen move ≡ Some there → meets_directory seen move ≡ false → file_links (tree_after_call tree core (call_of move)) there + 1 ≡ file_links tree there
+    → there_seen seen move ≡ Some there → meets_directory seen move ≡ false
+    → file_links (tree_after_call tree core (rename_call move)) there + 1 ≡ file_links tree there
 
 -- A bucket of the last directory that was read gives the next one.
 abbrev pub ReadingGoesUp : Type 0
-ReadingGoesUp = (tree : TreeState) (node number holder : ℕ) (above : List ℕ) (bucket : Bucket) → AreHolders tree node above → ShowsBucket tree (last_read node above) number bucket
+ReadingGoesUp = (tree : TreeState) (node number holder : ℕ) (above : List ℕ) (bucket : Bucket) → AreHolders tree node above
+    → ShowsBucket tree (last_read node above) number bucket
     → number_of bucket.stands ≡ Some holder → AreHolders tree node (above ++ holder ∷ [])
 
 -- Reading has come to an end at the root.
@@ -86,40 +94,50 @@ ReadingEndsAtTheRoot = (node : ℕ) (above : List ℕ) → last_read node above 
 
 -- Where it comes to one that stands nowhere and is not the root, the directory below is not alive.
 abbrev pub ReadingBreaksOffBelowTheDead : Type 0
-ReadingBreaksOffBelowTheDead = (tree : TreeState) (node number : ℕ) (above : List ℕ) (bucket : Bucket) → IsSoundTree tree → AreHolders tree node above → ShowsBucket tree (last_read node above) number bucket
+ReadingBreaksOffBelowTheDead = (tree : TreeState) (node number : ℕ) (above : List ℕ) (bucket : Bucket) → IsSoundTree tree → AreHolders tree node above
+    → ShowsBucket tree (last_read node above) number bucket
     → number_of bucket.stands ≡ None → last_read node above ≢ 0 → (is_alive tree node && is_directory tree node) ≡ false
 
 -- As long as the lock's value stands, directories that were read above a node are its holders.
 abbrev pub ReadWaysStay : Type 0
-ReadWaysStay = (given : ℕ → Option OldKept) (first : TreeState) (before after : List (Event Fact)) (lock : Cell) (node : ℕ) (above : List ℕ) → IsSoundTree first → IsLegal first (calls_in (before ++ after))
+ReadWaysStay = (given : ℕ → Option OldKept) (first : TreeState) (before after : List (Event Fact)) (lock : Cell) (node : ℕ) (above : List ℕ) → IsSoundTree first
+    → IsLegal first (calls_in (before ++ after))
     → StandsForCell given first (account_of before) id.Lock lock → StandsForCell given first (account_of (before ++ after)) id.Lock lock
     → AreHolders (tree_after first (calls_in before)) node above → AreHolders (tree_after first (calls_in (before ++ after))) node above
 
 -- A core that has read directories above a node may stamp a call that fits each tree which its values show and in which these are the holders.
 abbrev pub CallsMayComeOnAWay : Type 0
-CallsMayComeOnAWay = (given : ℕ → Option OldKept) (view : View TreeState (Event Fact)) (cells : List (HeldCell Cell)) (node : ℕ) (above : List ℕ) (c : Call) (reply : Reply)
+CallsMayComeOnAWay = (given : ℕ → Option OldKept) (view : View TreeState (Event Fact)) (cells : List (HeldCell Cell)) (node : ℕ) (above : List ℕ) (c : Call)
+    (reply : Reply)
     → IsSoundTree view.first → view.core < length view.first.made → KnowsCells given view cells → HasRead given view node above
     → ((tree : TreeState) → MayMeet view cells tree → AreHolders tree node above → CallFits view tree c reply)
     → MayCall (IsLawfulLog given) (StandsAt given) view c reply
 
 -- What a rename decides by what it has looked at is what the values say.
 abbrev pub DecisionsAreVerdicts : Type 0
-DecisionsAreVerdicts = (move : Move) (seen : Seen) → verdict_of move (decision_by (look_of seen move) (reads_of seen move) move) ≡ rename_by seen move
+DecisionsAreVerdicts = (move : Move) (seen : Sight) → verdict_of move (decision_by (look_of seen move) (reads_of seen move) move) ≡ rename_by seen move
 
 -- What a core holds that is ready for a rename shows each tree that it may meet.
 abbrev pub ReadyCoresSeeAll : Type 0
-ReadyCoresSeeAll = (given : ℕ → Option OldKept) (t : TableState) (nodes : ℕ) (move : Move) (plan : Plan) (above : List ℕ) (hand : Hand Cell Fact) (tree : TreeState)
-    → IsFileTable t nodes → IsWithin nodes move → IsReady given t nodes move plan above hand → MayMeetOn plan move.to_directory.0 above hand tree → ShowsMove tree move (seen_of nodes hand.held move plan above)
+ReadyCoresSeeAll = (given : ℕ → Option OldKept) (t : TableState) (nodes : ℕ) (move : Move) (plan : Plan) (above : List ℕ) (hand : Hand Cell Fact)
+    (tree : TreeState)
+    → IsFileTable t nodes → AreSidesWithin nodes move → HoldsRename given t nodes move plan above hand → MayMeetOn plan move.to_directory.0 above hand tree
+    → ShowsMove tree move (seen_of nodes hand.held move plan above)
 
 -- And it holds each cell that the rename does not keep there.
 abbrev pub ReadyCoresHoldAll : Type 0
-ReadyCoresHoldAll = (given : ℕ → Option OldKept) (t : TableState) (nodes : ℕ) (move : Move) (plan : Plan) (above : List ℕ) (hand : Hand Cell Fact) (tree : TreeState) (which : CellId)
-    → IsFileTable t nodes → IsWithin nodes move → IsReady given t nodes move plan above hand → MayMeetOn plan move.to_directory.0 above hand tree → IsCell nodes (length t.first.made) which
-    → KeepsCell tree hand.view.core (call_of move) which ⊎ IsSome (value_held nodes hand.held which)
+ReadyCoresHoldAll = (given : ℕ → Option OldKept) (t : TableState) (nodes : ℕ) (move : Move) (plan : Plan) (above : List ℕ) (hand : Hand Cell Fact)
+    (tree : TreeState) (which : CellId)
+    → IsFileTable t nodes → AreSidesWithin nodes move → HoldsRename given t nodes move plan above hand → MayMeetOn plan move.to_directory.0 above hand tree
+    → IsCell nodes (length t.first.made) which
+    → KeepsCell tree hand.view.core (rename_call move) which ⊎ IsSome (value_held nodes hand.held which)
 
 -- Where a child has moved, each cell of its core goes home with the value that the rename leaves in it.
 abbrev pub MovedCellsGoHome : Type 0
-MovedCellsGoHome = (given : ℕ → Option OldKept) (first : TreeState) (log : List (Event Fact)) (entry : Entry) (move : Move) (seen : Seen) (child : ℕ) (which : CellId) (before after : Cell)
-    → IsSoundTree first → IsLawfulLog given first log → IsLegal first (calls_in (log ++ Called entry ∷ [])) → entry.call ≡ call_of move → ShowsMove (tree_after first (calls_in log)) move seen
+MovedCellsGoHome = (given : ℕ → Option OldKept) (first : TreeState) (log : List (Event Fact)) (entry : Entry) (move : Move) (seen : Sight) (child : ℕ)
+    (which : CellId) (before after : Cell)
+    → IsSoundTree first → IsLawfulLog given first log → IsLegal first (calls_in (log ++ Called entry ∷ [])) → entry.call ≡ rename_call move
+    → ShowsMove (tree_after first (calls_in log)) move seen
     → (rename_by seen move).effect ≡ Moves move.directory.0 move.name move.to_directory.0 move.to_name child
-    → StandsForCell given first (account_of log) which before → IsMovedCell seen move entry.core.0 child entry.stamp which before after → StandsForCell given first (account_of (log ++ Called entry ∷ [])) which after
+    → StandsForCell given first (account_of log) which before → IsMovedCell seen move entry.core.0 child entry.stamp which before after
+    → StandsForCell given first (account_of (log ++ Called entry ∷ [])) which after

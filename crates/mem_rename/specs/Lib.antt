@@ -8,6 +8,6 @@ pub mod Moving
 pub mod Plans
 pub mod Ready
 pub mod Rounds
-pub mod Seen
 pub mod Shifts
+pub mod Sights
 pub mod Ways

@@ -22,7 +22,7 @@ use Rattle.mem_rename.specs.declared.sides.Move.{Move}
 use Rattle.mem_rename.specs.declared.plans.Plan.{Plan}
 use Rattle.mem_rename.specs.declared.shifts.Shift.{Shift}
 use Rattle.mem_rename.specs.declared.shifts.Noted.{Noted}
-use Rattle.mem_rename.specs.Shifts.{IsNoted}
+use Rattle.mem_rename.specs.Shifts.{IsNotedMove}
 
 -- rows in which a name's row is as it was: it names this child, or is not there
 abbrev pub row_again : List ℕ → Option NodeId → FinMap name_cmp ℕ → FinMap name_cmp ℕ
@@ -140,7 +140,7 @@ pub record CanChange (nodes : ℕ) (move : Move) (plan : Plan) (held : List (Hel
 
 -- A core has made ready for a child to move: its log has room, and the new row is in its bucket.
 pub record IsPrepared (nodes : ℕ) (move : Move) (shift : Shift) (before : Hand Cell Fact) (noted : Noted) (after : Hand Cell Fact) : Type 0 where
-  pub noted_is : IsNoted move noted
+  pub noted_is : IsNotedMove move noted
   pub mid : Hand Cell Fact
   pub room : MakesRoom nodes move before mid
   pub row : PutsBucket nodes move.to_directory (name_bucket move.to_name) (with_row shift.moves move.to_name shift.child.0) mid after

@@ -28,7 +28,8 @@ same_truth false b = not b
 -- whether two plans are one
 abbrev pub is_plan : Plan → Plan → Bool
 is_plan plan other =
-    same_truth plan.old_file other.old_file && same_truth plan.new_file other.new_file && same_node plan.comes other.comes && same_node plan.directory other.directory && same_node plan.file other.file
+    same_truth plan.old_file other.old_file && same_truth plan.new_file other.new_file && same_node plan.comes other.comes
+    && same_node plan.directory other.directory && same_node plan.file other.file
 
 -- What a rename asks for: a directory that does not stand as a file, the new one where the old one stands; a directory that would come to
 -- another one that stands; and what would be replaced by what is of its kind.
@@ -57,7 +58,8 @@ file_of (Some node) = id.File node ∷ []
 
 -- the cells of a plan but for the lock
 abbrev pub plan_cells : Move → Plan → List CellId
-plan_cells move plan = file_if plan.old_file move.directory ++ file_if plan.new_file move.to_directory ++ buckets_if plan.comes ++ buckets_if plan.directory ++ file_of plan.file
+plan_cells move plan = file_if plan.old_file move.directory ++ file_if plan.new_file move.to_directory ++ buckets_if plan.comes ++ buckets_if plan.directory
+    ++ file_of plan.file
 
 -- both buckets, and the cells of a plan
 abbrev pub asked_cells : Move → Plan → List CellId

@@ -20,7 +20,7 @@ use Rattle.mem_calls.specs.Held.{bucket_held, file_held, HoldsPart}
 use Rattle.mem_calls.specs.Working.{IsWorking}
 use Rattle.mem_rename.specs.declared.sides.Move.{Move}
 use Rattle.mem_rename.specs.declared.plans.Plan.{Plan}
-use Rattle.mem_rename.specs.Seen.{Seen}
+use Rattle.mem_rename.specs.Sights.{Sight}
 use Rattle.mem_rename.specs.Decisions.{look_of}
 use Rattle.mem_rename.specs.Plans.{asked_cells, plan_by}
 use Rattle.mem_rename.specs.Holding.{HoldsCell, HoldsCells}
@@ -51,7 +51,7 @@ buckets_held nodes held (Some node) =
     ∷ []
 
 -- what a rename reads of what is held
-abbrev pub seen_of : ℕ → List (HeldCell Cell) → Move → Plan → List ℕ → Seen
+abbrev pub seen_of : ℕ → List (HeldCell Cell) → Move → Plan → List ℕ → Sight
 seen_of nodes held move plan above = record {
   old = bucket_or (bucket_held nodes held move.directory (name_bucket move.name));
   new = bucket_or (bucket_held nodes held move.to_directory (name_bucket move.to_name));
@@ -62,13 +62,14 @@ seen_of nodes held move plan above = record {
 }
 
 -- both directories have numbers of the table
-pub record IsWithin (nodes : ℕ) (move : Move) : Type 0 where
+pub record AreSidesWithin (nodes : ℕ) (move : Move) : Type 0 where
   pub old : move.directory.0 < nodes
   pub new : move.to_directory.0 < nodes
 
 -- A core holds what a rename asks for by what it holds: both buckets, its plan's cells and its log; and under the lock, where it needs
 -- that, it has read the directories above the new one up to the root.
-pub record IsReady (given : ℕ → Option OldKept) (t : TableState) (nodes : ℕ) (move : Move) (plan : Plan) (above : List ℕ) (hand : Hand Cell Fact) : Type 0 where
+pub record HoldsRename (given : ℕ → Option OldKept) (t : TableState) (nodes : ℕ) (move : Move) (plan : Plan) (above : List ℕ)
+    (hand : Hand Cell Fact) : Type 0 where
   pub work : IsWorking given t hand
   pub part : HoldsPart nodes hand
   pub cells : HoldsCells nodes hand.held (asked_cells move plan)

@@ -11,7 +11,7 @@ use Rattle.mem_values.specs.declared.fact.Fact.{Fact}
 use Rattle.mem_values.specs.Laws.{MayMeet}
 use Rattle.mem_calls.specs.Held.{HoldsPart}
 use Rattle.mem_calls.specs.Outcome.{IsRefused}
-use Rattle.mem_rename.specs.Ready.{IsReady}
+use Rattle.mem_rename.specs.Ready.{HoldsRename}
 use Rattle.mem_calls.specs.Working.{IsWorking, WorksOn}
 use Rattle.mem_rename.specs.declared.sides.Move.{Move}
 use Rattle.mem_rename.specs.declared.plans.Plan.{Plan}
@@ -26,7 +26,8 @@ pub record IsPlanWithin (nodes : ℕ) (plan : Plan) : Type 0 where
   pub file : (node : NodeId) → plan.file ≡ Some node → node.0 < nodes
 
 -- A core holds what a rename asks for by a plan, and has read the way up where it needs that. It may meet the tree that it has seen.
-pub record HoldsRound (given : ℕ → Option OldKept) (t : TableState) (nodes : ℕ) (move : Move) (plan : Plan) (above : List ℕ) (before after : Hand Cell Fact) : Type 0 where
+pub record HoldsRound (given : ℕ → Option OldKept) (t : TableState) (nodes : ℕ) (move : Move) (plan : Plan) (above : List ℕ)
+    (before after : Hand Cell Fact) : Type 0 where
   pub work : IsWorking given t after
   pub on : WorksOn before after
   pub part : HoldsPart nodes after
@@ -37,9 +38,10 @@ pub record HoldsRound (given : ℕ → Option OldKept) (t : TableState) (nodes :
   pub met : MayMeet after.view after.held (tree_seen after)
 
 -- A core has come to hold all that its rename asks for. It may have let go of all and begun again before.
-pub record Settles (given : ℕ → Option OldKept) (t : TableState) (nodes : ℕ) (move : Move) (plan : Plan) (above : List ℕ) (before after : Hand Cell Fact) : Type 0 where
+pub record SettlesRename (given : ℕ → Option OldKept) (t : TableState) (nodes : ℕ) (move : Move) (plan : Plan) (above : List ℕ)
+    (before after : Hand Cell Fact) : Type 0 where
   pub begun : Hand Cell Fact
   pub again : IsRefused t before begun
   pub on : WorksOn begun after
   pub within : IsPlanWithin nodes plan
-  pub ready : IsReady given t nodes move plan above after
+  pub ready : HoldsRename given t nodes move plan above after

@@ -29,7 +29,7 @@ shift_logged shift name to_name stamp above =
     ∷ []
 
 -- The names of a rename once more, and room for its changes.
-pub record IsNoted (move : Move) (noted : Noted) : Type 0 where
+pub record IsNotedMove (move : Move) (noted : Noted) : Type 0 where
   pub gone : noted.gone ≡ move.to_name
   pub old : noted.old ≡ move.name
   pub new : noted.new ≡ move.to_name

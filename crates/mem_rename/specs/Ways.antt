@@ -18,7 +18,7 @@ use Rattle.mem_values.specs.declared.bucket.Bucket.{Bucket}
 use Rattle.stamp_table.specs.Hand.{Hand}
 use Rattle.sfs_base.specs.declared.numbers.NodeId.{NodeId}
 use Rattle.mem_calls.specs.Working.{IsOfKind}
-use Rattle.mem_rename.specs.Seen.{IsWay}
+use Rattle.mem_rename.specs.Sights.{IsWay}
 use mathlib.Core.List.{IsPrefix}
 
 -- the last of the directories read above a node, and the node itself where none is read yet: the one of which a bucket is read next

@@ -5,8 +5,8 @@ ghost use Rattle.sfs_tree.specs.Verdict.{answered};
 ghost use Rattle.mem_calls.specs.Table.{IsFileTable};
 ghost use Rattle.mem_calls.specs.Reply.{reply_of};
 ghost use Rattle.mem_calls.specs.Outcome.{IsAnswered};
-ghost use Rattle.mem_rename.specs.Seen.{call_of, rename_by};
-ghost use Rattle.mem_rename.specs.Ready.{seen_of, IsWithin, IsReady};
+ghost use Rattle.mem_rename.specs.Sights.{rename_call, rename_by};
+ghost use Rattle.mem_rename.specs.Ready.{seen_of, AreSidesWithin, HoldsRename};
 
 use crate::plans::Plan;
 use crate::sides::Move;
@@ -28,11 +28,11 @@ pub(crate) fn answer<T: Given>(
     short: Short,
 )
     requires table { IsFileTable shared.now nodes }
-    requires within { IsWithin nodes mv }
-    requires ready { IsReady T.given shared.now nodes mv plan (map node_number above.now) core.old }
+    requires within { AreSidesWithin nodes mv }
+    requires ready { HoldsRename T.given shared.now nodes mv plan (map node_number above.now) core.old }
     requires spare { 0 < core.old.spare }
     requires answers { rename_by (seen_of nodes core.old.held mv plan (map node_number above.now)) mv ≡ answered (reply_of short) }
-    ensures { IsAnswered shared.now (call_of mv) (reply_of short) core.old core.new }
+    ensures { IsAnswered shared.now (rename_call mv) (reply_of short) core.old core.new }
 {
     let _plan = plan;
     let _above = above.len();

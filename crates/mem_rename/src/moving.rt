@@ -8,11 +8,11 @@ ghost use Rattle.mem_values.specs.declared.cell_id.CellId.TheVariants as id;
 ghost use Rattle.mem_calls.specs.Table.{IsFileTable};
 ghost use Rattle.mem_calls.specs.Held.{value_held};
 ghost use Rattle.mem_calls.specs.Outcome.{IsAnswered, IsRefused};
-ghost use Rattle.mem_rename.specs.Seen.{call_of, rename_by};
+ghost use Rattle.mem_rename.specs.Sights.{rename_call, rename_by};
 ghost use Rattle.mem_rename.specs.Holding.{HoldsCells, HoldsCell};
 ghost use Rattle.mem_rename.specs.Moving.{less_one, at_file, bucket_moved, CanChange, ChangesHeld, SetsLock};
 ghost use Rattle.mem_rename.specs.Plans.{asked_cells};
-ghost use Rattle.mem_rename.specs.Ready.{seen_of, IsWithin, IsReady};
+ghost use Rattle.mem_rename.specs.Ready.{seen_of, AreSidesWithin, HoldsRename};
 ghost use Rattle.mem_rename.specs.Rounds.{IsPlanWithin};
 ghost use Rattle.mem_rename.specs.Shifts.{shift_of};
 ghost use Rattle.mem_rename.specs.Decisions.{look_of};
@@ -48,7 +48,7 @@ fn shift_in(core: &FileCore, nodes: u32, mv: &Move, plan: Plan, child: NodeId) -
 
 // What changes of the buckets besides the new row, and of the file that is replaced.
 fn change_held(core: &mut FileCore, nodes: u32, mv: &Move, plan: Plan)
-    requires within { IsWithin nodes mv.now }
+    requires within { AreSidesWithin nodes mv.now }
     requires plan { IsPlanWithin nodes plan }
     requires held { CanChange nodes mv.now plan core.old.held }
     ensures { ChangesHeld nodes (bucket_moved mv.now plan) (at_file plan.file less_one) core.old core.new }
@@ -96,13 +96,13 @@ pub(crate) fn move_child<T: Given>(
     child: NodeId,
 ) -> Result<(), NoMemory>
     requires table { IsFileTable shared.now nodes }
-    requires within { IsWithin nodes mv }
+    requires within { AreSidesWithin nodes mv }
     requires plan { IsPlanWithin nodes plan }
-    requires ready { IsReady T.given shared.now nodes mv plan (map node_number above.items) core.old }
+    requires ready { HoldsRename T.given shared.now nodes mv plan (map node_number above.items) core.old }
     requires spare { 0 < core.old.spare }
     requires moves { rename_by (seen_of nodes core.old.held mv plan (map node_number above.items)) mv
         ≡ done (MovesEffect mv.directory.0 mv.name mv.to_directory.0 mv.to_name child.0) }
-    ensures { MatchResult result (λ _. IsAnswered shared.now (call_of mv) reply.Ok core.old core.new) (λ _. IsRefused shared.now core.old core.new) }
+    ensures { MatchResult result (λ _. IsAnswered shared.now (rename_call mv) reply.Ok core.old core.new) (λ _. IsRefused shared.now core.old core.new) }
 {
     core.events_are_few();
     let comes = plan.comes.is_some();

@@ -7,7 +7,7 @@ ghost use Rattle.mem_calls.specs.Held.{bucket_held, HoldsPart};
 ghost use Rattle.mem_calls.specs.Outcome.{IsRefused};
 ghost use Rattle.mem_calls.specs.Working.{IsWorking};
 ghost use Rattle.mem_rename.specs.Moving.{KeepsPart, MakesRoom, IsPrepared};
-ghost use Rattle.mem_rename.specs.Ready.{IsWithin};
+ghost use Rattle.mem_rename.specs.Ready.{AreSidesWithin};
 
 use crate::changing::add_row;
 use crate::rounds::give_up;
@@ -65,7 +65,7 @@ pub(crate) fn prepare<T: Given>(
 ) -> Result<Noted, NoMemory>
     requires table { IsFileTable shared.now nodes }
     requires work { IsWorking T.given shared.now core.old }
-    requires within { IsWithin nodes mv.now }
+    requires within { AreSidesWithin nodes mv.now }
     requires part { HoldsPart nodes core.old }
     requires held { IsSome (bucket_held nodes core.old.held mv.now.to_directory (bucket mv.now.to_name)) }
     ensures { MatchResult result (λ noted. IsPrepared nodes mv.now shift core.old noted core.new) (λ _. IsRefused shared.now core.old core.new) }

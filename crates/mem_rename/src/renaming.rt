@@ -4,7 +4,7 @@ ghost use Rattle.sfs_tree.specs.declared.reply.Code.TheVariants.{NoEntry as None
 ghost use Rattle.stamp_table.specs.Table.{IsBetweenCalls};
 ghost use Rattle.mem_calls.specs.Table.{IsFileTable};
 ghost use Rattle.mem_calls.specs.Outcome.{IsAnswered, ComesTo};
-ghost use Rattle.mem_rename.specs.Seen.{call_of};
+ghost use Rattle.mem_rename.specs.Sights.{rename_call};
 
 use crate::answers::answer;
 use crate::looking::Decision;
@@ -19,7 +19,7 @@ use std::alloc::Global;
 use std::sync::Wait;
 
 /// How many cells a rename holds at most.
-pub const RENAME_CELLS: usize = 24;
+pub const RENAME_CELLS: u32 = 24;
 
 // The fault, or no such entry.
 fn fault_or(fault: Option<Code>) -> Code
@@ -45,8 +45,8 @@ fn answer_outside<R: Wait, T: Given, G: Gate>(
     requires core { IsBetweenCalls shared.now core.old }
     requires outside { (nodes ≤ mv.directory.0) ⊎ (nodes ≤ mv.to_directory.0) }
     requires spare { 0 < core.old.spare }
-    requires room { 24 ≤ core.old.room }
-    ensures { IsAnswered shared.now (call_of mv) result core.old core.new }
+    requires room { RENAME_CELLS ≤ core.old.room }
+    ensures { IsAnswered shared.now (rename_call mv) result core.old core.new }
 {
     let number = bucket_of(&mv.name);
     hold_directory(rt, shared, core, nodes, mv.directory, number);
@@ -78,8 +78,8 @@ pub fn rename<R: Wait, T: Given, G: Gate>(
     requires table { IsFileTable shared.now nodes }
     requires core { IsBetweenCalls shared.now core.old }
     requires spare { 0 < core.old.spare }
-    requires room { 24 ≤ core.old.room }
-    ensures { ComesTo shared.now (call_of mv) core.old core.new result }
+    requires room { RENAME_CELLS ≤ core.old.room }
+    ensures { ComesTo shared.now (rename_call mv) core.old core.new result }
 {
     if nodes <= mv.directory.0 || nodes <= mv.to_directory.0 {
         return Ok(answer_outside(rt, alloc, shared, core, nodes, mv, gate));

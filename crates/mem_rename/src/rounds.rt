@@ -10,13 +10,14 @@ ghost use Rattle.mem_calls.specs.Table.{IsFileTable};
 ghost use Rattle.mem_calls.specs.Held.{HoldsPart};
 ghost use Rattle.mem_calls.specs.Outcome.{IsRefused};
 ghost use Rattle.mem_calls.specs.Working.{IsWorking, WorksOn, StillHolds};
-ghost use Rattle.mem_rename.specs.Ready.{IsWithin};
+ghost use Rattle.mem_rename.specs.Ready.{AreSidesWithin};
 ghost use Rattle.mem_rename.specs.Rounds.{IsPlanWithin, HoldsRound};
 ghost use Rattle.mem_rename.specs.Ways.{HoldsLock, HasReadAll, tree_seen};
 
 use crate::asked::asked;
 use crate::holding::hold_asked;
 use crate::plans::Plan;
+use crate::renaming::RENAME_CELLS;
 use crate::sides::Move;
 use crate::ways::read_way;
 use mem_calls::hold_more;
@@ -99,9 +100,9 @@ pub(crate) fn hold_round<R: Wait, T: Given, G: Gate>(
 ) -> Result<Option<Vec<NodeId>>, NoMemory>
     requires table { IsFileTable shared.now nodes }
     requires core { IsBetweenCalls shared.now core.old }
-    requires within { IsWithin nodes mv.now }
+    requires within { AreSidesWithin nodes mv.now }
     requires plan { IsPlanWithin nodes plan }
-    requires room { 24 ≤ core.old.room }
+    requires room { RENAME_CELLS ≤ core.old.room }
     ensures held { IfOk result (λ way. MatchOption way
         (IsRefused shared.now core.old core.new)
         (λ above. HoldsRound T.given shared.now nodes mv.now plan (map node_number above.items) core.old core.new)) }

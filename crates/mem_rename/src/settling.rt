@@ -4,15 +4,16 @@ ghost use Rattle.sfs_tree.specs.NameRow.{node_number};
 ghost use Rattle.stamp_table.specs.Table.{IsBetweenCalls};
 ghost use Rattle.mem_calls.specs.Table.{IsFileTable};
 ghost use Rattle.mem_calls.specs.Outcome.{IsRefused};
-ghost use Rattle.mem_rename.specs.Seen.{rename_by};
+ghost use Rattle.mem_rename.specs.Sights.{rename_by};
 ghost use Rattle.mem_rename.specs.Decisions.{verdict_of};
 ghost use Rattle.mem_rename.specs.Holding.{HoldsCells};
 ghost use Rattle.mem_rename.specs.Plans.{asked_cells};
-ghost use Rattle.mem_rename.specs.Ready.{seen_of, IsWithin};
-ghost use Rattle.mem_rename.specs.Rounds.{Settles};
+ghost use Rattle.mem_rename.specs.Ready.{seen_of, AreSidesWithin};
+ghost use Rattle.mem_rename.specs.Rounds.{SettlesRename};
 
 use crate::looking::{Decision, decide};
 use crate::plans::Plan;
+use crate::renaming::RENAME_CELLS;
 use crate::rounds::{give_up, hold_round};
 use crate::sides::Move;
 use crate::sights::{look_in, next_plan, reads_in};
@@ -34,10 +35,10 @@ pub(crate) fn settle<R: Wait, T: Given, G: Gate>(
 ) -> Result<(Plan, Vec<NodeId>), NoMemory>
     requires table { IsFileTable shared.now nodes }
     requires core { IsBetweenCalls shared.now core.old }
-    requires within { IsWithin nodes mv.now }
-    requires room { 24 ≤ core.old.room }
+    requires within { AreSidesWithin nodes mv.now }
+    requires room { RENAME_CELLS ≤ core.old.room }
     ensures { MatchResult result
-        (λ held. Settles T.given shared.now nodes mv.now held.0 (map node_number held.1.items) core.old core.new)
+        (λ held. SettlesRename T.given shared.now nodes mv.now held.0 (map node_number held.1.items) core.old core.new)
         (λ fault. IsRefused shared.now core.old core.new) }
 {
     let mut plan = Plan::none();

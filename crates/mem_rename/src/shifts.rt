@@ -4,7 +4,7 @@ ghost use Rattle.sfs_tree.specs.declared.changes.Act.TheVariants.{Add as Adding}
 ghost use Rattle.sfs_tree.specs.Changes.{other_side};
 ghost use Rattle.sfs_tree.specs.Logged.{numbered_node, log_entry};
 ghost use Rattle.sfs_tree.specs.Tree.{kind_if};
-ghost use Rattle.mem_rename.specs.Shifts.{gone_entry, gone_by, shift_logged, IsNoted};
+ghost use Rattle.mem_rename.specs.Shifts.{gone_entry, gone_by, shift_logged, IsNotedMove};
 
 use crate::sides::Move;
 use sfs_base::{Kind, Name, NoMemory, NodeId, Stamp};
@@ -33,7 +33,7 @@ pub(crate) struct Noted {
 
 /// What the changes of a rename take of memory, before its stamp.
 pub(crate) fn note(alloc: Global, mv: &Move) -> Result<Noted, NoMemory>
-    ensures { IfOk result (λ noted. IsNoted mv.now noted) }
+    ensures { IfOk result (λ noted. IsNotedMove mv.now noted) }
 {
     let gone = mv.to_name.copy()?;
     let old = mv.name.copy()?;

@@ -1,6 +1,6 @@
 // The two places that a rename names.
 ghost use Rattle.std.specs.Prelude.{◌≡◌};
-ghost use Rattle.mem_rename.specs.Seen.{call_of};
+ghost use Rattle.mem_rename.specs.Sights.{rename_call};
 
 use sfs_base::{Name, NodeId};
 use sfs_tree::Call;
@@ -17,7 +17,7 @@ pub struct Move {
 impl Move {
     /// The call that it is.
     pub(crate) fn into_call(self) -> Call
-        ensures { result ≡ call_of self }
+        ensures { result ≡ rename_call self }
     {
         Call::Rename {
             dir: self.directory,

@@ -4,7 +4,7 @@ ghost use Rattle.sfs_base.specs.Name.{bucket};
 ghost use Rattle.sfs_tree.specs.NameRow.{node_number};
 ghost use Rattle.mem_values.specs.declared.cell_id.CellId.TheVariants as id;
 ghost use Rattle.mem_calls.specs.Held.{bucket_held, file_held};
-ghost use Rattle.mem_rename.specs.Seen.{are_bare};
+ghost use Rattle.mem_rename.specs.Sights.{are_bare};
 ghost use Rattle.mem_rename.specs.Decisions.{look_by, reads_of};
 ghost use Rattle.mem_rename.specs.Holding.{HoldsCells};
 ghost use Rattle.mem_rename.specs.Plans.{asked_cells};
@@ -115,14 +115,14 @@ ghost use Rattle.mem_values.specs.Places.{node_count};
 ghost use Rattle.mem_values.specs.Laws.{MayMeet};
 ghost use Rattle.mem_rename.specs.Decisions.{look_of};
 ghost use Rattle.mem_rename.specs.Plans.{plan_by};
-ghost use Rattle.mem_rename.specs.Ready.{IsWithin};
+ghost use Rattle.mem_rename.specs.Ready.{AreSidesWithin};
 ghost use Rattle.mem_rename.specs.Rounds.{IsPlanWithin};
 ghost use Rattle.mem_rename.specs.Ways.{tree_seen};
 
 /// What a rename asks for by what is held by a plan. Where it is that plan, all is held that it asks for.
 pub(crate) fn next_plan(core: &FileCore, nodes: u32, mv: &Move, plan: Plan) -> Plan
     requires counted { nodes ≡ node_count core.now.view.first }
-    requires within { IsWithin nodes mv.now }
+    requires within { AreSidesWithin nodes mv.now }
     requires held { HoldsCells nodes core.now.held (asked_cells mv.now plan) }
     requires met { MayMeet core.now.view core.now.held (tree_seen core.now) }
     ensures asked { (above : _) → result ≡ plan_by (look_of (seen_of nodes core.now.held mv.now plan above) mv.now) mv.now }

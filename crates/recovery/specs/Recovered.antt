@@ -8,7 +8,9 @@ use Rattle.sfs_dev.specs.Disk.{View}
 use Rattle.sfs_dev.specs.Run.{Advances, Unwritten, HasReadCause}
 use Rattle.sfs_tree.specs.Laws.{IsSoundTree}
 use Rattle.sfs_tree.specs.Sound.{IsWithinLimits}
+use Rattle.commit_one.specs.Carried.{GoesOnTelling}
 use Rattle.commit_one.specs.Change.{nothing_open}
+use Rattle.journal_one.specs.Known.{EachLeft}
 use Rattle.image_tree.specs.Image.{fault_of, tree_of, inodes_shown}
 use Rattle.image_tree.specs.ImageTree.{image_tree}
 use Rattle.disk_tree.specs.Found.{making_when_read}
@@ -63,6 +65,11 @@ pub record IsRecoveredFrom (image now : List ℕ) : Type 0 where
   pub without : AreUnlinkedFree (layout_of image) (parts_of (layout_of image) image) parts
   pub stands : IsImageOf (layout_of image) nothing_open parts now
   pub same : ShowsTheSame now image
+
+-- A disk holds what was recovered of an image: each image that a crash leaves is recovered from it, and the disk goes on telling its content.
+pub record HoldsRecovered (image : List ℕ) (old new : View) : Type 0 where
+  pub left : EachLeft new (IsRecoveredFrom image)
+  pub tells : GoesOnTelling old new
 
 -- A recovery advances the disk, and ends for a cause.
 pub record RunsRecovery {V : Type 0} (old new : View) (result : Result V RecoverFault) : Type 0 where

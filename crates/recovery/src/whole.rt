@@ -4,10 +4,8 @@ ghost use Rattle.std.specs.Prelude.{◌≡◌, ℕ, ◌<◌, ◌^◌, length, If
 ghost use Rattle.sfs_dev.specs.Run.{CountsOn, EachMoment};
 ghost use Rattle.sfs_dev.specs.Steps.{IfTold};
 ghost use Rattle.journal_one.specs.Calls.{IsCalm};
-ghost use Rattle.journal_one.specs.Known.{EachLeft};
-ghost use Rattle.commit_one.specs.Carried.{GoesOnTelling};
 ghost use Rattle.recovery.specs.Judging.{IsFaultOf};
-ghost use Rattle.recovery.specs.Recovered.{ShowsTheSame, LeavesRefused, IsReportOf, IsSoundReport, IsRecoveredFrom, RunsRecovery};
+ghost use Rattle.recovery.specs.Recovered.{ShowsTheSame, LeavesRefused, IsReportOf, IsSoundReport, HoldsRecovered, RunsRecovery};
 
 use crate::fault::RecoverFault;
 use crate::judged::{Judged, judge};
@@ -44,8 +42,8 @@ pub fn recover<D: Disk>(alloc: Global, disk: &mut D) -> Result<Report, RecoverFa
     ensures sound { IfOk result (IsSoundReport (D.view disk.old).size) }
     ensures moments { IfTold (D.view disk.old).content (λ image. IsCalm (D.view disk.old) → CountsOn (D.view disk.new)
         → EachMoment (D.view disk.old) (D.view disk.new) (λ _ now. ShowsTheSame now image)) }
-    ensures ended { IfTold (D.view disk.old).content (λ image. IsCalm (D.view disk.old) → OnOk result (EachLeft (D.view disk.new) (IsRecoveredFrom image))) }
-    ensures tells { IfTold (D.view disk.old).content (λ image. IsCalm (D.view disk.old) → OnOk result (GoesOnTelling (D.view disk.old) (D.view disk.new))) }
+    ensures ended { IfTold (D.view disk.old).content (λ image. IsCalm (D.view disk.old)
+        → OnOk result (HoldsRecovered image (D.view disk.old) (D.view disk.new))) }
     ensures calm { IsCalm (D.view disk.old) → OnOk result (IsCalm (D.view disk.new)) }
     ensures refused { IfErr result (LeavesRefused (D.view disk.old) (D.view disk.new)) }
     ensures runs { RunsRecovery (D.view disk.old) (D.view disk.new) result }

@@ -22,9 +22,9 @@ use Rattle.sfs_tree.proofs.Names.{entries-names_where}
 use Rattle.sfs_tree.proofs.Parts.{parts_after}
 use Rattle.sfs_tree.proofs.RowFacts.{named_alive}
 use Rattle.sfs_tree.proofs.KeepsNodes.{IsSound-nodes, KeepKinds-new, node_cases}
-use Rattle.mem_begin.specs.Beginning.{MayBegin}
+use Rattle.mem_begin.specs.Beginning.{CanBeginTable}
 
-pub begins_with_node : (tree : TreeState) (node : ℕ) (kind : Kind) (bytes : List ℕ) → MayBegin tree → get tree.nodes node ≡ None → length bytes ≤ LARGEST_FILE → MayBegin (with_node tree node kind bytes)
+pub begins_with_node : (tree : TreeState) (node : ℕ) (kind : Kind) (bytes : List ℕ) → CanBeginTable tree → get tree.nodes node ≡ None → length bytes ≤ LARGEST_FILE → CanBeginTable (with_node tree node kind bytes)
 begins_with_node tree node kind bytes begins new small = record {
   sound = IsSound-nodes tree (insert tree.nodes node (record { kind = kind; bytes = bytes })) tree.made begins.sound (KeepKinds-new tree node (record { kind = kind; bytes = bytes }) tree.made new);
   short = λ other. elim (node_cases tree.nodes node (record { kind = kind; bytes = bytes }) other) [
@@ -34,7 +34,7 @@ begins_with_node tree node kind bytes begins new small = record {
   unmade = begins.unmade;
 }
 
-pub begins_with_row : (tree : TreeState) (directory : ℕ) (name : List ℕ) (child : ℕ) → MayBegin tree → FitsAdds tree directory name child → MayBegin (with_row tree directory name child)
+pub begins_with_row : (tree : TreeState) (directory : ℕ) (name : List ℕ) (child : ℕ) → CanBeginTable tree → FitsAdds tree directory name child → CanBeginTable (with_row tree directory name child)
 begins_with_row tree directory name child begins fits = record {
   sound = fitting_keeps_sound tree 0 (Adds directory name child) None begins.sound fits;
   short = begins.short;
@@ -42,7 +42,7 @@ begins_with_row tree directory name child begins fits = record {
 }
 
 -- so is the root alone
-pub root_begins : (first share cores : ℕ) → 1 ≤ first → MayBegin (root_alone first share cores)
+pub root_begins : (first share cores : ℕ) → 1 ≤ first → CanBeginTable (root_alone first share cores)
 root_begins first share cores low = record {
   sound = (root_alone_is_sound first share cores low).sound;
   short = λ node. elim (node_cases empty 0 (record { kind = Directory; bytes = [] }) node) [

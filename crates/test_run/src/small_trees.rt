@@ -6,7 +6,7 @@ ghost use Rattle.sfs_tree.specs.Tree.{is_directory};
 ghost use Rattle.sfs_tree.specs.Fits.{IsUnnamed, MayHold};
 ghost use Rattle.sfs_tree.specs.Sound.{IsSound, IsWithinLimits};
 ghost use Rattle.sfs_tree.specs.Verdict.{LARGEST_FILE};
-ghost use Rattle.mem_begin.specs.Beginning.{MayBegin};
+ghost use Rattle.mem_begin.specs.Beginning.{CanBeginTable};
 
 use sfs_base::{Kind, Name, NodeId};
 use sfs_tree::Tree;
@@ -21,12 +21,12 @@ pub(crate) fn put_node(
     kind: Kind,
     bytes: Vec<u8>,
 ) -> Result<(), Fail>
-    requires begins { MayBegin tree.old }
+    requires begins { CanBeginTable tree.old }
     requires within { IsWithinLimits tree.old }
     requires low { node.0 < tree.old.first }
     requires directory { kind ≡ Directory → bytes.items ≡ [] }
     requires size { length bytes.items ≤ LARGEST_FILE }
-    ensures begins { OnOk result (MayBegin tree.new) }
+    ensures begins { OnOk result (CanBeginTable tree.new) }
     ensures within { OnOk result (IsWithinLimits tree.new) }
     ensures first { OnOk result (tree.new.first ≡ tree.old.first) }
     ensures share { OnOk result (tree.new.share ≡ tree.old.share) }
@@ -45,9 +45,9 @@ pub(crate) fn put_row(
     name: Name,
     child: NodeId,
 ) -> Result<(), Fail>
-    requires begins { MayBegin tree.old }
+    requires begins { CanBeginTable tree.old }
     requires within { IsWithinLimits tree.old }
-    ensures begins { OnOk result (MayBegin tree.new) }
+    ensures begins { OnOk result (CanBeginTable tree.new) }
     ensures within { OnOk result (IsWithinLimits tree.new) }
     ensures first { OnOk result (tree.new.first ≡ tree.old.first) }
     ensures share { OnOk result (tree.new.share ≡ tree.old.share) }

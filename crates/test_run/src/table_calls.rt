@@ -5,7 +5,7 @@ ghost use Rattle.sfs_tree.specs.Sound.{IsNumbered, IsSound, IsWithinLimits};
 ghost use Rattle.sfs_tree.specs.Step.{IsReadable};
 ghost use Rattle.stamp_table.specs.Table.{IsBetweenCalls, IsSameCore};
 ghost use Rattle.mem_values.specs.Places.{node_count};
-ghost use Rattle.mem_begin.specs.Beginning.{MayBegin};
+ghost use Rattle.mem_begin.specs.Beginning.{CanBeginTable};
 ghost use Rattle.mem_calls.specs.Table.{IsFileTable};
 
 mod asked;
@@ -294,7 +294,7 @@ fn work_all<R: Threads + Wait + Sync>(
 
 // The history of a table whose one core made the listed calls, each with the reply of a plain tree.
 fn listed_history<R: Wait>(rt: &R, alloc: Global, tree: &Tree) -> Result<History, Fail>
-    requires begins { MayBegin tree.now }
+    requires begins { CanBeginTable tree.now }
     requires within { IsWithinLimits tree.now }
     requires numbered { IsNumbered tree.now }
     requires nodes { node_count tree.now ≡ FIRST + SHARE }
@@ -309,7 +309,7 @@ fn listed_history<R: Wait>(rt: &R, alloc: Global, tree: &Tree) -> Result<History
 
 // The history of a table whose one core made so many drawn calls, each with the reply of a plain tree.
 fn drawn_history<R: Wait>(rt: &R, alloc: Global, tree: &Tree, count: u32) -> Result<History, Fail>
-    requires begins { MayBegin tree.now }
+    requires begins { CanBeginTable tree.now }
     requires within { IsWithinLimits tree.now }
     requires numbered { IsNumbered tree.now }
     requires nodes { node_count tree.now ≡ FIRST + SHARE }
@@ -330,7 +330,7 @@ fn shared_history<R: Threads + Wait + Sync>(
     cores: u8,
     count: u32,
 ) -> Result<History, Fail>
-    requires begins { MayBegin tree.now }
+    requires begins { CanBeginTable tree.now }
     requires within { IsWithinLimits tree.now }
     requires numbered { IsNumbered tree.now }
     requires nodes { node_count tree.now ≡ FIRST + SHARE * cores }

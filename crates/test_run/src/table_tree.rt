@@ -2,7 +2,7 @@
 ghost use Rattle.std.specs.Prelude.{◌≡◌, ◌<◌, ℕ, All, IfOk, length, slice_index_or};
 ghost use Rattle.stamp_table.specs.Table.{IsBetweenCalls, IsSameCore};
 ghost use Rattle.mem_values.specs.Places.{node_count};
-ghost use Rattle.mem_begin.specs.Beginning.{MayBegin, given_in};
+ghost use Rattle.mem_begin.specs.Beginning.{CanBeginTable, given_in};
 
 use crate::small_trees::{put_node, put_row};
 use disk_change::OldDisk;
@@ -51,7 +51,7 @@ enum Shown {
 
 // A directory `d` in the root, and a file with the names `a` in the root and `b` in the directory.
 fn small_tree(rt: &impl Abort, alloc: Global) -> Result<Tree, Fail>
-    ensures begins { IfOk result MayBegin }
+    ensures begins { IfOk result CanBeginTable }
     ensures nodes { IfOk result (λ tree. node_count tree ≡ NODES) }
     ensures cores { IfOk result (λ tree. length tree.made ≡ CORES) }
 {
@@ -230,7 +230,7 @@ fn begins_and_ends<T: Given, R: Wait>(
     given: OldDisk,
     all: &[Shown],
 ) -> Result<bool, NoMemory>
-    requires begins { MayBegin tree.now }
+    requires begins { CanBeginTable tree.now }
     requires nodes { node_count tree.now ≡ NODES }
     requires cores { length tree.now.made ≡ CORES }
     requires given { T.given ≡ given_in given.items }

@@ -32,6 +32,7 @@ use Rattle.volume_one.specs.Carry.{CarriesPacked, first_slot}
 use Rattle.volume_one.specs.Deeds.{BeginsByBooks, DidFail, gate_moment}
 use Rattle.volume_one.specs.declared.deed.Deed.TheVariants as deeds
 use Rattle.volume_one.specs.Ends.{FlushEnds, PlanEnds, GrantEnds, ReadyEnds, dead, stopped, unplanned, planned, short, unreserved, reserved, unready, readied, carried, doubted, doubtful_deed, with_space}
+use Rattle.sfs_base.specs.Memory.{raised}
 use Rattle.volume_one.specs.Fsync.{FsyncMakes, FsyncStays, HoldsVolume, IsOnDisk, fsync_at}
 use Rattle.volume_one.specs.Planned.{WasPlanned}
 use Rattle.volume_one.specs.Ready.{IsReadyFor, IsPackedOf, IsSameButRoom}
@@ -152,6 +153,7 @@ module _ (Same : Type 0) (before after : View) (same_view : Same → after ≡ b
             store = stores.1;
             remembers = remembers_after kept volume node stamp plan grant space is ready built room new same done stores.0 stores.1 members;
             failed = (working, ap (λ (v : OpenVolume). v.failed) done.others ∙ ap (λ (v : OpenVolume). v.failed) same.others ∙ working);
+            numbered = done.numbered ∙ ap (λ (v : OpenVolume). raised v.commits) same.others;
             reply_is = refl;
             acknowledged = refl;
             did = record {
@@ -172,6 +174,7 @@ module _ (Same : Type 0) (before after : View) (same_view : Same → after ≡ b
             is = is_one kept volume node stamp plan grant space is;
             remembers = subst (Remembers kept) (sym new_is) (left_remembers kept volume in_doubt is.remembers is_left);
             failed = (working, ap (λ (v : OpenVolume). v.failed) new_is ∙ ap Some (doubt_faults ready built room.commits doubt ready.packed there));
+            numbered = ap (λ (v : OpenVolume). v.commits) new_is ∙ ap (λ (v : OpenVolume). v.commits) same.others;
             reply_is = refl;
             refused = refl;
             did = doubt_did ready built room.commits doubt ready.packed built.packed there (begins_by_books kept volume node stamp plan grant space is members);
@@ -185,6 +188,7 @@ module _ (Same : Type 0) (before after : View) (same_view : Same → after ≡ b
       same = still;
       remembers = back_remembers kept volume node stamp plan grant space is room new same back;
       failed = ap (λ (v : OpenVolume). v.failed) back.others ∙ ap (λ (v : OpenVolume). v.failed) same.others;
+      numbered = ap (λ (v : OpenVolume). v.commits) back.others ∙ ap (λ (v : OpenVolume). v.commits) same.others;
       refused = refl;
       did = given_back kept volume node stamp plan grant space is;
     }
@@ -199,11 +203,12 @@ module _ (Same : Type 0) (before after : View) (same_view : Same → after ≡ b
       same = still;
       remembers = subst (Remembers kept) (sym new_is) remembers;
       failed = ap (λ (v : OpenVolume). v.failed) new_is;
+      numbered = ap (λ (v : OpenVolume). v.commits) new_is;
       refused = refl;
       did = (refl, was_short kept node stamp volume remembers counted alive plan was kind need free lacks);
     }
     plan_makes working new _ (unreserved still new_is fits) =
-        record { same = still; remembers = subst (Remembers kept) (sym new_is) remembers; failed = ap (λ (v : OpenVolume). v.failed) new_is; refused = refl; did = tt }
+        record { same = still; remembers = subst (Remembers kept) (sym new_is) remembers; failed = ap (λ (v : OpenVolume). v.failed) new_is; numbered = ap (λ (v : OpenVolume). v.commits) new_is; refused = refl; did = tt }
     plan_makes working new flushed (reserved _ grant space taken ends) =
         grant_makes volume plan grant space (granted kept node stamp volume remembers counted alive plan was grant space taken) (members_flushed kept volume remembers stamp counted node alive plan was) working new flushed ends
 
@@ -212,23 +217,23 @@ module _ (Same : Type 0) (before after : View) (same_view : Same → after ≡ b
     pub flush_makes : (new : OpenVolume) (flushed : Flushed) → FlushEnds Same stamp node before after old new flushed
         → FsyncMakes Same (λ k. k) kept (fsync_at node stamp) before after old new flushed flushed.reply
     flush_makes new _ (dead still new_is gone) =
-        record { same = still; remembers = subst (Remembers kept) (sym new_is) remembers; failed = ap (λ (v : OpenVolume). v.failed) new_is; refused = refl; did = refl }
+        record { same = still; remembers = subst (Remembers kept) (sym new_is) remembers; failed = ap (λ (v : OpenVolume). v.failed) new_is; numbered = ap (λ (v : OpenVolume). v.commits) new_is; refused = refl; did = refl }
     flush_makes new _ (stopped still new_is alive faults failed) =
-        record { same = still; remembers = subst (Remembers kept) (sym new_is) remembers; failed = ap (λ (v : OpenVolume). v.failed) new_is; refused = refl; did = refl }
+        record { same = still; remembers = subst (Remembers kept) (sym new_is) remembers; failed = ap (λ (v : OpenVolume). v.failed) new_is; numbered = ap (λ (v : OpenVolume). v.commits) new_is; refused = refl; did = refl }
     flush_makes new _ (unplanned still alive working known) =
-        record { same = still; remembers = known_remembers kept old new remembers known; failed = ap (λ (v : OpenVolume). v.failed) known.others; refused = refl; did = tt }
+        record { same = still; remembers = known_remembers kept old new remembers known; failed = ap (λ (v : OpenVolume). v.failed) known.others; numbered = ap (λ (v : OpenVolume). v.commits) known.others; refused = refl; did = tt }
     flush_makes new flushed (planned _ alive working plan known was same ends) =
-        with_failed (sym (ap (λ (v : OpenVolume). v.failed) same.others)) flushed.reply
+        with_old (sym (ap (λ (v : OpenVolume). v.failed) same.others)) (sym (ap (λ (v : OpenVolume). v.commits) same.others)) flushed.reply
         (plan_makes known (known_remembers kept old known remembers same) counted (subst (λ (v : OpenVolume). is_alive v.tree node.0 ≡ true) (sym same.others) alive)
         plan (was_known node stamp old known same plan was) (ap (λ (v : OpenVolume). v.failed) same.others ∙ working) new flushed ends)
       where
-        stays : old.failed ≡ known.failed → FsyncStays Same (λ k. k) kept (fsync_at node stamp) known new flushed → FsyncStays Same (λ k. k) kept (fsync_at node stamp) old new flushed
-        stays e is = record { same = is.same; remembers = is.remembers; failed = is.failed ∙ sym e; refused = is.refused; did = is.did }
+        stays : old.failed ≡ known.failed → old.commits ≡ known.commits → FsyncStays Same (λ k. k) kept (fsync_at node stamp) known new flushed → FsyncStays Same (λ k. k) kept (fsync_at node stamp) old new flushed
+        stays e m is = record { same = is.same; remembers = is.remembers; failed = is.failed ∙ sym e; numbered = is.numbered ∙ sym m; refused = is.refused; did = is.did }
 
-        -- only the count of faults before is told of the volume before
-        with_failed : old.failed ≡ known.failed → (given : Reply) → FsyncMakes Same (λ k. k) kept (fsync_at node stamp) before after known new flushed given
+        -- only the counts of faults and of commits before are told of the volume before
+        with_old : old.failed ≡ known.failed → old.commits ≡ known.commits → (given : Reply) → FsyncMakes Same (λ k. k) kept (fsync_at node stamp) before after known new flushed given
             → FsyncMakes Same (λ k. k) kept (fsync_at node stamp) before after old new flushed given
-        with_failed e reply.Ok is = record {
+        with_old e m reply.Ok is = record {
           one = is.one;
           later = is.later;
           moment = is.moment;
@@ -236,28 +241,30 @@ module _ (Same : Type 0) (before after : View) (same_view : Same → after ≡ b
           store = is.store;
           remembers = is.remembers;
           failed = (e ∙ is.failed.0, is.failed.1);
+          numbered = is.numbered ∙ ap raised (sym m);
           reply_is = is.reply_is;
           acknowledged = is.acknowledged;
           did = is.did;
           faultless = is.faultless;
           on_disk = is.on_disk;
         }
-        with_failed e reply.DiskFailed is = record {
+        with_old e m reply.DiskFailed is = record {
           one = is.one;
           is = is.is;
           remembers = is.remembers;
           failed = (e ∙ is.failed.0, is.failed.1);
+          numbered = is.numbered ∙ sym m;
           reply_is = is.reply_is;
           refused = is.refused;
           did = is.did;
           risen = is.risen;
           wrote = is.wrote;
         }
-        with_failed e (reply.Node n k) is = stays e is
-        with_failed e (reply.Bytes b) is = stays e is
-        with_failed e (reply.Stat k l s) is = stays e is
-        with_failed e (reply.Names r) is = stays e is
-        with_failed e (reply.Error c) is = stays e is
-        with_failed e (reply.NoSpace k n f) is = stays e is
-        with_failed e (reply.Stopped f) is = stays e is
-        with_failed e reply.NoMemory is = stays e is
+        with_old e m (reply.Node n k) is = stays e m is
+        with_old e m (reply.Bytes b) is = stays e m is
+        with_old e m (reply.Stat k l s) is = stays e m is
+        with_old e m (reply.Names r) is = stays e m is
+        with_old e m (reply.Error c) is = stays e m is
+        with_old e m (reply.NoSpace k n f) is = stays e m is
+        with_old e m (reply.Stopped f) is = stays e m is
+        with_old e m reply.NoMemory is = stays e m is

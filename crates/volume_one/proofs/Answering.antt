@@ -191,6 +191,7 @@ module _ (Same : Type 0) (kept : Volume) (before after : View) (old mid new : Op
       same = is.same;
       remembers = grown kept is.remembers refl refl;
       failed = ap (λ (v : OpenVolume). v.failed) notes.others ∙ is.failed;
+      numbered = ap (λ (v : OpenVolume). v.commits) notes.others ∙ is.numbered;
       refused = is.refused;
       did = is.did;
     }
@@ -205,6 +206,7 @@ module _ (Same : Type 0) (kept : Volume) (before after : View) (old mid new : Op
       store = is.store;
       remembers = grown (volume_left kept is.one is.later) is.remembers refl refl;
       failed = (is.failed.0, ap (λ (v : OpenVolume). v.failed) notes.others ∙ is.failed.1);
+      numbered = ap (λ (v : OpenVolume). v.commits) notes.others ∙ is.numbered;
       reply_is = is.reply_is;
       acknowledged = is.acknowledged;
       did = is.did;
@@ -216,6 +218,7 @@ module _ (Same : Type 0) (kept : Volume) (before after : View) (old mid new : Op
       is = is.is;
       remembers = grown kept is.remembers refl refl;
       failed = (is.failed.0, ap (λ (v : OpenVolume). v.failed) notes.others ∙ is.failed.1);
+      numbered = ap (λ (v : OpenVolume). v.commits) notes.others ∙ is.numbered;
       reply_is = is.reply_is;
       refused = is.refused;
       did = is.did;

@@ -2,6 +2,7 @@
 use Rattle.std.specs.Prelude.{◌≡◌, ℕ, List, map, is_some, if◌then◌else◌}
 use Rattle.sfs_base.specs.declared.numbers.Stamp.{Stamp}
 use Rattle.sfs_base.specs.Listed.{is_listed}
+use Rattle.sfs_base.specs.Memory.{raised}
 use Rattle.sfs_tree.specs.NameRow.{node_number}
 use Rattle.space_map.specs.Pool.{Ends}
 use Rattle.space_map.specs.Space.{GrantedNumbers}
@@ -22,7 +23,7 @@ pub record HasInodesBy (kept : KeptNodes) (nodes : List ℕ) (old new : Known) :
   pub room_for_cuts : new.room_for_cuts ≡ old.room_for_cuts
 
 -- A durable commit of an fsync at a stamp is taken note of: what was granted is taken and what was given up is free; its nodes have what it left of them, and
--- an inode where that is something; its members' cuts are raised, and what they flushed is trimmed from the logs. All else stays.
+-- an inode where that is something; its members' cuts are raised, and what they flushed is trimmed from the logs; and it is counted. All else stays.
 pub record HasFinished (stamp : Stamp) (ready : Ready) (grant : GrantedNumbers) (old new : OpenVolume) : Type 0 where
   pub space_inodes : Ends grant.inodes ready.freed_inodes.items old.space.inodes new.space.inodes
   pub space_blocks : Ends grant.blocks ready.freed_blocks.items old.space.blocks new.space.blocks
@@ -32,4 +33,5 @@ pub record HasFinished (stamp : Stamp) (ready : Ready) (grant : GrantedNumbers) 
   pub cuts : (node : ℕ) → cut_in new.known.cuts node ≡ lifted_cut old.known.cuts (map node_number ready.members.items) stamp.0 node
   pub births : new.known.births ≡ old.known.births
   pub logs : AreTrimmedOf old.logs (map node_number ready.members.items) stamp.0 new.logs
+  pub numbered : new.commits ≡ raised old.commits
   pub others : new ≡ record old { logs = new.logs; known = new.known; stored = new.stored; space = new.space; commits = new.commits }

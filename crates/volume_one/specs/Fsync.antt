@@ -2,6 +2,7 @@
 use Rattle.std.specs.Prelude.{◌≡◌, ℕ, ◌≤◌, Bool, true, false, List, [], length, Option, Some, None}
 use Rattle.sfs_tree.specs.declared.reply.Code.TheVariants.{NoEntry}
 use Rattle.sfs_base.specs.Ends.{HasRisen}
+use Rattle.sfs_base.specs.Memory.{raised}
 use Rattle.sfs_base.specs.declared.numbers.CoreId.{CoreId}
 use Rattle.sfs_base.specs.declared.numbers.NodeId.{NodeId}
 use Rattle.sfs_base.specs.declared.numbers.Stamp.{Stamp}
@@ -48,8 +49,8 @@ pub record IsOnDisk (kept : Volume) (one : OneFsync) (later : ℕ → List ℕ) 
   pub holds : HoldsVolume kept before → HoldsVolume (volume_left kept one later) after
   pub wrote : HoldsVolume kept before → (share : ℕ) → Wrote share (tree_held kept) (tree_raised kept one) before after (Some moment)
 
--- An fsync was answered Ok: its commit is durable at the moment of the acknowledgement, no device call failed, the volume is what it leaves, and
--- so is the disk, where its count of calls goes on.
+-- An fsync was answered Ok: its commit is counted, and durable at the moment of the acknowledgement, no device call failed, the volume is what it
+-- leaves, and so is the disk, where its count of calls goes on.
 pub record FsyncCommits (grown : Volume → Volume) (kept : Volume) (flush : Flush) (before after : View) (old new : OpenVolume) (flushed : Flushed) : Type 0 where
   pub one : OneFsync
   pub later : ℕ → List ℕ
@@ -58,6 +59,7 @@ pub record FsyncCommits (grown : Volume → Volume) (kept : Volume) (flush : Flu
   pub store : IsStoreLeft kept one later
   pub remembers : Remembers (grown (volume_left kept one later)) new
   pub failed : (old.failed ≡ None) × (new.failed ≡ None)
+  pub numbered : new.commits ≡ raised old.commits
   pub reply_is : flushed.reply ≡ reply.Ok
   pub acknowledged : flushed.ack ≡ Some moment
   pub did : DidCommit kept flush one before after moment flushed.deed
@@ -70,6 +72,7 @@ pub record FsyncDoubts (grown : Volume → Volume) (kept : Volume) (flush : Flus
   pub is : IsComingFsync kept flush one
   pub remembers : Remembers (grown kept) new
   pub failed : (old.failed ≡ None) × (new.failed ≡ Some after.faults)
+  pub numbered : new.commits ≡ old.commits
   pub reply_is : flushed.reply ≡ reply.DiskFailed
   pub refused : flushed.ack ≡ None
   pub did : DidFail kept flush one before after flushed.deed
@@ -81,6 +84,7 @@ pub record FsyncStays (Same : Type 0) (grown : Volume → Volume) (kept : Volume
   pub same : Same
   pub remembers : Remembers (grown kept) new
   pub failed : new.failed ≡ old.failed
+  pub numbered : new.commits ≡ old.commits
   pub refused : flushed.ack ≡ None
   pub did : DidStay kept flush flushed.reply flushed.deed
 

@@ -3,10 +3,8 @@ ghost use Rattle.std.specs.Prelude.{◌≡◌, ◌≤◌, map, IfOk, IfErr, OnOk
 ghost use Rattle.sfs_dev.specs.Run.{CountsOn, EachMoment};
 ghost use Rattle.sfs_dev.specs.Steps.{IfTold};
 ghost use Rattle.journal_one.specs.Calls.{IsCalm};
-ghost use Rattle.journal_one.specs.Known.{EachLeft};
-ghost use Rattle.commit_one.specs.Carried.{GoesOnTelling};
 ghost use Rattle.recovery.specs.Judging.{IsFaultOf};
-ghost use Rattle.recovery.specs.Recovered.{ShowsTheSame, LeavesRefused, IsRecoveredFrom, RunsRecovery};
+ghost use Rattle.recovery.specs.Recovered.{ShowsTheSame, LeavesRefused, HoldsRecovered, RunsRecovery};
 ghost use Rattle.volume_one.specs.Begins.{Begins, node_of_old};
 
 use crate::OpenVolume;
@@ -30,8 +28,8 @@ pub fn open<D: Disk>(alloc: Global, disk: &mut D, nodes: u32) -> Result<OpenVolu
     ensures bad { IfTold (D.view disk.old).content (λ image. IfErr result (IsFaultOf image)) }
     ensures moments { IfTold (D.view disk.old).content (λ image. IsCalm (D.view disk.old) → CountsOn (D.view disk.new)
         → EachMoment (D.view disk.old) (D.view disk.new) (λ _ now. ShowsTheSame now image)) }
-    ensures ended { IfTold (D.view disk.old).content (λ image. IsCalm (D.view disk.old) → OnOk result (EachLeft (D.view disk.new) (IsRecoveredFrom image))) }
-    ensures tells { IfTold (D.view disk.old).content (λ image. IsCalm (D.view disk.old) → OnOk result (GoesOnTelling (D.view disk.old) (D.view disk.new))) }
+    ensures ended { IfTold (D.view disk.old).content (λ image. IsCalm (D.view disk.old)
+        → OnOk result (HoldsRecovered image (D.view disk.old) (D.view disk.new))) }
     ensures calm { IsCalm (D.view disk.old) → OnOk result (IsCalm (D.view disk.new)) }
     ensures refused { IfErr result (LeavesRefused (D.view disk.old) (D.view disk.new)) }
     ensures runs { RunsRecovery (D.view disk.old) (D.view disk.new) result }

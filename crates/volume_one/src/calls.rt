@@ -25,6 +25,7 @@ impl OpenVolume {
         ensures reply { IfOk result (λ reply. reply ≡ (verdict self.old.tree core.0 call.now).reply) }
         ensures goes_on { IfOk result (λ reply. GoesOnWith self.old self.new (call_entry stamp core call.now reply None)) }
         ensures failed { OnOk result (self.new.failed ≡ self.old.failed) }
+        ensures numbered { OnOk result (self.new.commits ≡ self.old.commits) }
     {
         let changes = foresee(self.alloc, &self.tree, stamp, call)?;
         self.logs.reserve(core, &changes)?;

@@ -3,7 +3,7 @@ ghost use Rattle.std.specs.Prelude.{◌≡◌, ◌+◌, ◌*◌, ◌<◌, ◌≤
 ghost use Rattle.sfs_tree.specs.Sound.{IsNumbered, IsWithinLimits};
 ghost use Rattle.stamp_table.specs.Table.{AreAllCores, IsBetweenCalls};
 ghost use Rattle.mem_values.specs.Places.{node_count};
-ghost use Rattle.mem_begin.specs.Beginning.{MayBegin};
+ghost use Rattle.mem_begin.specs.Beginning.{CanBeginTable};
 ghost use Rattle.mem_calls.specs.Table.{IsFileTable};
 
 use crate::small_trees::{put_node, put_row};
@@ -59,10 +59,10 @@ fn put(
     node: u32,
     bytes: Option<&str>,
 ) -> Result<(), Fail>
-    requires begins { MayBegin tree.old }
+    requires begins { CanBeginTable tree.old }
     requires within { IsWithinLimits tree.old }
     requires low { FIRST ≤ tree.old.first }
-    ensures begins { OnOk result (MayBegin tree.new) }
+    ensures begins { OnOk result (CanBeginTable tree.new) }
     ensures within { OnOk result (IsWithinLimits tree.new) }
     ensures first { OnOk result (tree.new.first ≡ tree.old.first) }
     ensures share { OnOk result (tree.new.share ≡ tree.old.share) }
@@ -79,7 +79,7 @@ fn put(
 
 // Two directories in the root, two files of two names, and a file and a directory of none.
 pub(crate) fn begun_tree(rt: &impl Abort, alloc: Global, cores: u8) -> Result<Tree, Fail>
-    ensures begins { IfOk result MayBegin }
+    ensures begins { IfOk result CanBeginTable }
     ensures within { IfOk result IsWithinLimits }
     ensures numbered { IfOk result IsNumbered }
     ensures nodes { IfOk result (λ tree. node_count tree ≡ FIRST + SHARE * cores) }
@@ -103,7 +103,7 @@ pub(crate) fn begun(
     tree: &Tree,
     cores: u8,
 ) -> Result<(Files, Vec<FileCore>), NoMemory>
-    requires begins { MayBegin tree.now }
+    requires begins { CanBeginTable tree.now }
     requires within { IsWithinLimits tree.now }
     requires numbered { IsNumbered tree.now }
     requires nodes { node_count tree.now ≡ FIRST + SHARE * cores }

@@ -3,7 +3,7 @@ ghost use Rattle.std.specs.Prelude.{◌≡◌, ◌+◌, ◌*◌, All, length};
 ghost use Rattle.sfs_tree.specs.Sound.{IsNumbered, IsWithinLimits};
 ghost use Rattle.stamp_table.specs.Table.{IsBetweenCalls};
 ghost use Rattle.mem_values.specs.Places.{node_count};
-ghost use Rattle.mem_begin.specs.Beginning.{MayBegin};
+ghost use Rattle.mem_begin.specs.Beginning.{CanBeginTable};
 ghost use Rattle.mem_calls.specs.Table.{IsFileTable};
 
 use crate::table_calls::ask;
@@ -186,7 +186,7 @@ fn comes_in_beside<R: Threads + Wait + Sync>(
     held: Asked,
     beside: [Asked; 3],
 ) -> Result<bool, NoMemory>
-    requires begins { MayBegin tree.now }
+    requires begins { CanBeginTable tree.now }
     requires within { IsWithinLimits tree.now }
     requires numbered { IsNumbered tree.now }
     requires nodes { node_count tree.now ≡ FIRST + SHARE * 2 }

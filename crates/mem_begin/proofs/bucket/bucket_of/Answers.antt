@@ -24,20 +24,23 @@ loop-place-init c =
 pub add_row-requires-clause-new : goal.add_row-requires-clause-new
 add_row-requires-clause-new c =
     let rows = bucket_rows c.args.node.0 c.args.number c.args.tree.now.rows in
-    ap (λ (m : FinMap name_cmp ℕ). get m c.in-Some.name.now) c.loop-place.invariant.rows ∙ new_name rows c.loop-place.place c.in-Some.name.now c.in-Some.child.0 (sym c.in-Some.ensures)
+    ap (λ (m : FinMap name_cmp ℕ). get m c.in-Some.name.now) c.loop-place.invariant.rows
+    ∙ new_name rows c.loop-place.place c.in-Some.name.now c.in-Some.child.0 (sym c.in-Some.ensures)
 
 pub loop-place-preserved : goal.loop-place-preserved
 loop-place-preserved c =
     let rows = bucket_rows c.args.node.0 c.args.number c.args.tree.now.rows in
     let added = c.in_ok-add_row.ensures in
     record {
-      rows = added.rows ∙ ap (λ (m : FinMap name_cmp ℕ). insert m c.in-Some.name.now c.in-Some.child.0) c.loop-place.invariant.rows ∙ one_more_row rows c.loop-place.place c.in-Some.name.now c.in-Some.child.0 (sym c.in-Some.ensures);
+      rows = added.rows ∙ ap (λ (m : FinMap name_cmp ℕ). insert m c.in-Some.name.now c.in-Some.child.0) c.loop-place.invariant.rows
+          ∙ one_more_row rows c.loop-place.place c.in-Some.name.now c.in-Some.child.0 (sym c.in-Some.ensures);
       directories = added.directories;
       stands = ap number_of added.stands ∙ c.loop-place.invariant.stands;
     }
 
 -- a bucket that has all rows shows them
-shown : (tree : TreeState) (node number place : ℕ) (bucket : Bucket) → length (entries (bucket_rows node number tree.rows)) ≤ place → bucket.rows ≡ from_entries {R = name_cmp} (take place (entries (bucket_rows node number tree.rows)))
+shown : (tree : TreeState) (node number place : ℕ) (bucket : Bucket) → length (entries (bucket_rows node number tree.rows)) ≤ place
+    → bucket.rows ≡ from_entries {R = name_cmp} (take place (entries (bucket_rows node number tree.rows)))
     → ShowsDirectories tree bucket → number_of bucket.stands ≡ stands_of tree node → ShowsBucket tree node number bucket
 shown tree node number place bucket past rows directories stands =
     let same : bucket.rows ≡ bucket_rows node number tree.rows = rows ∙ all_rows (bucket_rows node number tree.rows) place past in
@@ -53,5 +56,6 @@ pub returns : goal.returns
 returns c =
     let tree = c.args.tree.now in
     let past : length (entries (bucket_rows c.args.node.0 c.args.number tree.rows)) ≤ c.loop-place.place =
-    (let fits = bucket_fits c.args.node.0 c.args.number tree.rows in let all = c.row_count-place-end.ensures in let end = c.loop-place-test.false in omega (arith, fits, all, end)) in
+    (let fits = bucket_fits c.args.node.0 c.args.number tree.rows in let all = c.row_count-place-end.ensures in let end = c.loop-place-test.false in
+    omega (arith, fits, all, end)) in
     shown tree c.args.node.0 c.args.number c.loop-place.place c.loop-place.bucket past c.loop-place.invariant.rows c.loop-place.invariant.directories c.loop-place.invariant.stands

@@ -10,5 +10,6 @@ returns-clause-stand g c =
     let given = g.T.Given.given in
     let first = c.args.tree.now in
     let none : c.loop-place.place ≡ 0 = (let test = c.loop-place-test.false in omega (arith, test)) in
-    let stand : StandFrom given first 0 (reverse c.loop-place.cells.items) = subst (λ (p : ℕ). StandFrom given first p (reverse c.loop-place.cells.items)) none c.loop-place.invariant.last.stand in
+    let stand : StandFrom given first 0 (reverse c.loop-place.cells.items) = subst
+    (λ (p : ℕ). StandFrom given first p (reverse c.loop-place.cells.items)) none c.loop-place.invariant.last.stand in
     each_stands given first c.reverse.new.self.items (subst (StandFrom given first 0) (sym {A = List Cell} c.reverse.ensures.items) stand)

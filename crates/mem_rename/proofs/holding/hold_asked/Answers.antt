@@ -10,17 +10,20 @@ returns-in_default-clause-work g c = c.loop.invariant.work
 
 pub returns-in_default-clause-holds : goal.returns-in_default-clause-holds
 returns-in_default-clause-holds g c =
-    ends g.T.Given.given c.args.shared.now c.args.nodes c.args.cells.now c.requires.cells c.args.core.now c.loop.last c.loop.core c.loop.invariant (λ cell among. c.in_default.ensures cell among)
+    ends g.T.Given.given c.args.shared.now c.args.nodes c.args.cells.now c.requires.cells c.args.core.now c.loop.last c.loop.core c.loop.invariant
+    (λ cell among. c.in_default.ensures cell among)
 
 pub returns-in_default-clause-room : goal.returns-in_default-clause-room
-returns-in_default-clause-room g c = room_left g.T.Given.given c.args.shared.now c.args.nodes c.args.cells.now c.requires.cells c.args.core.now c.loop.last c.loop.core c.loop.invariant
+returns-in_default-clause-room g c =
+    room_left g.T.Given.given c.args.shared.now c.args.nodes c.args.cells.now c.requires.cells c.args.core.now c.loop.last c.loop.core c.loop.invariant
 
 pub hold_more-requires-clause-work : goal.hold_more-requires-clause-work
 hold_more-requires-clause-work g c = c.loop.invariant.work
 
 pub hold_more-requires-clause-cell : goal.hold_more-requires-clause-cell
 hold_more-requires-clause-cell g c =
-    tree_cell c.args.nodes (length c.args.shared.now.first.made) c.in-Some-next_above.cell (one_is_tree_cell c.args.nodes c.args.cells.now c.in-Some-next_above.cell c.requires.cells c.in-Some-next_above.ensures.among)
+    tree_cell c.args.nodes (length c.args.shared.now.first.made) c.in-Some-next_above.cell
+    (one_is_tree_cell c.args.nodes c.args.cells.now c.in-Some-next_above.cell c.requires.cells c.in-Some-next_above.ensures.among)
 
 pub hold_more-requires-clause-above : goal.hold_more-requires-clause-above
 hold_more-requires-clause-above g c =

@@ -17,13 +17,16 @@ put-requires c =
     let number : c.number.result.0 ≡ c.args.core.now.view.core = c.number.ensures ∙ ap (λ (h : Hand Cell Fact). h.view.core) c.take_part.ensures.held.1 in
     subst (λ (n : ℕ). IsSome (value_held c.args.nodes c.take_part.new.core.held (id.Part (record { 0 = n })))) (sym number)
     (put_there c.args.nodes c.args.core.now c.take_part.new.core (id.Part (record { 0 = c.args.core.now.view.core })) c.take_part.ensures.held.0
-    (some_first as_part (value_held c.args.nodes c.args.core.now.held (id.Part (record { 0 = c.args.core.now.view.core }))) c.requires) c.take_part.ensures.held.1)
+    (some_first as_part (value_held c.args.nodes c.args.core.now.held
+    (id.Part (record { 0 = c.args.core.now.view.core }))) c.requires) c.take_part.ensures.held.1)
 
 pub returns : goal.returns
 returns c =
     let number : c.number.result.0 ≡ c.args.core.now.view.core = c.number.ensures ∙ ap (λ (h : Hand Cell Fact). h.view.core) c.take_part.ensures.held.1 in
-    let puts = put_twice c.args.nodes c.args.core.now c.take_part.new.core c.put.new.core (id.Part (record { 0 = c.args.core.now.view.core })) c.take_part.ensures.held.0 (cell.Part c.with_room-part.result.0) c.take_part.ensures.held.1
-    (c.put.ensures ∙ ap (λ (n : ℕ). record c.take_part.new.core { held = with_value (32 + 10 * c.args.nodes + 16 * n) (cell.Part c.with_room-part.result.0) c.take_part.new.core.held }) number) in
+    let puts = put_twice c.args.nodes c.args.core.now c.take_part.new.core c.put.new.core
+    (id.Part (record { 0 = c.args.core.now.view.core })) c.take_part.ensures.held.0 (cell.Part c.with_room-part.result.0) c.take_part.ensures.held.1
+    (c.put.ensures ∙ ap (λ (n : ℕ). record c.take_part.new.core
+    { held = with_value (32 + 10 * c.args.nodes + 16 * n) (cell.Part c.with_room-part.result.0) c.take_part.new.core.held }) number) in
     let keeps : KeepsPart c.args.nodes c.args.core.now c.put.new.core = record {
       part = c.take_part.result.value;
       was = c.take_part.ensures.part;

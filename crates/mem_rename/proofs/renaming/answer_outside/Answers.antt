@@ -8,7 +8,8 @@ use Rattle.mem_rename.proofs.Outside.{outside_due}
 use Rattle.mem_rename.proofs.renaming.answer_outside.Goals as goal
 
 pub directory_fault_in-requires-clause-held : goal.directory_fault_in-requires-clause-held
-directory_fault_in-requires-clause-held g c = still_directory c.args.nodes c.hold_directory.new.core c.hold_part.new.core c.args.mv.directory c.bucket_of-number.result c.hold_part.ensures.still c.hold_directory.ensures.directory
+directory_fault_in-requires-clause-held g c =
+    still_directory c.args.nodes c.hold_directory.new.core c.hold_part.new.core c.args.mv.directory c.bucket_of-number.result c.hold_part.ensures.still c.hold_directory.ensures.directory
 
 pub finish-requires-clause-due : goal.finish-requires-clause-due
 finish-requires-clause-due g c = λ tree meets.

@@ -5,12 +5,17 @@ use Rattle.mem_rename.proofs.Settled.{refused_same, refused_both, refused_after,
 use Rattle.mem_rename.proofs.settling.settle.Goals as goal
 
 pub loop-init : goal.loop-init
-loop-init g c = record { again = refused_same c.args.shared.now c.args.core.now c.requires.core; within = subst (IsPlanWithin c.args.nodes) (sym c.none-plan.ensures) (none_within c.args.nodes) }
+loop-init g c = record {
+  again = refused_same c.args.shared.now c.args.core.now c.requires.core;
+  within = subst (IsPlanWithin c.args.nodes) (sym c.none-plan.ensures) (none_within c.args.nodes);
+}
 
 pub hold_round-requires-clause-room : goal.hold_round-requires-clause-room
 hold_round-requires-clause-room g c = let r = c.loop.invariant.again.room in let enough = c.requires.room in omega (arith, r, enough)
 
 pub returns-then-is : goal.returns-then-is
 returns-then-is g c =
-    settled g.T.Given.given c.args.shared.now c.args.nodes c.args.mv.now c.loop.plan c.next_plan-next.result (map node_number c.in-Ok-Some.above.items) c.args.core.now c.loop.core c.hold_round.new.core c.loop.invariant.within c.loop.invariant.again
-    (rw c.in-Ok-Some.field-0-is at c.in-Ok-Some.ensures.held) (c.next_plan-next.ensures.asked (map node_number c.in-Ok-Some.above.items)) (sym c.is.ensures ∙ c.if-is.true)
+    settled g.T.Given.given c.args.shared.now c.args.nodes c.args.mv.now c.loop.plan c.next_plan-next.result
+    (map node_number c.in-Ok-Some.above.items) c.args.core.now c.loop.core c.hold_round.new.core c.loop.invariant.within c.loop.invariant.again
+    (rw c.in-Ok-Some.field-0-is at c.in-Ok-Some.ensures.held) (c.next_plan-next.ensures.asked (map node_number c.in-Ok-Some.above.items))
+    (sym c.is.ensures ∙ c.if-is.true)

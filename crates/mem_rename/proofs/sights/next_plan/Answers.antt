@@ -18,4 +18,5 @@ returns-clause-asked c = λ above. c.plan_for.ensures ∙ ap (λ l. plan_by l c.
 pub returns-clause-within : goal.returns-clause-within
 returns-clause-within c =
     subst (IsPlanWithin c.args.nodes) (sym (c.plan_for.ensures ∙ ap (λ l. plan_by l c.args.mv.now) c.look_in.ensures))
-    (plan_within c.args.nodes c.args.core.now c.requires.counted c.args.mv.now c.requires.within c.args.plan c.requires.held (tree_seen c.args.core.now) c.requires.met)
+    (plan_within c.args.nodes c.args.core.now c.requires.counted c.args.mv.now c.requires.within c.args.plan c.requires.held
+    (tree_seen c.args.core.now) c.requires.met)

@@ -132,21 +132,11 @@ returns-clause-ended g c image told calm =
     let calm_mid = calm_stays (view c.args.disk.now) (view c.judge.new.disk) c.in_ok-layout.ensures.reads.unwritten calm in
     let ready = ready_by image judged.layout judged.open_slots.items c.deref-2.result.now judged.stamps.items c.deref-3.result.now judged.records.items c.as_slice-2.result.now
     c.deref-2.ensures.value c.deref-3.ensures.value c.as_slice-2.ensures stands own.open_slots (own.newest stands) in
-    all_ended image judged.layout judged.records.items own.settles some own.faultless (view c.judge.new.disk) (view c.settle_disk.new.disk) _
-    (c.in_ok-settle_disk.ensures.settles image mid_told calm_mid ready)
-
-pub returns-clause-tells : goal.returns-clause-tells
-returns-clause-tells g c image told calm content is =
-    let view = g.D.Disk.view in
-    let judged = c.in_ok-layout.field-0 in
-    let own = c.in_ok-layout.ensures.ok image told in
-    let some = some_inode judged.layout.inodes c.in_ok-layout.ensures.fits.ranges.inodes_low in
-    let stands = image_stands image judged.layout judged.records.items own.settles some own.faultless in
-    let mid_told = c.in_ok-layout.ensures.reads.unwritten.content ∙ told in
-    let calm_mid = calm_stays (view c.args.disk.now) (view c.judge.new.disk) c.in_ok-layout.ensures.reads.unwritten calm in
-    let ready = ready_by image judged.layout judged.open_slots.items c.deref-2.result.now judged.stamps.items c.deref-3.result.now judged.records.items c.as_slice-2.result.now
-    c.deref-2.ensures.value c.deref-3.ensures.value c.as_slice-2.ensures stands own.open_slots (own.newest stands) in
-    (c.in_ok-settle_disk.ensures.settles image mid_told calm_mid ready).told content (c.in_ok-layout.ensures.reads.unwritten.content ∙ is)
+    let done = c.in_ok-settle_disk.ensures.settles image mid_told calm_mid ready in
+    record {
+      left = all_ended image judged.layout judged.records.items own.settles some own.faultless (view c.judge.new.disk) (view c.settle_disk.new.disk) _ done;
+      tells = λ content is. done.told content (c.in_ok-layout.ensures.reads.unwritten.content ∙ is);
+    }
 
 pub returns-clause-calm : goal.returns-clause-calm
 returns-clause-calm g c calm =

@@ -12,7 +12,7 @@ returns-in-Ok-clause-shows g c =
     let told = c.in-Ok.ensures in
     image_shown (g.D.Disk.view c.args.disk.now) (g.D.Disk.view c.recover.new.disk) c.in-Ok.report
     (HasRisen (g.K.Sink.faults c.args.sink.now) (g.K.Sink.faults c.write_tree.new.sink)) (written c.args.sink.now) (written c.write_tree.new.sink) c.write_tree.result
-    told.sound.sound told.ok told.moments told.ended c.write_tree.ensures.status c.write_tree.ensures.text
+    told.sound.sound told.ok told.moments (λ image is calm. (told.ended image is calm).left) c.write_tree.ensures.status c.write_tree.ensures.text
 
 pub returns-in-Err-clause-shows : goal.returns-in-Err-clause-shows
 returns-in-Err-clause-shows g c =

@@ -3,7 +3,7 @@ use Rattle.std.specs.FinMap.{len-entries}
 use Rattle.sfs_base.specs.Name.{bucket}
 use Rattle.sfs_tree.specs.Tree.{bucket_rows}
 use Rattle.sfs_tree.specs.Sound.{IsWithinLimits}
-use Rattle.mem_begin.specs.Beginning.{MayBegin}
+use Rattle.mem_begin.specs.Beginning.{CanBeginTable}
 use Rattle.mem_begin.proofs.Rows.{bucket_fits}
 use Rattle.test_run.proofs.SmallTrees.{begins_with_row, within_with_row}
 use Rattle.test_run.proofs.small_trees.put_row.Goals as goal
@@ -16,7 +16,7 @@ put_row-requires-clause-room g c =
 
 pub returns-clause-begins : goal.returns-clause-begins
 returns-clause-begins g c =
-    subst MayBegin (sym c.in_ok-put_row.ensures.ok) (begins_with_row c.args.tree.now c.args.dir.0 c.args.name c.args.child.0 c.requires.begins (record {
+    subst CanBeginTable (sym c.in_ok-put_row.ensures.ok) (begins_with_row c.args.tree.now c.args.dir.0 c.args.name c.args.child.0 c.requires.begins (record {
       holder = search rules;
       free = search rules;
       no_root = search rules;

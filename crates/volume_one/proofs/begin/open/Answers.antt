@@ -48,7 +48,7 @@ returns-clause-begins g c =
     subst (λ (numbers : List ℕ). AreReplaced numbers mounted.old.items c.make_places.new.old c.replace_entries.new.old)
     (ap (map node_number) (c.deref-2.ensures.value ∙ nodes) ∙ numbers_are mounted.old.items) c.replace_entries.ensures in
     begins_open c.args.nodes mounted (g.D.Disk.view before) (g.D.Disk.view after) lawful lawful_later
-    (record { told = own.ok; sound = own.sound; moments = own.moments; ended = own.ended; tells = own.tells; advances = own.runs.advances })
+    (record { told = own.ok; sound = own.sound; moments = own.moments; ended = λ image told calm. (own.ended image told calm).left; tells = λ image told calm. (own.ended image told calm).tells; advances = own.runs.advances })
     _
     (record {
       layout = refl;
@@ -68,6 +68,3 @@ returns-clause-begins g c =
 
 pub returns-clause-ended : goal.returns-clause-ended
 returns-clause-ended g c = c.in_ok-layout.ensures.ended
-
-pub returns-clause-tells : goal.returns-clause-tells
-returns-clause-tells g c = c.in_ok-layout.ensures.tells
