@@ -16,7 +16,7 @@ use Rattle.mem_values.specs.Home.{BeginsAs}
 use Rattle.mem_values.proofs.Begun.{cells_begin}
 use Rattle.mem_begin.specs.Beginning.{given_in, given_of, IsGivenOf, IsFlushedOf, HasGivenBelow}
 use Rattle.mem_begin.specs.Lying.{IsWhatLiesAt}
-use Rattle.mem_begin.specs.Standing.{StandFrom}
+use Rattle.mem_begin.proofs.Standing.{StandFrom}
 
 -- a value that begins as what lies at a place stands there
 pub begins_at : (given : ℕ → Option OldKept) (first : TreeState) (place : ℕ) (cell : CellId) (value : Cell) → IsWhatLiesAt (node_count first) place cell

@@ -1,3 +1,4 @@
 pub mod Rows
 pub mod Cells
 pub mod Cores
+pub mod Standing

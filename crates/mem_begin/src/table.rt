@@ -4,7 +4,6 @@ ghost use Rattle.stamp_table.specs.Table.{AreAllCores, AreNew, IsBetweenCalls};
 ghost use Rattle.mem_values.specs.Places.{node_count, place_count};
 ghost use Rattle.mem_values.specs.Stands.{StandsAt};
 ghost use Rattle.mem_begin.specs.Beginning.{CanBeginTable, HasGivenBelow, given_in, nodes_below};
-ghost use Rattle.mem_begin.specs.Standing.{AreLastCells};
 
 use crate::cell::{begin_cell, take_given};
 use crate::place::{cell_lying_at, place_count};

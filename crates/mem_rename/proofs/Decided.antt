@@ -33,7 +33,7 @@ module _ (seen : Sight) (move : Move) where
 
   fault_told : (child : ℕ) → child_seen seen move ≡ Some child → move_fault_of look reads move ≡ move_fault_by seen move child
   fault_told child is =
-      ap₂ (λ b f. cond b (Some Invalid) f) (all (not (nat_eq move.directory.0 move.to_directory.0)) look.moves (ap (is_at_or_below seen move) is))
+      ap₂ (λ b f. cond b (Some Invalid) f) (all (not (nat_eq move.directory.0 move.to_directory.0)) look.child_is_directory (ap (is_at_or_below seen move) is))
       (place_told (there_seen seen move) refl)
     where
       all : (a b : Bool) {c d : Bool} → c ≡ d → (a && b && c) ≡ ((a && b) && d)

@@ -1,6 +1,7 @@
 -- What was held in one round, and how it is let go without a call.
-use Rattle.std.proofs.Common.{◌≡◌, ℕ, ◌+◌, ◌<◌, ◌≤◌, Bool, true, List, [], ◌∷◌, ◌++◌, length, reverse, Option, Some, option_map, refl, sym, ap, subst, ◌∙◌, arith, append-nil, eq-eqb}
+use Rattle.std.proofs.Common.{◌≡◌, ℕ, ◌+◌, ◌<◌, ◌≤◌, Bool, true, List, [], ◌∷◌, ◌++◌, length, reverse, Option, Some, option_map, inl, refl, sym, ap, subst, ◌∙◌, arith, append-nil, eq-eqb}
 use Rattle.std.specs.Prelude.{is_some, if◌then◌else◌}
+use Rattle.sfs_base.specs.Name.{bucket as name_bucket}
 use Rattle.disk_change.specs.OldKept.{OldKept}
 use Rattle.sfs_tree.specs.Tree.{TreeState}
 use Rattle.sfs_tree.specs.Lock.{AreHolders}
@@ -19,9 +20,9 @@ use Rattle.mem_values.specs.declared.fact.Fact.{Fact}
 use Rattle.mem_values.specs.Account.{account_of}
 use Rattle.mem_values.specs.Stands.{StandsAt, StandsForCell}
 use Rattle.mem_values.specs.Facts.{IsLawfulLog}
-use Rattle.mem_values.specs.Laws.{KnowsCells, MayMeet}
+use Rattle.mem_values.specs.Laws.{KnowsCells}
 use Rattle.mem_calls.specs.Table.{IsFileTable}
-use Rattle.mem_calls.specs.Held.{value_held, HoldsPart}
+use Rattle.mem_calls.specs.Held.{value_held}
 use Rattle.mem_calls.specs.Outcome.{IsRefused}
 use Rattle.mem_calls.specs.Working.{IsWorking, WorksOn, StillHolds}
 use Rattle.mem_calls.proofs.Cells.{found_place}
@@ -30,11 +31,11 @@ use Rattle.mem_calls.proofs.Finished.{none_left}
 use Rattle.mem_rename.specs.declared.sides.Move.{Move}
 use Rattle.mem_rename.specs.declared.plans.Plan.{Plan}
 use Rattle.mem_rename.specs.Plans.{asked_cells}
-use Rattle.mem_rename.specs.Holding.{HoldsCell, HoldsAsked}
-use Rattle.mem_rename.specs.Ways.{HoldsLock, HasRead, HasReadAll, tree_seen}
+use Rattle.mem_rename.specs.Holding.{HoldsAsked}
+use Rattle.mem_rename.specs.Ways.{HoldsLock, HasMet, HasRead, HasReadAll, tree_seen}
 use Rattle.mem_rename.specs.Rounds.{HoldsRound}
 use Rattle.mem_rename.proofs.Upwards.{read_ways_stay}
-use Rattle.mem_rename.proofs.SoFar.{works_on_both, holds_still}
+use Rattle.mem_rename.proofs.SoFar.{works_on_both}
 
 -- what a core knows stands for what it has seen
 pub each_known : (given : ℕ → Option OldKept) (view : View TreeState (Event Fact)) (cells : List (HeldCell Cell)) → KnowsCells given view cells
@@ -70,11 +71,37 @@ refused given t before after work lets left places =
       mine = ap (λ (v : View TreeState (Event Fact)). v.mine) lets.view;
     }
 
+-- Directories above another one that were read are so still, as long as the lock has its value.
+module _ (given : ℕ → Option OldKept) (t : TableState) (nodes : ℕ) (table : IsFileTable t nodes) (node : ℕ) (above : List ℕ) (before after : Hand Cell Fact)
+    (work : IsWorking given t before) (work_after : IsWorking given t after) (on : WorksOn before after) (still : StillHolds nodes before after)
+    (legal : IsLegal after.view.first (calls_in after.view.seen)) (value : Cell) (found : value_held nodes before.held id.Lock ≡ Some value) where
+  first_same : after.view.first ≡ before.view.first
+  first_same = ap (λ (v : View TreeState (Event Fact)). v.first) on.view
+
+  pub way_stays : AreHolders (tree_seen before) node above → HasRead given after.view node above
+  way_stays holders =
+      let b = held_cell nodes before.held id.Lock value found in
+      let b_place : b.0.place ≡ 0 = found_place 0 before.held b.0 b.1 in
+      let knew = knows_found given before.view before.held 0 b.0 work.knows b.1 in
+      let h = held_cell nodes after.held id.Lock value (still.values id.Lock value found) in
+      let place : h.0.place ≡ 0 = found_place 0 after.held h.0 h.1 in
+      let knows = knows_found given after.view after.held 0 h.0 work_after.knows h.1 in
+      record {
+        lock = h.0;
+        knows = knows;
+        there = sym place;
+        holders = subst (λ (z : TreeState × List (Event Fact)). AreHolders (tree_after z.0 (calls_in z.1)) node above) (λ i. (sym first_same i, on.seen.1 i))
+            (read_ways_stay given before.view.first before.view.seen on.seen.0 value node above (subst IsSoundTree (sym work.first) table.sound)
+            (subst (λ (z : TreeState × List (Event Fact)). IsLegal z.0 (calls_in z.1)) (λ i. (first_same i, sym on.seen.1 i)) legal)
+            (subst (StandsForCell given before.view.first (account_of before.view.seen) id.Lock) b.2 (knew.stood id.Lock tt (sym b_place)))
+            (subst (λ (z : TreeState × List (Event Fact)). StandsForCell given z.0 (account_of z.1) id.Lock value) (λ i. (first_same i, sym on.seen.1 i))
+            (subst (StandsForCell given after.view.first (account_of after.view.seen) id.Lock) h.2 (knows.stood id.Lock tt (sym place))))
+            holders);
+      }
+
 module _ (given : ℕ → Option OldKept) (t : TableState) (nodes : ℕ) (table : IsFileTable t nodes) (move : Move) (plan : Plan) (above : List ℕ)
-    (before locked asked after : Hand Cell Fact)
-    (work_locked : IsWorking given t locked) (work : IsWorking given t after) (on_locked : WorksOn before locked)
-    (holds : HoldsAsked nodes (asked_cells move plan) locked asked)
-    (on : WorksOn asked after) (still : StillHolds nodes asked after) (legal : IsLegal after.view.first (calls_in after.view.seen))
+    (before locked after : Hand Cell Fact) (work_locked : IsWorking given t locked) (work : IsWorking given t after) (on_locked : WorksOn before locked)
+    (holds : HoldsAsked nodes (asked_cells move plan) locked after)
     (lock : is_some plan.comes ≡ true → HoldsLock locked) (read : is_some plan.comes ≡ true → HasReadAll locked move.to_directory.0 above) where
   lock_value : (comes : is_some plan.comes ≡ true) → value_held nodes locked.held id.Lock ≡ Some (lock comes).lock.value
   lock_value comes =
@@ -82,47 +109,20 @@ module _ (given : ℕ → Option OldKept) (t : TableState) (nodes : ℕ) (table 
       ∙ ap (λ b. option_map (λ (h : HeldCell Cell). h.value) (if b then Some (lock comes).lock else Rattle.std.proofs.Common.None))
       (eq-eqb (lock comes).lock.place 0 (lock comes).place)
 
-  still_locked : (which : CellId) (value : Cell) → value_held nodes locked.held which ≡ Some value → value_held nodes after.held which ≡ Some value
-  still_locked which value is = still.values which value (holds.still.values which value is)
+  met : HasMet after
+  met = holds.met (id.Bucket move.directory (name_bucket move.name)) (inl refl)
 
-  lock_held : (comes : is_some plan.comes ≡ true) → HoldsCell nodes after.held id.Lock
-  lock_held comes = ((lock comes).lock.value, still_locked id.Lock (lock comes).lock.value (lock_value comes), (lock comes).kind)
-
-  first_same : after.view.first ≡ locked.view.first
-  first_same = ap (λ (v : View TreeState (Event Fact)). v.first) on.view ∙ ap (λ (v : View TreeState (Event Fact)). v.first) holds.on.view
-
-  way_read : (comes : is_some plan.comes ≡ true) → HasRead given after.view move.to_directory.0 above
-  way_read comes =
-      let h = held_cell nodes after.held id.Lock (lock comes).lock.value (still_locked id.Lock (lock comes).lock.value (lock_value comes)) in
-      let place : h.0.place ≡ 0 = found_place 0 after.held h.0 h.1 in
-      let knows = knows_found given after.view after.held 0 h.0 work.knows h.1 in
-      let knew = (subst (KnowsCells given locked.view) (lock comes).alone work_locked.knows).0 in
-      let seen = works_on_both locked asked after holds.on on in
-      record {
-        lock = h.0;
-        knows = knows;
-        there = sym place;
-        holders = subst (λ (z : TreeState × List (Event Fact)). AreHolders (tree_after z.0 (calls_in z.1)) move.to_directory.0 above)
-            (λ i. (sym first_same i, seen.seen.1 i))
-            (read_ways_stay given locked.view.first locked.view.seen seen.seen.0 (lock comes).lock.value move.to_directory.0 above
-            (subst IsSoundTree (sym work_locked.first) table.sound)
-            (subst (λ (z : TreeState × List (Event Fact)). IsLegal z.0 (calls_in z.1)) (λ i. (first_same i, sym seen.seen.1 i)) legal)
-            (knew.stood id.Lock tt (sym (lock comes).place))
-            (subst (λ (z : TreeState × List (Event Fact)). StandsForCell given z.0 (account_of z.1) id.Lock (lock comes).lock.value)
-            (λ i. (first_same i, sym seen.seen.1 i))
-            (subst (StandsForCell given after.view.first (account_of after.view.seen) id.Lock) h.2 (knows.stood id.Lock tt (sym place))))
-            (read comes).holders);
-      }
-
-  -- All is held.
-  pub round : HoldsPart nodes after → MayMeet after.view after.held (tree_seen after) → HoldsRound given t nodes move plan above before after
-  round part met = record {
+  -- All is held but the own log.
+  pub round : 0 < after.room → HoldsRound given t nodes move plan above before after
+  round room = record {
     work = work;
-    on = works_on_both before locked after on_locked (works_on_both locked asked after holds.on on);
-    part = part;
-    cells = λ cell among. holds_still nodes asked after cell still (holds.holds cell among);
-    lock = lock_held;
-    read = way_read;
+    on = works_on_both before locked after on_locked holds.on;
+    cells = holds.holds;
+    lock = λ comes. ((lock comes).lock.value, holds.still.values id.Lock (lock comes).lock.value (lock_value comes), (lock comes).kind);
+    read = λ comes. way_stays given t nodes table move.to_directory.0 above locked after work_locked work holds.on holds.still met.legal
+        (lock comes).lock.value (lock_value comes) (read comes).holders;
     ends = λ comes. (read comes).ends;
-    met = met;
+    met = met.met;
+    below = holds.below;
+    room = room;
   }

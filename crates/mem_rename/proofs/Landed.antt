@@ -243,7 +243,7 @@ module _ (given : ℕ → Option OldKept) (t : TableState) (nodes : ℕ) (table 
       ∙ ((turned.all given t nodes table move within plan plan_within above before ready child moves_is shift noted row_hand prepared out change).buckets at n lt small
       ∙ (ap (option_map _) (kept_bucket nodes before prepared.mid prepared.room.keeps at n lt small ∙ ap (option_and_then as_bucket) was)
       ∙ ap (λ (s : Shift). Some (bucket_moved move plan at n
-      (at_bucket move.to_directory (name_bucket move.to_name) (with_row s.moves move.to_name s.child.0) at n bx.value))) shift_is)) in
+      (at_bucket move.to_directory (name_bucket move.to_name) (with_row s.child_is_directory move.to_name s.child.0) at n bx.value))) shift_is)) in
       by y after
     where
       by : (y : Cell) → as_bucket y ≡ Some (Rattle.mem_rename.proofs.Shifting.bucket_after seen move plan child plan_is at n bx.value)

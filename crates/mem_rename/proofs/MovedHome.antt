@@ -101,25 +101,25 @@ module _ (given : ℕ → Option OldKept) (t : TableState) (nodes : ℕ) (table 
   comes_by true is = readies.comes_is given t nodes table move within plan above hand ready tree on child.0 child_is
       (fitted.new_stands given t nodes table move within plan above hand ready tree on child.0 moves) is
   comes_by false is = ap (λ (x : Plan). x.comes) ready.asked
-      ∙ ap (λ b. cond b look.child None) (drop_last look.to_stands (not (nat_eq move.directory.0 move.to_directory.0)) look.moves is)
+      ∙ ap (λ b. cond b look.child None) (drop_last look.to_stands (not (nat_eq move.directory.0 move.to_directory.0)) look.child_is_directory is)
 
   directory_by : (meets : Bool) (there : Option ℕ) → meets_directory seen move ≡ meets → there_seen seen move ≡ there
       → plan.directory ≡ cond meets (option_map numbered_node there) None
   directory_by true None is met = ap (λ (x : Plan). x.directory) ready.asked
-      ∙ none_either ((look.moves && look.meets) && not (same_child look.child look.there)) look.there (ap (option_map numbered_node) met)
+      ∙ none_either ((look.child_is_directory && look.there_is_directory) && not (same_child look.child look.there)) look.there (ap (option_map numbered_node) met)
   directory_by true (Some there) is met = readies.directory_is given t nodes table move within plan above hand ready tree on child.0 there child_is
       (ap₂ (λ x y. x && y) (same_kind there met ∙ is) is) apart met
   directory_by false there is met = ap (λ (x : Plan). x.directory) ready.asked
       ∙ ap (λ b. cond b look.there None)
-      (drop_last look.moves look.meets (not (same_child look.child look.there)) (drop_more look.meets (not (same_child look.child look.there)) is))
+      (drop_last look.child_is_directory look.there_is_directory (not (same_child look.child look.there)) (drop_more look.there_is_directory (not (same_child look.child look.there)) is))
 
   file_by : (meets : Bool) (there : Option ℕ) → meets_directory seen move ≡ meets → there_seen seen move ≡ there
       → plan.file ≡ cond meets None (option_map numbered_node there)
   file_by true there is met = ap (λ (x : Plan). x.file) ready.asked
       ∙ ap (λ b. cond b look.there None)
-      (drop_third (is_some look.child) (not look.moves) (not look.meets) (not (same_child look.child look.there)) (ap not is))
+      (drop_third (is_some look.child) (not look.child_is_directory) (not look.there_is_directory) (not (same_child look.child look.there)) (ap not is))
   file_by false None is met = ap (λ (x : Plan). x.file) ready.asked
-      ∙ none_either (((is_some look.child && not look.moves) && not look.meets) && not (same_child look.child look.there)) look.there
+      ∙ none_either (((is_some look.child && not look.child_is_directory) && not look.there_is_directory) && not (same_child look.child look.there)) look.there
       (ap (option_map numbered_node) met)
   file_by false (Some there) is met = readies.file_is given t nodes table move within plan above hand ready tree on child.0 there child_is
       (same_kind there met ∙ is) is apart met

@@ -28,17 +28,17 @@ module _ (first : TreeState) (account : Account) (core : ℕ) (p : PartCell) (st
   Behind change = All (λ other. log_place other ≤ log_place change) (changes_kept p.log change.dir.0)
 
   abbrev goes : Change
-  goes = gone_entry number shift.from.0 name shift.child shift.moves shift.to.0
+  goes = gone_entry number shift.from.0 name shift.child shift.child_is_directory shift.to.0
 
   abbrev comes : Change
-  comes = log_entry number shift.to.0 to_name shift.child.0 (kind_if shift.moves) Add (other_side shift.to.0 shift.from.0) above
+  comes = log_entry number shift.to.0 to_name shift.child.0 (kind_if shift.child_is_directory) Add (other_side shift.to.0 shift.from.0) above
 
   behind_one : (change : Change) → change.stamp.0 ≡ number → 3 ≤ room_kept p.log change.dir.0 → All Behind (change ∷ [])
   behind_one change stamp room = (room_for_one first account core p change stood legal (stamp ∙ number_is) (omega (arith, room)) few).behind
 
   behind_gone : (there : Option Rattle.sfs_base.specs.declared.numbers.NodeId.NodeId) → All Behind (gone_by shift to_name number there)
   behind_gone None = All-nil Behind
-  behind_gone (Some there) = behind_one (gone_entry number shift.to.0 to_name there shift.meets shift.from.0) refl new
+  behind_gone (Some there) = behind_one (gone_entry number shift.to.0 to_name there shift.there_is_directory shift.from.0) refl new
 
   two_behind : All Behind (goes ∷ comes ∷ [])
   two_behind = All-append Behind (goes ∷ []) (comes ∷ []) (behind_one goes refl old) (behind_one comes refl new)
@@ -54,10 +54,10 @@ module _ (first : TreeState) (account : Account) (core : ℕ) (p : PartCell) (st
 
   order_gone : (there : Option Rattle.sfs_base.specs.declared.numbers.NodeId.NodeId) → IsInOrder (gone_by shift to_name number there ++ goes ∷ comes ∷ [])
   order_gone None = order_two [] nothing_in_order (All-nil (λ other. log_place other ≤ 2 * number + 0))
-  order_gone (Some there) = order_two (gone_entry number shift.to.0 to_name there shift.meets shift.from.0 ∷ [])
-      (in_order-push [] (gone_entry number shift.to.0 to_name there shift.meets shift.from.0) nothing_in_order
+  order_gone (Some there) = order_two (gone_entry number shift.to.0 to_name there shift.there_is_directory shift.from.0 ∷ [])
+      (in_order-push [] (gone_entry number shift.to.0 to_name there shift.there_is_directory shift.from.0) nothing_in_order
       (All-nil (λ other. log_place other ≤ 2 * number + 0)))
-      (All-cons (λ other. log_place other ≤ 2 * number + 0) (gone_entry number shift.to.0 to_name there shift.meets shift.from.0) [] (omega arith)
+      (All-cons (λ other. log_place other ≤ 2 * number + 0) (gone_entry number shift.to.0 to_name there shift.there_is_directory shift.from.0) [] (omega arith)
       (All-nil (λ other. log_place other ≤ 2 * number + 0)))
 
   room_two : (a b : Bool) (r : ℕ) → (a ≡ true → 3 ≤ r) → (b ≡ true → 3 ≤ r) → (front : ℕ) → (front ≤ cond b 1 0) → front + (cond a 1 0 + cond b 1 0) ≤ r
@@ -90,7 +90,7 @@ module _ (first : TreeState) (account : Account) (core : ℕ) (p : PartCell) (st
       at_new : (d : ℕ) → nat_eq shift.to.0 d ≡ true → 3 ≤ room_kept p.log d
       at_new d is = subst (λ x. 3 ≤ room_kept p.log x) (eqb-true _ _ is) new
   room_gone d (Some there) =
-      let front = counted d (gone_entry number shift.to.0 to_name there shift.meets shift.from.0) (goes ∷ comes ∷ []) in
+      let front = counted d (gone_entry number shift.to.0 to_name there shift.there_is_directory shift.from.0) (goes ∷ comes ∷ []) in
       let one = counted d goes (comes ∷ []) in
       let two = counted d comes [] in
       let le = room_two (nat_eq shift.from.0 d) (nat_eq shift.to.0 d) (room_kept p.log d) (at_old d) (at_new d) (cond (nat_eq shift.to.0 d) 1 0)

@@ -1,25 +1,35 @@
 -- A core that begins again, and one that has come to hold all.
-use Rattle.std.proofs.Common.{◌≡◌, ℕ, ◌+◌, ◌<◌, ◌≤◌, Bool, true, false, not, ◌&&◌, List, [], ◌∷◌, ◌++◌, length, Option, Some, None, refl, sym, ap, subst, ◌∙◌, arith, append-nil, append_assoc}
+use Rattle.std.proofs.Common.{◌≡◌, ℕ, ◌+◌, ◌<◌, ◌≤◌, Bool, true, false, not, ◌&&◌, List, [], ◌∷◌, ◌++◌, length, Option, Some, None, inl, inr, refl, sym, ap, subst, ◌∙◌, arith, append-nil, append_assoc}
 use borrow.Author.Tests.{eqb-true}
+use Rattle.std.specs.Option.{option_and_then}
+use Rattle.sfs_base.specs.Name.{bucket as name_bucket}
 use Rattle.sfs_base.specs.declared.numbers.NodeId.{NodeId}
 use Rattle.sfs_base.proofs.BasicTruth.{and_first, and_second, not_true, false_not_true}
 use Rattle.sfs_base.proofs.BasicOptions.{none_some}
 use Rattle.disk_change.specs.OldKept.{OldKept}
+use Rattle.flush_core.specs.Rules.{IsOneOf}
+use Rattle.sfs_tree.specs.History.{IsLegal}
 use Rattle.sfs_tree.specs.Tree.{TreeState}
 use Rattle.stamp_table.specs.declared.event.Event.{Event}
 use Rattle.stamp_table.specs.declared.view.View.{View}
+use Rattle.stamp_table.specs.Events.{calls_in}
 use Rattle.stamp_table.specs.Hand.{Hand}
 use Rattle.stamp_table.specs.Table.{TableState, IsBetweenCalls}
 use Rattle.mem_values.specs.declared.cell.Cell.{Cell}
+use Rattle.mem_values.specs.declared.cell_id.CellId.TheVariants as id
 use Rattle.mem_values.specs.declared.fact.Fact.{Fact}
 use Rattle.mem_calls.specs.Outcome.{IsRefused}
-use Rattle.mem_calls.specs.Working.{WorksOn}
+use Rattle.mem_calls.specs.Held.{as_bucket, bucket_held, HoldsPart}
+use Rattle.mem_calls.specs.Table.{IsFileTable}
+use Rattle.mem_calls.specs.Working.{IsWorking, WorksOn, StillHolds}
 use Rattle.mem_rename.specs.declared.sides.Move.{Move}
 use Rattle.mem_rename.specs.declared.plans.Plan.{Plan}
-use Rattle.mem_rename.specs.Decisions.{look_of}
-use Rattle.mem_rename.specs.Plans.{no_plan, same_node, same_truth, is_plan, plan_by}
-use Rattle.mem_rename.specs.Ready.{seen_of, HoldsRename}
+use Rattle.mem_rename.specs.Decisions.{look_of, look_by}
+use Rattle.mem_rename.specs.Plans.{no_plan, same_node, same_truth, is_plan, plan_by, asked_cells}
+use Rattle.mem_rename.specs.Ready.{bucket_or, seen_of}
 use Rattle.mem_rename.specs.Rounds.{IsPlanWithin, HoldsRound, SettlesRename}
+use Rattle.mem_rename.proofs.SoFar.{works_on_both, holds_still}
+use Rattle.mem_rename.proofs.Gathered.{way_stays}
 
 pub refused_same : (t : TableState) (hand : Hand Cell Fact) → IsBetweenCalls t hand → IsRefused t hand hand
 refused_same t hand between = record {
@@ -94,23 +104,37 @@ plan_same a b is =
           && same_node a.directory b.directory) _ is) i;
     }
 
--- A round that holds what follows from it has settled.
-pub settled : (given : ℕ → Option OldKept) (t : TableState) (nodes : ℕ) (move : Move) (plan next : Plan) (above : List ℕ) (start begun hand : Hand Cell Fact)
-    → IsPlanWithin nodes plan → IsRefused t start begun → HoldsRound given t nodes move plan above begun hand
-    → next ≡ plan_by (look_of (seen_of nodes hand.held move plan above) move) move → is_plan next plan ≡ true
-    → SettlesRename given t nodes move plan above start hand
-settled given t nodes move plan next above start begun hand within again round asked same = record {
-  begun = begun;
-  again = again;
-  on = round.on;
-  within = within;
-  ready = record {
-    work = round.work;
-    part = round.part;
-    cells = round.cells;
-    lock = round.lock;
-    read = round.read;
-    ends = round.ends;
-    asked = sym (plan_same next plan same) ∙ asked;
-  };
-}
+-- A round that holds what follows from it has settled once the own log is held.
+module _ (given : ℕ → Option OldKept) (t : TableState) (nodes : ℕ) (table : IsFileTable t nodes) (move : Move) (plan next : Plan) (above : List ℕ)
+    (begun hand after : Hand Cell Fact) (round : HoldsRound given t nodes move plan above begun hand) (work : IsWorking given t after) (on : WorksOn hand after)
+    (still : StillHolds nodes hand after) (legal : IsLegal after.view.first (calls_in after.view.seen)) where
+  -- a bucket that was asked for is the same
+  bucket_stays : (node : NodeId) (number : ℕ) → IsOneOf (asked_cells move plan) (id.Bucket node number)
+      → bucket_or (bucket_held nodes after.held node number) ≡ bucket_or (bucket_held nodes hand.held node number)
+  bucket_stays node number among =
+      let cell = round.cells (id.Bucket node number) among in
+      ap (λ o. bucket_or (option_and_then as_bucket o)) (still.values (id.Bucket node number) cell.0 cell.1 ∙ sym cell.1)
+
+  look_stays : look_of (seen_of nodes after.held move plan above) move ≡ look_of (seen_of nodes hand.held move plan above) move
+  look_stays = λ i. look_by (bucket_stays move.directory (name_bucket move.name) (inl refl) i)
+      (bucket_stays move.to_directory (name_bucket move.to_name) (inr (inl refl)) i) move
+
+  pub settled : (start : Hand Cell Fact) → IsPlanWithin nodes plan → IsRefused t start begun
+      → next ≡ plan_by (look_of (seen_of nodes hand.held move plan above) move) move → is_plan next plan ≡ true → HoldsPart nodes after
+      → SettlesRename given t nodes move plan above start after
+  settled start within again asked same part = record {
+    begun = begun;
+    again = again;
+    on = works_on_both begun hand after round.on on;
+    within = within;
+    ready = record {
+      work = work;
+      part = part;
+      cells = λ cell among. holds_still nodes hand after cell still (round.cells cell among);
+      lock = λ comes. holds_still nodes hand after id.Lock still (round.lock comes);
+      read = λ comes. way_stays given t nodes table move.to_directory.0 above hand after round.work work on still legal (round.lock comes).0 (round.lock comes).1
+          (round.read comes).holders;
+      ends = round.ends;
+      asked = sym (plan_same next plan same) ∙ (asked ∙ ap (λ look. plan_by look move) (sym look_stays));
+    };
+  }

@@ -1,5 +1,5 @@
 -- Cells that are held one after the other, the least place first.
-use Rattle.std.proofs.Common.{ℕ, ◌+◌, ◌*◌, ◌<◌, ◌≤◌, Bool, true, false, cond, List, [], ◌∷◌, ◌++◌, length, Option, None, inl, inr, refl, sym, ap, subst, ◌∙◌, arith, nat_le, append-nil, append_assoc}
+use Rattle.std.proofs.Common.{◌≡◌, ◌⊎◌, ℕ, ◌+◌, ◌*◌, ◌<◌, ◌≤◌, Bool, true, false, cond, List, [], ◌∷◌, ◌++◌, length, Option, None, inl, inr, refl, sym, ap, subst, ◌∙◌, arith, nat_le, append-nil, append_assoc}
 use borrow.Author.Tests.{leb-true, le-leb}
 use Rattle.sfs_base.proofs.BasicTruth.{true_or_false}
 use Rattle.disk_change.specs.OldKept.{OldKept}
@@ -17,6 +17,7 @@ use Rattle.mem_values.specs.declared.fact.Fact.{Fact}
 use Rattle.mem_values.specs.Places.{cell_place, IsCell}
 use Rattle.mem_values.proofs.Places.{places_apart}
 use Rattle.mem_calls.specs.Working.{IsWorking, WorksOn, StillHolds, Gains}
+use Rattle.mem_rename.specs.Ways.{HasMet}
 use Rattle.mem_rename.specs.Holding.{IsTreeCell, AreTreeCells, IsLeastAbove, IsNextAbove, HoldsCell, HoldsAsked}
 
 -- what works on works on
@@ -122,6 +123,7 @@ pub record HoldsSoFar (given : ℕ → Option OldKept) (t : TableState) (nodes :
   pub held : (cell : CellId) → IsOneOf cells cell → cell_place nodes cell ≤ last → HoldsCell nodes now.held cell
   pub above : LiesAbove (last + 1) now.view.held
   pub low : last < 32 + 10 * nodes
+  pub met : (last ≡ 15) ⊎ HasMet now
   pub room : start.room ≤ now.room + count_low nodes last cells
 
 module _ (given : ℕ → Option OldKept) (t : TableState) (nodes : ℕ) (cells : List CellId) (are : AreTreeCells nodes cells) (start : Hand Cell Fact) where
@@ -133,6 +135,7 @@ module _ (given : ℕ → Option OldKept) (t : TableState) (nodes : ℕ) (cells 
     held = λ cell among le. let place = (tree_place nodes cell (one_is_tree_cell nodes cells cell are among)).0 in absurd (omega (arith, place, le));
     above = above;
     low = omega arith;
+    met = inl refl;
     room = omega arith;
   }
 
@@ -152,6 +155,7 @@ module _ (given : ℕ → Option OldKept) (t : TableState) (nodes : ℕ) (cells 
       ];
       above = subst (LiesAbove (cell_place nodes next + 1)) (sym gains.top) (omega arith);
       low = (tree_place nodes next (one_is_tree_cell nodes cells next are least.among)).1;
+      met = inr (record { legal = gains.legal; met = gains.seen_met });
       room = (let r = so.room in let one = gains.room in let more = count_next nodes last cells next least.among least.above in omega (arith, r, one, more));
     }
 
@@ -171,6 +175,11 @@ module _ (given : ℕ → Option OldKept) (t : TableState) (nodes : ℕ) (cells 
       still = so.still;
       holds = λ cell among. so.held cell among (none cell among);
       below = higher now.view.held last (32 + 10 * nodes) so.above so.low;
+      met = λ cell among. elim so.met [
+        | inl first ↦
+            let le = none cell among in let place = (tree_place nodes cell (one_is_tree_cell nodes cells cell are among)).0 in absurd (omega (arith, le, first, place))
+        | inr met ↦ met
+      ];
     }
 
     pub room_left : start.room ≤ now.room + length cells

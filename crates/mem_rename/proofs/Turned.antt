@@ -80,8 +80,8 @@ module _ (given : ℕ → Option OldKept) (t : TableState) (nodes : ℕ) (table 
   own = id.Part (record { 0 = before.view.core })
 
   pub row_step : ChangesHeld nodes
-      (at_bucket move.to_directory (name_bucket move.to_name) (with_row shift.moves move.to_name shift.child.0)) same_file mid0 row_hand
-  row_step = bucket_step nodes move.to_directory (name_bucket move.to_name) (with_row shift.moves move.to_name shift.child.0) mid0 row_hand within.new
+      (at_bucket move.to_directory (name_bucket move.to_name) (with_row shift.child_is_directory move.to_name shift.child.0)) same_file mid0 row_hand
+  row_step = bucket_step nodes move.to_directory (name_bucket move.to_name) (with_row shift.child_is_directory move.to_name shift.child.0) mid0 row_hand within.new
       (bucket_small move.to_name) prepared.row
 
   bucket_there : (node : NodeId) (number : ℕ) → node.0 < nodes → number < 8
@@ -112,7 +112,7 @@ module _ (given : ℕ → Option OldKept) (t : TableState) (nodes : ℕ) (table 
 
   module _ (out : Hand Cell Fact) (change : ChangesHeld nodes (bucket_moved move plan) (at_file plan.file less_one) row_hand out) where
     pub all : ChangesHeld nodes (λ at n x. bucket_moved move plan at n
-        (at_bucket move.to_directory (name_bucket move.to_name) (with_row shift.moves move.to_name shift.child.0) at n x))
+        (at_bucket move.to_directory (name_bucket move.to_name) (with_row shift.child_is_directory move.to_name shift.child.0) at n x))
         (λ at x. at_file plan.file less_one at x) mid0 out
     all = both_held nodes _ _ same_file _ mid0 row_hand out row_step change
 

@@ -27,8 +27,8 @@ look_by old new move = record {
   to_stands = stands_by move.to_directory.0 new;
   child = option_map numbered_node (get old.rows move.name);
   there = option_map numbered_node (get new.rows move.to_name);
-  moves = is_some (get old.directories move.name);
-  meets = is_some (get new.directories move.to_name);
+  child_is_directory = is_some (get old.directories move.name);
+  there_is_directory = is_some (get new.directories move.to_name);
 }
 
 abbrev pub look_of : Sight → Move → Look
@@ -62,9 +62,9 @@ fault_if stands links = if stands then None else if links == 0 then Some NoEntry
 abbrev pub place_fault_of : Look → Reads → Option Code
 place_fault_of look reads =
     if is_some look.there then (
-    if look.moves && not look.meets then Some NotDir else
-    if not look.moves && look.meets then Some IsDir else
-    if look.meets && not reads.bare then Some NotEmpty else
+    if look.child_is_directory && not look.there_is_directory then Some NotDir else
+    if not look.child_is_directory && look.there_is_directory then Some IsDir else
+    if look.there_is_directory && not reads.bare then Some NotEmpty else
     None) else
     if reads.full then Some DirFull else
     None
@@ -72,7 +72,7 @@ place_fault_of look reads =
 -- why the child can't move
 abbrev pub move_fault_of : Look → Reads → Move → Option Code
 move_fault_of look reads move =
-    if not (move.directory.0 == move.to_directory.0) && look.moves && reads.below then Some Invalid else
+    if not (move.directory.0 == move.to_directory.0) && look.child_is_directory && reads.below then Some Invalid else
     place_fault_of look reads
 
 -- an error, or else this

@@ -11,6 +11,7 @@ use Rattle.mem_values.specs.declared.fact.Fact.{Fact}
 use Rattle.mem_values.specs.Places.{cell_place}
 use Rattle.mem_calls.specs.Held.{value_held}
 use Rattle.mem_calls.specs.Working.{WorksOn, StillHolds, IsOfKind}
+use Rattle.mem_rename.specs.Ways.{HasMet}
 
 -- a bucket or a file of a table of so many nodes
 abbrev pub IsTreeCell : ℕ → CellId → Type 0
@@ -51,9 +52,11 @@ HoldsCell nodes held cell = (value : Cell) × (value_held nodes held cell ≡ So
 abbrev pub HoldsCells : ℕ → List (HeldCell Cell) → List CellId → Type 0
 HoldsCells nodes held cells = (cell : CellId) → IsOneOf cells cell → HoldsCell nodes held cell
 
--- A core holds these cells more, and still those that it held; all lie below the logs.
+-- A core holds these cells more, and still those that it held; all lie below the logs. Where there are such cells, it may meet the tree that it
+-- has seen.
 pub record HoldsAsked (nodes : ℕ) (cells : List CellId) (before after : Hand Cell Fact) : Type 0 where
   pub on : WorksOn before after
   pub still : StillHolds nodes before after
   pub holds : HoldsCells nodes after.held cells
   pub below : LiesAbove (32 + 10 * nodes) after.view.held
+  pub met : (cell : CellId) → IsOneOf cells cell → HasMet after

@@ -143,7 +143,7 @@ pub record IsPrepared (nodes : ℕ) (move : Move) (shift : Shift) (before : Hand
   pub noted_is : IsNotedMove move noted
   pub mid : Hand Cell Fact
   pub room : MakesRoom nodes move before mid
-  pub row : PutsBucket nodes move.to_directory (name_bucket move.to_name) (with_row shift.moves move.to_name shift.child.0) mid after
+  pub row : PutsBucket nodes move.to_directory (name_bucket move.to_name) (with_row shift.child_is_directory move.to_name shift.child.0) mid after
 
 -- the lock has this stamp, where a directory came to another one
 abbrev pub SetsLock : ℕ → Bool → Stamp → Hand Cell Fact → Hand Cell Fact → Type 0

@@ -1,15 +1,15 @@
 -- What a core holds by a plan.
-use Rattle.std.specs.Prelude.{◌≡◌, ℕ, ◌<◌, true, List, Option, Some, is_some}
+use Rattle.std.specs.Prelude.{◌≡◌, ℕ, ◌+◌, ◌*◌, ◌<◌, true, List, Option, Some, is_some}
 use Rattle.sfs_base.specs.declared.numbers.NodeId.{NodeId}
 use Rattle.disk_change.specs.OldKept.{OldKept}
 use Rattle.sfs_tree.specs.Lock.{EndsAtRoot}
+use Rattle.stamp_table.specs.Ascending.{LiesAbove}
 use Rattle.stamp_table.specs.Hand.{Hand}
 use Rattle.stamp_table.specs.Table.{TableState}
 use Rattle.mem_values.specs.declared.cell.Cell.{Cell}
 use Rattle.mem_values.specs.declared.cell_id.CellId.TheVariants as id
 use Rattle.mem_values.specs.declared.fact.Fact.{Fact}
 use Rattle.mem_values.specs.Laws.{MayMeet}
-use Rattle.mem_calls.specs.Held.{HoldsPart}
 use Rattle.mem_calls.specs.Outcome.{IsRefused}
 use Rattle.mem_rename.specs.Ready.{HoldsRename}
 use Rattle.mem_calls.specs.Working.{IsWorking, WorksOn}
@@ -25,17 +25,19 @@ pub record IsPlanWithin (nodes : ℕ) (plan : Plan) : Type 0 where
   pub directory : (node : NodeId) → plan.directory ≡ Some node → node.0 < nodes
   pub file : (node : NodeId) → plan.file ≡ Some node → node.0 < nodes
 
--- A core holds what a rename asks for by a plan, and has read the way up where it needs that. It may meet the tree that it has seen.
+-- A core holds what a rename asks for by a plan but for its log, for which it has room, and has read the way up where it needs that. It may meet
+-- the tree that it has seen.
 pub record HoldsRound (given : ℕ → Option OldKept) (t : TableState) (nodes : ℕ) (move : Move) (plan : Plan) (above : List ℕ)
     (before after : Hand Cell Fact) : Type 0 where
   pub work : IsWorking given t after
   pub on : WorksOn before after
-  pub part : HoldsPart nodes after
   pub cells : HoldsCells nodes after.held (asked_cells move plan)
   pub lock : is_some plan.comes ≡ true → HoldsCell nodes after.held id.Lock
   pub read : is_some plan.comes ≡ true → HasRead given after.view move.to_directory.0 above
   pub ends : is_some plan.comes ≡ true → EndsAtRoot move.to_directory.0 above
   pub met : MayMeet after.view after.held (tree_seen after)
+  pub below : LiesAbove (32 + 10 * nodes) after.view.held
+  pub room : 0 < after.room
 
 -- A core has come to hold all that its rename asks for. It may have let go of all and begun again before.
 pub record SettlesRename (given : ℕ → Option OldKept) (t : TableState) (nodes : ℕ) (move : Move) (plan : Plan) (above : List ℕ)

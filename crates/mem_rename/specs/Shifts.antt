@@ -18,14 +18,14 @@ gone_entry stamp directory name child is_directory other = log_entry stamp direc
 -- what is replaced goes, where something is there
 abbrev pub gone_by : Shift → List ℕ → ℕ → Option NodeId → List Change
 gone_by shift to_name stamp None = []
-gone_by shift to_name stamp (Some there) = gone_entry stamp shift.to.0 to_name there shift.meets shift.from.0 ∷ []
+gone_by shift to_name stamp (Some there) = gone_entry stamp shift.to.0 to_name there shift.there_is_directory shift.from.0 ∷ []
 
 -- What is logged: what is replaced goes, the old row goes, and the new row comes with the directories above it.
 abbrev pub shift_logged : Shift → List ℕ → List ℕ → ℕ → List ℕ → List Change
 shift_logged shift name to_name stamp above =
     gone_by shift to_name stamp shift.there
-    ++ gone_entry stamp shift.from.0 name shift.child shift.moves shift.to.0
-    ∷ log_entry stamp shift.to.0 to_name shift.child.0 (kind_if shift.moves) Add (other_side shift.to.0 shift.from.0) above
+    ++ gone_entry stamp shift.from.0 name shift.child shift.child_is_directory shift.to.0
+    ∷ log_entry stamp shift.to.0 to_name shift.child.0 (kind_if shift.child_is_directory) Add (other_side shift.to.0 shift.from.0) above
     ∷ []
 
 -- The names of a rename once more, and room for its changes.
@@ -43,6 +43,6 @@ shift_of look move child = record {
   to = move.to_directory;
   child = child;
   there = look.there;
-  moves = look.moves;
-  meets = look.meets;
+  child_is_directory = look.child_is_directory;
+  there_is_directory = look.there_is_directory;
 }

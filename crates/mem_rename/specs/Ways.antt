@@ -51,6 +51,11 @@ pub record ReadsOn (before after : Hand Cell Fact) : Type 0 where
 abbrev pub tree_seen : Hand Cell Fact → TreeState
 tree_seen hand = tree_after hand.view.first (calls_in hand.view.seen)
 
+-- What a core has seen is legal, and the tree after it is one that the core may meet.
+pub record HasMet (hand : Hand Cell Fact) : Type 0 where
+  pub legal : IsLegal hand.view.first (calls_in hand.view.seen)
+  pub met : MayMeet hand.view hand.held (tree_seen hand)
+
 -- A core has read on, and found where a directory stands, by a bucket of it.
 pub record SawStanding (node : ℕ) (before : Hand Cell Fact) (found : Option NodeId) (after : Hand Cell Fact) : Type 0 where
   pub on : ReadsOn before after

@@ -22,22 +22,22 @@ pub(crate) fn answer<T: Given>(
     shared: &FileShared<T>,
     core: &mut FileCore,
     nodes: u32,
-    mv: Move,
+    move_: Move,
     plan: Plan,
     above: &[NodeId],
     short: Short,
 )
     requires table { IsFileTable shared.now nodes }
-    requires within { AreSidesWithin nodes mv }
-    requires ready { HoldsRename T.given shared.now nodes mv plan (map node_number above.now) core.old }
+    requires within { AreSidesWithin nodes move_ }
+    requires ready { HoldsRename T.given shared.now nodes move_ plan (map node_number above.now) core.old }
     requires spare { 0 < core.old.spare }
-    requires answers { rename_by (seen_of nodes core.old.held mv plan (map node_number above.now)) mv ≡ answered (reply_of short) }
-    ensures { IsAnswered shared.now (rename_call mv) (reply_of short) core.old core.new }
+    requires answers { rename_by (seen_of nodes core.old.held move_ plan (map node_number above.now)) move_ ≡ answered (reply_of short) }
+    ensures { IsAnswered shared.now (rename_call move_) (reply_of short) core.old core.new }
 {
     let _plan = plan;
     let _above = above.len();
     core.events_are_few();
-    core.stamp(shared, mv.into_call(), short.reply());
+    core.stamp(shared, move_.into_call(), short.reply());
     add_entry(core, nodes, Changes::new(alloc));
     core.let_go(shared, 0);
 }

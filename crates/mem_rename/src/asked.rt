@@ -42,20 +42,20 @@ fn push_buckets(cells: &mut Vec<CellId>, node: Option<NodeId>) -> Result<(), NoM
 }
 
 /// Both buckets, and the cells of a plan but for the lock.
-pub(crate) fn asked(alloc: Global, mv: &Move, plan: Plan) -> Result<Vec<CellId>, NoMemory>
-    ensures { IfOk result (λ cells. cells.items ≡ asked_cells mv.now plan) }
+pub(crate) fn asked(alloc: Global, move_: &Move, plan: Plan) -> Result<Vec<CellId>, NoMemory>
+    ensures { IfOk result (λ cells. cells.items ≡ asked_cells move_.now plan) }
 {
     let mut cells = Vec::new(alloc);
     cells.push(CellId::Bucket {
-        node: mv.directory,
-        bucket: bucket_of(&mv.name),
+        node: move_.directory,
+        bucket: bucket_of(&move_.name),
     })?;
     cells.push(CellId::Bucket {
-        node: mv.to_directory,
-        bucket: bucket_of(&mv.to_name),
+        node: move_.to_directory,
+        bucket: bucket_of(&move_.to_name),
     })?;
-    push_file(&mut cells, plan.old_file, mv.directory)?;
-    push_file(&mut cells, plan.new_file, mv.to_directory)?;
+    push_file(&mut cells, plan.old_file, move_.directory)?;
+    push_file(&mut cells, plan.new_file, move_.to_directory)?;
     push_buckets(&mut cells, plan.comes)?;
     push_buckets(&mut cells, plan.directory)?;
     push_file_of(&mut cells, plan.file)?;

@@ -84,19 +84,19 @@ fn with_row(
 pub(crate) fn add_row(
     core: &mut FileCore,
     nodes: u32,
-    mv: &Move,
+    move_: &Move,
     child: NodeId,
     directory: bool,
 ) -> Result<(), NoMemory>
-    requires { IsSome (bucket_held nodes core.old.held mv.now.to_directory (bucket mv.now.to_name)) }
+    requires { IsSome (bucket_held nodes core.old.held move_.now.to_directory (bucket move_.now.to_name)) }
     ensures { MatchResult result
-        (λ _. PutsBucket nodes mv.now.to_directory (bucket mv.now.to_name) (with_row directory mv.now.to_name child.0) core.old core.new)
-        (λ _. PutsBucket nodes mv.now.to_directory (bucket mv.now.to_name) (λ b. b) core.old core.new) }
+        (λ _. PutsBucket nodes move_.now.to_directory (bucket move_.now.to_name) (with_row directory move_.now.to_name child.0) core.old core.new)
+        (λ _. PutsBucket nodes move_.now.to_directory (bucket move_.now.to_name) (λ b. b) core.old core.new) }
 {
-    let node = mv.to_directory;
-    let number = bucket_of(&mv.to_name);
+    let node = move_.to_directory;
+    let number = bucket_of(&move_.to_name);
     let taken = take_bucket(core, nodes, node, number);
-    let (bucket, outcome) = with_row(taken, &mv.to_name, child, directory);
+    let (bucket, outcome) = with_row(taken, &move_.to_name, child, directory);
     let cell = CellId::Bucket {
         node,
         bucket: number,
@@ -116,13 +116,13 @@ fn without_row(bucket: Box<Bucket>, name: &Name) -> Box<Bucket>
 }
 
 /// Takes the old row out of its bucket, which is held.
-pub(crate) fn remove_row(core: &mut FileCore, nodes: u32, mv: &Move)
-    requires { IsSome (bucket_held nodes core.old.held mv.now.directory (bucket mv.now.name)) }
-    ensures { PutsBucket nodes mv.now.directory (bucket mv.now.name) (without_row mv.now.name) core.old core.new }
+pub(crate) fn remove_row(core: &mut FileCore, nodes: u32, move_: &Move)
+    requires { IsSome (bucket_held nodes core.old.held move_.now.directory (bucket move_.now.name)) }
+    ensures { PutsBucket nodes move_.now.directory (bucket move_.now.name) (without_row move_.now.name) core.old core.new }
 {
-    let node = mv.directory;
-    let number = bucket_of(&mv.name);
-    let bucket = without_row(take_bucket(core, nodes, node, number), &mv.name);
+    let node = move_.directory;
+    let number = bucket_of(&move_.name);
+    let bucket = without_row(take_bucket(core, nodes, node, number), &move_.name);
     let cell = CellId::Bucket {
         node,
         bucket: number,

@@ -16,8 +16,8 @@ pub(crate) struct Look {
     pub(crate) to_stands: bool,
     pub(crate) child: Option<NodeId>,
     pub(crate) there: Option<NodeId>,
-    pub(crate) moves: bool,
-    pub(crate) meets: bool,
+    pub(crate) child_is_directory: bool,
+    pub(crate) there_is_directory: bool,
 }
 
 /// What a rename reads besides: the links of either directory as a file, whether the new row's bucket is full, whether the directory
@@ -39,16 +39,16 @@ pub(crate) enum Decision {
 }
 
 /// What the two buckets tell.
-pub(crate) fn look_at(old: &Bucket, new: &Bucket, mv: &Move) -> Look
-    ensures { result ≡ look_by old.now new.now mv.now }
+pub(crate) fn look_at(old: &Bucket, new: &Bucket, move_: &Move) -> Look
+    ensures { result ≡ look_by old.now new.now move_.now }
 {
     Look {
-        stands: is_standing(mv.directory, old),
-        to_stands: is_standing(mv.to_directory, new),
-        child: old.rows.get(&mv.name),
-        there: new.rows.get(&mv.to_name),
-        moves: old.directories.get(&mv.name).is_some(),
-        meets: new.directories.get(&mv.to_name).is_some(),
+        stands: is_standing(move_.directory, old),
+        to_stands: is_standing(move_.to_directory, new),
+        child: old.rows.get(&move_.name),
+        there: new.rows.get(&move_.to_name),
+        child_is_directory: old.directories.get(&move_.name).is_some(),
+        there_is_directory: new.directories.get(&move_.to_name).is_some(),
     }
 }
 
@@ -89,23 +89,23 @@ fn place_fault(look: Look, reads: Reads) -> Option<Code>
             None
         };
     }
-    if look.moves && !look.meets {
+    if look.child_is_directory && !look.there_is_directory {
         return Some(Code::NotDir);
     }
-    if !look.moves && look.meets {
+    if !look.child_is_directory && look.there_is_directory {
         return Some(Code::IsDir);
     }
-    if look.meets && !reads.bare {
+    if look.there_is_directory && !reads.bare {
         return Some(Code::NotEmpty);
     }
     None
 }
 
 // Why the child can't move.
-fn move_fault(look: Look, reads: Reads, mv: &Move) -> Option<Code>
-    ensures { result ≡ move_fault_of look reads mv.now }
+fn move_fault(look: Look, reads: Reads, move_: &Move) -> Option<Code>
+    ensures { result ≡ move_fault_of look reads move_.now }
 {
-    if mv.directory != mv.to_directory && look.moves && reads.below {
+    if move_.directory != move_.to_directory && look.child_is_directory && reads.below {
         return Some(Code::Invalid);
     }
     place_fault(look, reads)
@@ -121,8 +121,8 @@ fn refused(code: Code) -> Decision
 }
 
 /// What a rename does.
-pub(crate) fn decide(look: Look, reads: Reads, mv: &Move) -> Decision
-    ensures { result ≡ decision_by look reads mv.now }
+pub(crate) fn decide(look: Look, reads: Reads, move_: &Move) -> Decision
+    ensures { result ≡ decision_by look reads move_.now }
 {
     if let Some(code) = fault_of(look.stands, reads.old_links) {
         return refused(code);
@@ -136,7 +136,7 @@ pub(crate) fn decide(look: Look, reads: Reads, mv: &Move) -> Decision
     if look.is_same() {
         return Decision::Answers { short: Short::Done };
     }
-    match move_fault(look, reads, mv) {
+    match move_fault(look, reads, move_) {
         Some(code) => refused(code),
         None => Decision::Moves { child },
     }

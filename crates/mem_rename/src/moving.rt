@@ -30,32 +30,32 @@ use sfs_tree::{Ancestors, Reply};
 use std::alloc::Global;
 
 // The move of a child by what is held.
-fn shift_in(core: &FileCore, nodes: u32, mv: &Move, plan: Plan, child: NodeId) -> Shift
-    requires { HoldsCells nodes core.now.held (asked_cells mv.now plan) }
-    ensures { (above : _) → result ≡ shift_of (look_of (seen_of nodes core.now.held mv.now plan above) mv.now) mv.now child }
+fn shift_in(core: &FileCore, nodes: u32, move_: &Move, plan: Plan, child: NodeId) -> Shift
+    requires { HoldsCells nodes core.now.held (asked_cells move_.now plan) }
+    ensures { (above : _) → result ≡ shift_of (look_of (seen_of nodes core.now.held move_.now plan above) move_.now) move_.now child }
 {
     let _plan = plan;
-    let look = look_in(core, nodes, mv);
+    let look = look_in(core, nodes, move_);
     Shift {
-        from: mv.directory,
-        to: mv.to_directory,
+        from: move_.directory,
+        to: move_.to_directory,
         child,
         there: look.there,
-        moves: look.moves,
-        meets: look.meets,
+        child_is_directory: look.child_is_directory,
+        there_is_directory: look.there_is_directory,
     }
 }
 
 // What changes of the buckets besides the new row, and of the file that is replaced.
-fn change_held(core: &mut FileCore, nodes: u32, mv: &Move, plan: Plan)
-    requires within { AreSidesWithin nodes mv.now }
+fn change_held(core: &mut FileCore, nodes: u32, move_: &Move, plan: Plan)
+    requires within { AreSidesWithin nodes move_.now }
     requires plan { IsPlanWithin nodes plan }
-    requires held { CanChange nodes mv.now plan core.old.held }
-    ensures { ChangesHeld nodes (bucket_moved mv.now plan) (at_file plan.file less_one) core.old core.new }
+    requires held { CanChange nodes move_.now plan core.old.held }
+    ensures { ChangesHeld nodes (bucket_moved move_.now plan) (at_file plan.file less_one) core.old core.new }
 {
-    remove_row(core, nodes, mv);
+    remove_row(core, nodes, move_);
     all_stand(core, nodes, plan.directory, None);
-    all_stand(core, nodes, plan.comes, Some(mv.to_directory));
+    all_stand(core, nodes, plan.comes, Some(move_.to_directory));
     if let Some(node) = plan.file {
         lower_links(core, nodes, node);
     }
@@ -83,34 +83,34 @@ fn way_of(alloc: Global, comes: bool, above: Vec<NodeId>) -> Ancestors
     }
 }
 
-/// Makes ready for a child to move, stamps the rename, counts its entry, changes what is held, and lets go of all cells. Where it is
-/// refused memory the call is given up before its stamp.
+/// Makes ready for a child to move, changes what is held, stamps the rename, sets the lock where a directory comes to another one, counts
+/// the entry, and lets go of all cells. Where it is refused memory the call is given up before its stamp.
 pub(crate) fn move_child<T: Given>(
     alloc: Global,
     shared: &FileShared<T>,
     core: &mut FileCore,
     nodes: u32,
-    mv: Move,
+    move_: Move,
     plan: Plan,
     above: Vec<NodeId>,
     child: NodeId,
 ) -> Result<(), NoMemory>
     requires table { IsFileTable shared.now nodes }
-    requires within { AreSidesWithin nodes mv }
+    requires within { AreSidesWithin nodes move_ }
     requires plan { IsPlanWithin nodes plan }
-    requires ready { HoldsRename T.given shared.now nodes mv plan (map node_number above.items) core.old }
+    requires ready { HoldsRename T.given shared.now nodes move_ plan (map node_number above.items) core.old }
     requires spare { 0 < core.old.spare }
-    requires moves { rename_by (seen_of nodes core.old.held mv plan (map node_number above.items)) mv
-        ≡ done (MovesEffect mv.directory.0 mv.name mv.to_directory.0 mv.to_name child.0) }
-    ensures { MatchResult result (λ _. IsAnswered shared.now (rename_call mv) reply.Ok core.old core.new) (λ _. IsRefused shared.now core.old core.new) }
+    requires moves { rename_by (seen_of nodes core.old.held move_ plan (map node_number above.items)) move_
+        ≡ done (MovesEffect move_.directory.0 move_.name move_.to_directory.0 move_.to_name child.0) }
+    ensures { MatchResult result (λ _. IsAnswered shared.now (rename_call move_) reply.Ok core.old core.new) (λ _. IsRefused shared.now core.old core.new) }
 {
     core.events_are_few();
     let comes = plan.comes.is_some();
-    let shift = shift_in(core, nodes, &mv, plan, child);
-    let noted = prepare(alloc, shared, core, nodes, &mv, shift)?;
-    change_held(core, nodes, &mv, plan);
+    let shift = shift_in(core, nodes, &move_, plan, child);
+    let noted = prepare(alloc, shared, core, nodes, &move_, shift)?;
+    change_held(core, nodes, &move_, plan);
     let way = way_of(alloc, comes, above);
-    let stamp = core.stamp(shared, mv.into_call(), Reply::Ok);
+    let stamp = core.stamp(shared, move_.into_call(), Reply::Ok);
     set_lock(core, nodes, comes, stamp);
     add_entry(core, nodes, shifted(alloc, noted, stamp, shift, way));
     core.let_go(shared, 0);

@@ -6,15 +6,18 @@ use crate::looking::Look;
 use crate::sides::Move;
 use sfs_base::NodeId;
 
-/// What a rename asks for besides both buckets and its log: the cell of the old directory as a file, or of the new one; the lock and the
-/// buckets of a directory that would come to another one; the buckets of a directory that another one would replace; the cell of a file
-/// that another one would replace.
+/// What a rename asks for besides both buckets and its log.
 #[derive(Clone, Copy)]
 pub(crate) struct Plan {
+    /// The cell of the old directory as a file.
     pub(crate) old_file: bool,
+    /// That of the new directory.
     pub(crate) new_file: bool,
+    /// The lock, and the buckets of a directory that would come to another one.
     pub(crate) comes: Option<NodeId>,
+    /// The buckets of a directory that another one would replace.
     pub(crate) directory: Option<NodeId>,
+    /// The cell of a file that another one would replace.
     pub(crate) file: Option<NodeId>,
 }
 
@@ -45,13 +48,16 @@ impl Plan {
 }
 
 /// What a rename asks for by what it has looked at.
-pub(crate) fn plan_for(look: Look, mv: &Move) -> Plan
-    ensures { result ≡ plan_by look mv.now }
+pub(crate) fn plan_for(look: Look, move_: &Move) -> Plan
+    ensures { result ≡ plan_by look move_.now }
 {
     let same = look.is_same();
-    let comes = look.to_stands && mv.directory != mv.to_directory && look.moves;
-    let directory = look.moves && look.meets && !same;
-    let file = look.child.is_some() && !look.moves && !look.meets && !same;
+    let comes = look.to_stands && move_.directory != move_.to_directory && look.child_is_directory;
+    let directory = look.child_is_directory && look.there_is_directory && !same;
+    let file = look.child.is_some()
+        && !look.child_is_directory
+        && !look.there_is_directory
+        && !same;
     Plan {
         old_file: !look.stands,
         new_file: look.stands && !look.to_stands,

@@ -20,33 +20,33 @@ use sfs_base::NoMemory;
 use std::alloc::Global;
 
 // Room for three more changes of either directory.
-fn reserve_both(log: &mut LogPart, mv: &Move) -> Result<(), NoMemory>
+fn reserve_both(log: &mut LogPart, move_: &Move) -> Result<(), NoMemory>
     ensures same { IsSamePart log.old log.new }
-    ensures old { OnOk result (3 ≤ room_kept log.new mv.now.directory.0) }
-    ensures new { OnOk result (3 ≤ room_kept log.new mv.now.to_directory.0) }
+    ensures old { OnOk result (3 ≤ room_kept log.new move_.now.directory.0) }
+    ensures new { OnOk result (3 ≤ room_kept log.new move_.now.to_directory.0) }
 {
-    log.reserve(mv.directory, 3)?;
-    log.reserve(mv.to_directory, 3)
+    log.reserve(move_.directory, 3)?;
+    log.reserve(move_.to_directory, 3)
 }
 
 // The log with room for three more changes of either directory.
-fn with_room(part: Box<PartCell>, mv: &Move) -> (Box<PartCell>, Result<(), NoMemory>)
+fn with_room(part: Box<PartCell>, move_: &Move) -> (Box<PartCell>, Result<(), NoMemory>)
     ensures same { IsSamePart part.value.log result.0.value.log }
     ensures made { result.0.value.made ≡ part.value.made }
-    ensures old { OnOk result.1 (3 ≤ room_kept result.0.value.log mv.now.directory.0) }
-    ensures new { OnOk result.1 (3 ≤ room_kept result.0.value.log mv.now.to_directory.0) }
+    ensures old { OnOk result.1 (3 ≤ room_kept result.0.value.log move_.now.directory.0) }
+    ensures new { OnOk result.1 (3 ≤ room_kept result.0.value.log move_.now.to_directory.0) }
 {
     let mut part = part;
-    let outcome = reserve_both(&mut part.log, mv);
+    let outcome = reserve_both(&mut part.log, move_);
     (part, outcome)
 }
 
 // The own log gets room for the changes.
-fn reserve_log(core: &mut FileCore, nodes: u32, mv: &Move) -> Result<(), NoMemory>
+fn reserve_log(core: &mut FileCore, nodes: u32, move_: &Move) -> Result<(), NoMemory>
     requires { HoldsPart nodes core.old }
-    ensures { MatchResult result (λ _. MakesRoom nodes mv.now core.old core.new) (λ _. KeepsPart nodes core.old core.new) }
+    ensures { MatchResult result (λ _. MakesRoom nodes move_.now core.old core.new) (λ _. KeepsPart nodes core.old core.new) }
 {
-    let (part, outcome) = with_room(take_part(core, nodes), mv);
+    let (part, outcome) = with_room(take_part(core, nodes), move_);
     let cell = CellId::Part {
         core: core.number(),
     };
@@ -60,28 +60,28 @@ pub(crate) fn prepare<T: Given>(
     shared: &FileShared<T>,
     core: &mut FileCore,
     nodes: u32,
-    mv: &Move,
+    move_: &Move,
     shift: Shift,
 ) -> Result<Noted, NoMemory>
     requires table { IsFileTable shared.now nodes }
     requires work { IsWorking T.given shared.now core.old }
-    requires within { AreSidesWithin nodes mv.now }
+    requires within { AreSidesWithin nodes move_.now }
     requires part { HoldsPart nodes core.old }
-    requires held { IsSome (bucket_held nodes core.old.held mv.now.to_directory (bucket mv.now.to_name)) }
-    ensures { MatchResult result (λ noted. IsPrepared nodes mv.now shift core.old noted core.new) (λ _. IsRefused shared.now core.old core.new) }
+    requires held { IsSome (bucket_held nodes core.old.held move_.now.to_directory (bucket move_.now.to_name)) }
+    ensures { MatchResult result (λ noted. IsPrepared nodes move_.now shift core.old noted core.new) (λ _. IsRefused shared.now core.old core.new) }
 {
-    let noted = match note(alloc, mv) {
+    let noted = match note(alloc, move_) {
         Ok(noted) => noted,
         Err(fault) => {
             give_up(shared, core);
             return Err(fault);
         }
     };
-    if let Err(fault) = reserve_log(core, nodes, mv) {
+    if let Err(fault) = reserve_log(core, nodes, move_) {
         give_up(shared, core);
         return Err(fault);
     }
-    if let Err(fault) = add_row(core, nodes, mv, shift.child, shift.moves) {
+    if let Err(fault) = add_row(core, nodes, move_, shift.child, shift.child_is_directory) {
         give_up(shared, core);
         return Err(fault);
     }

@@ -18,7 +18,7 @@ use sfs_tree::{Code, Reply};
 use std::alloc::Global;
 use std::sync::Wait;
 
-/// How many cells a rename holds at most.
+/// For how many cells a core has room as a rename begins.
 pub const RENAME_CELLS: u32 = 24;
 
 // The fault, or no such entry.
@@ -38,26 +38,26 @@ fn answer_outside<R: Wait, T: Given, G: Gate>(
     shared: &FileShared<T>,
     core: &mut FileCore,
     nodes: u32,
-    mv: Move,
+    move_: Move,
     gate: &G,
 ) -> Reply
     requires table { IsFileTable shared.now nodes }
     requires core { IsBetweenCalls shared.now core.old }
-    requires outside { (nodes ≤ mv.directory.0) ⊎ (nodes ≤ mv.to_directory.0) }
+    requires outside { (nodes ≤ move_.directory.0) ⊎ (nodes ≤ move_.to_directory.0) }
     requires spare { 0 < core.old.spare }
     requires room { RENAME_CELLS ≤ core.old.room }
-    ensures { IsAnswered shared.now (rename_call mv) result core.old core.new }
+    ensures { IsAnswered shared.now (rename_call move_) result core.old core.new }
 {
-    let number = bucket_of(&mv.name);
-    hold_directory(rt, shared, core, nodes, mv.directory, number);
+    let number = bucket_of(&move_.name);
+    hold_directory(rt, shared, core, nodes, move_.directory, number);
     hold_part(rt, shared, core, nodes, gate);
-    let code = fault_or(directory_fault_in(core, nodes, mv.directory, number));
+    let code = fault_or(directory_fault_in(core, nodes, move_.directory, number));
     answer_call(
         alloc,
         shared,
         core,
         nodes,
-        mv.into_call(),
+        move_.into_call(),
         Reply::Error { code },
     );
     Reply::Error { code }
@@ -72,26 +72,26 @@ pub fn rename<R: Wait, T: Given, G: Gate>(
     shared: &FileShared<T>,
     core: &mut FileCore,
     nodes: u32,
-    mv: Move,
+    move_: Move,
     gate: &G,
 ) -> Result<Reply, NoMemory>
     requires table { IsFileTable shared.now nodes }
     requires core { IsBetweenCalls shared.now core.old }
     requires spare { 0 < core.old.spare }
     requires room { RENAME_CELLS ≤ core.old.room }
-    ensures { ComesTo shared.now (rename_call mv) core.old core.new result }
+    ensures { ComesTo shared.now (rename_call move_) core.old core.new result }
 {
-    if nodes <= mv.directory.0 || nodes <= mv.to_directory.0 {
-        return Ok(answer_outside(rt, alloc, shared, core, nodes, mv, gate));
+    if nodes <= move_.directory.0 || nodes <= move_.to_directory.0 {
+        return Ok(answer_outside(rt, alloc, shared, core, nodes, move_, gate));
     }
-    let (plan, above) = settle(rt, alloc, shared, core, nodes, &mv, gate)?;
-    match decide_in(core, nodes, &mv, plan, &above) {
+    let (plan, above) = settle(rt, alloc, shared, core, nodes, &move_, gate)?;
+    match decide_in(core, nodes, &move_, plan, &above) {
         Decision::Answers { short } => {
-            answer(alloc, shared, core, nodes, mv, plan, &above, short);
+            answer(alloc, shared, core, nodes, move_, plan, &above, short);
             Ok(short.reply())
         }
         Decision::Moves { child } => {
-            move_child(alloc, shared, core, nodes, mv, plan, above, child)?;
+            move_child(alloc, shared, core, nodes, move_, plan, above, child)?;
             Ok(Reply::Ok)
         }
     }

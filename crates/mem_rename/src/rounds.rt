@@ -1,18 +1,14 @@
-// All that a rename asks for by a plan, held; or nothing, where it has to begin again or was refused memory.
-ghost use Rattle.std.specs.Prelude.{◌≡◌, ◌+◌, ◌*◌, ◌<◌, ◌≤◌, true, map, IfOk, IfErr, MatchOption};
-ghost use Rattle.sfs_tree.specs.History.{IsLegal};
+// All that a rename asks for by a plan but for its log, held; or nothing, where it has to begin again or was refused memory.
+ghost use Rattle.std.specs.Prelude.{◌≡◌, ◌+◌, ◌<◌, ◌≤◌, true, map, IfOk, IfErr, MatchOption};
 ghost use Rattle.sfs_tree.specs.NameRow.{node_number};
-ghost use Rattle.stamp_table.specs.Events.{calls_in};
 ghost use Rattle.stamp_table.specs.Ascending.{LiesAbove};
 ghost use Rattle.stamp_table.specs.Table.{IsBetweenCalls};
-ghost use Rattle.mem_values.specs.Laws.{MayMeet};
 ghost use Rattle.mem_calls.specs.Table.{IsFileTable};
-ghost use Rattle.mem_calls.specs.Held.{HoldsPart};
 ghost use Rattle.mem_calls.specs.Outcome.{IsRefused};
-ghost use Rattle.mem_calls.specs.Working.{IsWorking, WorksOn, StillHolds};
+ghost use Rattle.mem_calls.specs.Working.{IsWorking, WorksOn};
 ghost use Rattle.mem_rename.specs.Ready.{AreSidesWithin};
 ghost use Rattle.mem_rename.specs.Rounds.{IsPlanWithin, HoldsRound};
-ghost use Rattle.mem_rename.specs.Ways.{HoldsLock, HasReadAll, tree_seen};
+ghost use Rattle.mem_rename.specs.Ways.{HoldsLock, HasReadAll};
 
 use crate::asked::asked;
 use crate::holding::hold_asked;
@@ -22,7 +18,7 @@ use crate::sides::Move;
 use crate::ways::read_way;
 use mem_calls::hold_more;
 use mem_values::{CellId, FileCore, FileShared, Given};
-use sfs_base::{Gate, NoMemory, NodeId, Place};
+use sfs_base::{NoMemory, NodeId};
 use std::alloc::Global;
 use std::sync::Wait;
 
@@ -62,59 +58,32 @@ fn hold_lock<R: Wait, T: Given>(
     read_way(rt, alloc, shared, core, nodes, node)
 }
 
-// Holds the own log, above all other cells.
-fn hold_own<R: Wait, T: Given, G: Gate>(
-    rt: &R,
-    shared: &FileShared<T>,
-    core: &mut FileCore,
-    nodes: u32,
-    gate: &G,
-)
-    requires table { IsFileTable shared.now nodes }
-    requires work { IsWorking T.given shared.now core.old }
-    requires below { LiesAbove (32 + 10 * nodes) core.old.view.held }
-    requires room { 0 < core.old.room }
-    ensures work { IsWorking T.given shared.now core.new }
-    ensures on { WorksOn core.old core.new }
-    ensures still { StillHolds nodes core.old core.new }
-    ensures part { HoldsPart nodes core.new }
-    ensures legal { IsLegal core.new.view.first (calls_in core.new.view.seen) }
-    ensures met { MayMeet core.new.view core.new.held (tree_seen core.new) }
-{
-    let own = core.number();
-    gate.at(own, Place::Held);
-    hold_more(rt, shared, core, nodes, CellId::Part { core: own });
-    gate.at(own, Place::Part);
-}
-
-/// Holds all that a rename asks for by a plan, and reads the way up where it needs that. None, where it has to begin again.
-pub(crate) fn hold_round<R: Wait, T: Given, G: Gate>(
+/// Holds all that a rename asks for by a plan but for its log, and reads the way up where it needs that. None, where it has to begin again.
+pub(crate) fn hold_round<R: Wait, T: Given>(
     rt: &R,
     alloc: Global,
     shared: &FileShared<T>,
     core: &mut FileCore,
     nodes: u32,
-    mv: &Move,
+    move_: &Move,
     plan: Plan,
-    gate: &G,
 ) -> Result<Option<Vec<NodeId>>, NoMemory>
     requires table { IsFileTable shared.now nodes }
     requires core { IsBetweenCalls shared.now core.old }
-    requires within { AreSidesWithin nodes mv.now }
+    requires within { AreSidesWithin nodes move_.now }
     requires plan { IsPlanWithin nodes plan }
     requires room { RENAME_CELLS ≤ core.old.room }
     ensures held { IfOk result (λ way. MatchOption way
         (IsRefused shared.now core.old core.new)
-        (λ above. HoldsRound T.given shared.now nodes mv.now plan (map node_number above.items) core.old core.new)) }
+        (λ above. HoldsRound T.given shared.now nodes move_.now plan (map node_number above.items) core.old core.new)) }
     ensures refused { IfErr result (λ fault. IsRefused shared.now core.old core.new) }
 {
-    let cells = asked(alloc, mv, plan)?;
+    let cells = asked(alloc, move_, plan)?;
     let comes = plan.comes.is_some();
-    let to = mv.to_directory;
+    let to = move_.to_directory;
     match hold_lock(rt, alloc, shared, core, nodes, to, comes) {
         Ok(Some(above)) => {
             hold_asked(rt, shared, core, nodes, &cells);
-            hold_own(rt, shared, core, nodes, gate);
             Ok(Some(above))
         }
         other => {

@@ -1,9 +1,14 @@
 // A core comes to hold all that its rename asks for.
-ghost use Rattle.std.specs.Prelude.{◌≡◌, ◌≤◌, map, MatchResult};
+ghost use Rattle.std.specs.Prelude.{◌≡◌, ◌+◌, ◌*◌, ◌<◌, ◌≤◌, map, MatchResult};
+ghost use Rattle.sfs_tree.specs.History.{IsLegal};
 ghost use Rattle.sfs_tree.specs.NameRow.{node_number};
+ghost use Rattle.stamp_table.specs.Ascending.{LiesAbove};
+ghost use Rattle.stamp_table.specs.Events.{calls_in};
 ghost use Rattle.stamp_table.specs.Table.{IsBetweenCalls};
 ghost use Rattle.mem_calls.specs.Table.{IsFileTable};
+ghost use Rattle.mem_calls.specs.Held.{HoldsPart};
 ghost use Rattle.mem_calls.specs.Outcome.{IsRefused};
+ghost use Rattle.mem_calls.specs.Working.{IsWorking, WorksOn, StillHolds};
 ghost use Rattle.mem_rename.specs.Sights.{rename_by};
 ghost use Rattle.mem_rename.specs.Decisions.{verdict_of};
 ghost use Rattle.mem_rename.specs.Holding.{HoldsCells};
@@ -17,10 +22,35 @@ use crate::renaming::RENAME_CELLS;
 use crate::rounds::{give_up, hold_round};
 use crate::sides::Move;
 use crate::sights::{look_in, next_plan, reads_in};
-use mem_values::{FileCore, FileShared, Given};
-use sfs_base::{Gate, NoMemory, NodeId};
+use mem_calls::hold_more;
+use mem_values::{CellId, FileCore, FileShared, Given};
+use sfs_base::{Gate, NoMemory, NodeId, Place};
 use std::alloc::Global;
 use std::sync::Wait;
+
+// Holds the own log, above all other cells.
+fn hold_own<R: Wait, T: Given, G: Gate>(
+    rt: &R,
+    shared: &FileShared<T>,
+    core: &mut FileCore,
+    nodes: u32,
+    gate: &G,
+)
+    requires table { IsFileTable shared.now nodes }
+    requires work { IsWorking T.given shared.now core.old }
+    requires below { LiesAbove (32 + 10 * nodes) core.old.view.held }
+    requires room { 0 < core.old.room }
+    ensures work { IsWorking T.given shared.now core.new }
+    ensures on { WorksOn core.old core.new }
+    ensures still { StillHolds nodes core.old core.new }
+    ensures part { HoldsPart nodes core.new }
+    ensures legal { IsLegal core.new.view.first (calls_in core.new.view.seen) }
+{
+    let own = core.number();
+    gate.at(own, Place::Held);
+    hold_more(rt, shared, core, nodes, CellId::Part { core: own });
+    gate.at(own, Place::Part);
+}
 
 /// Holds all that a rename asks for by what is held: it begins again as long as that is more than the plan has, or the way up broke off.
 /// Where it begins again it has let go of all, and made no call.
@@ -30,31 +60,30 @@ pub(crate) fn settle<R: Wait, T: Given, G: Gate>(
     shared: &FileShared<T>,
     core: &mut FileCore,
     nodes: u32,
-    mv: &Move,
+    move_: &Move,
     gate: &G,
 ) -> Result<(Plan, Vec<NodeId>), NoMemory>
     requires table { IsFileTable shared.now nodes }
     requires core { IsBetweenCalls shared.now core.old }
-    requires within { AreSidesWithin nodes mv.now }
+    requires within { AreSidesWithin nodes move_.now }
     requires room { RENAME_CELLS ≤ core.old.room }
     ensures { MatchResult result
-        (λ held. SettlesRename T.given shared.now nodes mv.now held.0 (map node_number held.1.items) core.old core.new)
+        (λ held. SettlesRename T.given shared.now nodes move_.now held.0 (map node_number held.1.items) core.old core.new)
         (λ fault. IsRefused shared.now core.old core.new) }
 {
     let mut plan = Plan::none();
     for _ in rt.forever() {
-        match hold_round(rt, alloc, shared, core, nodes, mv, plan, gate) {
-            Ok(Some(above)) => {
-                let next = next_plan(core, nodes, mv, plan);
-                if next.is(plan) {
-                    return Ok((plan, above));
-                }
-                give_up(shared, core);
-                plan = next;
-            }
-            Ok(None) => plan = Plan::none(),
-            Err(fault) => return Err(fault),
+        let Some(above) = hold_round(rt, alloc, shared, core, nodes, move_, plan)? else {
+            plan = Plan::none();
+            continue;
+        };
+        let next = next_plan(core, nodes, move_, plan);
+        if next.is(plan) {
+            hold_own(rt, shared, core, nodes, gate);
+            return Ok((plan, above));
         }
+        give_up(shared, core);
+        plan = next;
     }
     unreachable!()
 }
@@ -63,14 +92,14 @@ pub(crate) fn settle<R: Wait, T: Given, G: Gate>(
 pub(crate) fn decide_in(
     core: &FileCore,
     nodes: u32,
-    mv: &Move,
+    move_: &Move,
     plan: Plan,
     above: &[NodeId],
 ) -> Decision
-    requires { HoldsCells nodes core.now.held (asked_cells mv.now plan) }
-    ensures { rename_by (seen_of nodes core.now.held mv.now plan (map node_number above.now)) mv.now ≡ verdict_of mv.now result }
+    requires { HoldsCells nodes core.now.held (asked_cells move_.now plan) }
+    ensures { rename_by (seen_of nodes core.now.held move_.now plan (map node_number above.now)) move_.now ≡ verdict_of move_.now result }
 {
-    let look = look_in(core, nodes, mv);
-    let reads = reads_in(core, nodes, mv, plan, look, above);
-    decide(look, reads, mv)
+    let look = look_in(core, nodes, move_);
+    let reads = reads_in(core, nodes, move_, plan, look, above);
+    decide(look, reads, move_)
 }

@@ -18,8 +18,8 @@ pub(crate) struct Shift {
     pub(crate) to: NodeId,
     pub(crate) child: NodeId,
     pub(crate) there: Option<NodeId>,
-    pub(crate) moves: bool,
-    pub(crate) meets: bool,
+    pub(crate) child_is_directory: bool,
+    pub(crate) there_is_directory: bool,
 }
 
 /// The names of a rename once more, the new one twice, and room for three changes.
@@ -32,12 +32,12 @@ pub(crate) struct Noted {
 }
 
 /// What the changes of a rename take of memory, before its stamp.
-pub(crate) fn note(alloc: Global, mv: &Move) -> Result<Noted, NoMemory>
-    ensures { IfOk result (λ noted. IsNotedMove mv.now noted) }
+pub(crate) fn note(alloc: Global, move_: &Move) -> Result<Noted, NoMemory>
+    ensures { IfOk result (λ noted. IsNotedMove move_.now noted) }
 {
-    let gone = mv.to_name.copy()?;
-    let old = mv.name.copy()?;
-    let new = mv.to_name.copy()?;
+    let gone = move_.to_name.copy()?;
+    let old = move_.name.copy()?;
+    let new = move_.to_name.copy()?;
     let mut changes = Changes::new(alloc);
     changes.reserve(3)?;
     Ok(Noted {
@@ -90,14 +90,14 @@ fn gone(
 
 // The change of the new row.
 fn come(stamp: Stamp, shift: Shift, name: Name, above: Ancestors) -> Change
-    ensures { result ≡ log_entry stamp.0 shift.to.0 name shift.child.0 (kind_if shift.moves) Adding (other_side shift.to.0 shift.from.0) above }
+    ensures { result ≡ log_entry stamp.0 shift.to.0 name shift.child.0 (kind_if shift.child_is_directory) Adding (other_side shift.to.0 shift.from.0) above }
 {
     Change {
         stamp,
         dir: shift.to,
         name,
         child: shift.child,
-        kind: kind_of(shift.moves),
+        kind: kind_of(shift.child_is_directory),
         act: Act::Add,
         other: other_of(shift.to, shift.from),
         above,
@@ -112,7 +112,7 @@ fn with_gone(alloc: Global, changes: Changes, stamp: Stamp, shift: Shift, name: 
 {
     let mut changes = changes;
     if let Some(there) = shift.there {
-        let child = (there, shift.meets);
+        let child = (there, shift.there_is_directory);
         changes.push(gone(alloc, stamp, (shift.to, shift.from), name, child));
     }
     changes
@@ -133,7 +133,7 @@ pub(crate) fn shifted(
 {
     let mut changes = with_gone(alloc, noted.changes, stamp, shift, noted.gone);
     let dirs = (shift.from, shift.to);
-    let child = (shift.child, shift.moves);
+    let child = (shift.child, shift.child_is_directory);
     changes.push(gone(alloc, stamp, dirs, noted.old, child));
     changes.push(come(stamp, shift, noted.new, above));
     changes

@@ -21,15 +21,15 @@ use sfs_base::{NodeId, bucket_of};
 const BUCKET_ROWS: usize = 4096;
 
 /// What the two buckets tell that are held.
-pub(crate) fn look_in(core: &FileCore, nodes: u32, mv: &Move) -> Look
-    requires old { IsSome (bucket_held nodes core.now.held mv.now.directory (bucket mv.now.name)) }
-    requires new { IsSome (bucket_held nodes core.now.held mv.now.to_directory (bucket mv.now.to_name)) }
-    ensures { result ≡ look_by (bucket_or (bucket_held nodes core.now.held mv.now.directory (bucket mv.now.name)))
-        (bucket_or (bucket_held nodes core.now.held mv.now.to_directory (bucket mv.now.to_name))) mv.now }
+pub(crate) fn look_in(core: &FileCore, nodes: u32, move_: &Move) -> Look
+    requires old { IsSome (bucket_held nodes core.now.held move_.now.directory (bucket move_.now.name)) }
+    requires new { IsSome (bucket_held nodes core.now.held move_.now.to_directory (bucket move_.now.to_name)) }
+    ensures { result ≡ look_by (bucket_or (bucket_held nodes core.now.held move_.now.directory (bucket move_.now.name)))
+        (bucket_or (bucket_held nodes core.now.held move_.now.to_directory (bucket move_.now.to_name))) move_.now }
 {
-    let old = bucket_in(core, nodes, mv.directory, bucket_of(&mv.name));
-    let new = bucket_in(core, nodes, mv.to_directory, bucket_of(&mv.to_name));
-    look_at(old, new, mv)
+    let old = bucket_in(core, nodes, move_.directory, bucket_of(&move_.name));
+    let new = bucket_in(core, nodes, move_.to_directory, bucket_of(&move_.to_name));
+    look_at(old, new, move_)
 }
 
 // How many rows name a file that is asked for.
@@ -91,23 +91,23 @@ fn is_in(node: NodeId, nodes: &[NodeId]) -> bool
 pub(crate) fn reads_in(
     core: &FileCore,
     nodes: u32,
-    mv: &Move,
+    move_: &Move,
     plan: Plan,
     look: Look,
     above: &[NodeId],
 ) -> Reads
-    requires held { HoldsCells nodes core.now.held (asked_cells mv.now plan) }
-    requires look { look ≡ look_by (bucket_or (bucket_held nodes core.now.held mv.now.directory (bucket mv.now.name)))
-        (bucket_or (bucket_held nodes core.now.held mv.now.to_directory (bucket mv.now.to_name))) mv.now }
-    ensures { result ≡ reads_of (seen_of nodes core.now.held mv.now plan (map node_number above.now)) mv.now }
+    requires held { HoldsCells nodes core.now.held (asked_cells move_.now plan) }
+    requires look { look ≡ look_by (bucket_or (bucket_held nodes core.now.held move_.now.directory (bucket move_.now.name)))
+        (bucket_or (bucket_held nodes core.now.held move_.now.to_directory (bucket move_.now.to_name))) move_.now }
+    ensures { result ≡ reads_of (seen_of nodes core.now.held move_.now plan (map node_number above.now)) move_.now }
 {
-    let new = bucket_in(core, nodes, mv.to_directory, bucket_of(&mv.to_name));
+    let new = bucket_in(core, nodes, move_.to_directory, bucket_of(&move_.to_name));
     Reads {
-        old_links: links_in(core, nodes, mv.directory, plan.old_file),
-        new_links: links_in(core, nodes, mv.to_directory, plan.new_file),
+        old_links: links_in(core, nodes, move_.directory, plan.old_file),
+        new_links: links_in(core, nodes, move_.to_directory, plan.new_file),
         full: BUCKET_ROWS <= new.rows.len(),
         bare: bare_in(core, nodes, plan.directory),
-        below: is_among(look.child, mv.to_directory, above),
+        below: is_among(look.child, move_.to_directory, above),
     }
 }
 
@@ -120,14 +120,14 @@ ghost use Rattle.mem_rename.specs.Rounds.{IsPlanWithin};
 ghost use Rattle.mem_rename.specs.Ways.{tree_seen};
 
 /// What a rename asks for by what is held by a plan. Where it is that plan, all is held that it asks for.
-pub(crate) fn next_plan(core: &FileCore, nodes: u32, mv: &Move, plan: Plan) -> Plan
+pub(crate) fn next_plan(core: &FileCore, nodes: u32, move_: &Move, plan: Plan) -> Plan
     requires counted { nodes ≡ node_count core.now.view.first }
-    requires within { AreSidesWithin nodes mv.now }
-    requires held { HoldsCells nodes core.now.held (asked_cells mv.now plan) }
+    requires within { AreSidesWithin nodes move_.now }
+    requires held { HoldsCells nodes core.now.held (asked_cells move_.now plan) }
     requires met { MayMeet core.now.view core.now.held (tree_seen core.now) }
-    ensures asked { (above : _) → result ≡ plan_by (look_of (seen_of nodes core.now.held mv.now plan above) mv.now) mv.now }
+    ensures asked { (above : _) → result ≡ plan_by (look_of (seen_of nodes core.now.held move_.now plan above) move_.now) move_.now }
     ensures within { IsPlanWithin nodes result }
 {
     let _held = plan;
-    plan_for(look_in(core, nodes, mv), mv)
+    plan_for(look_in(core, nodes, move_), move_)
 }

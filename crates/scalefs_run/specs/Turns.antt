@@ -115,7 +115,8 @@ pub record IsImageAtFirst (old new : View) (first : TreeState) (image : ImageSta
   pub told : IfQuiet old new (λ content. (moment : ℕ) × (old.now ≤ moment) × (moment ≤ new.now)
       × ((left : List ℕ) → new.crash_images moment left → IsImageOf layout nothing_open parts left))
 
--- The turns of a run are recorded, over an image that stands at its begin, and their moments do not fall, and lie within the run.
+-- The turns of a run are recorded, over an image that stands at its begin; and while the disk's count of calls has not come to its last value
+-- their moments do not fall, and lie within the run.
 pub record HasTurns (old new : View) (first : TreeState) (history : List Entry) (turns : List Turn) : Type 0 where
   pub image : ImageState
   pub image_is : IsImageAtFirst old new first image

@@ -1,7 +1,7 @@
 use Rattle.std.proofs.Common.{List, ◌≡◌, ℕ, sym, subst, arith}
 use Rattle.std.specs.Prelude.{reverse}
 use Rattle.mem_values.specs.declared.cell.Cell.{Cell}
-use Rattle.mem_begin.specs.Standing.{StandFrom}
+use Rattle.mem_begin.proofs.Standing.{StandFrom}
 use Rattle.mem_begin.proofs.Cells.{each_stands}
 use Rattle.mem_begin.proofs.table.cells_of.Goals as goal
 

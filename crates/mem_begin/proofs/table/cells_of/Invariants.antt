@@ -1,5 +1,5 @@
 use Rattle.mem_begin.specs.Beginning.{HasGivenBelow, nodes_below}
-use Rattle.mem_begin.specs.Standing.{AreLastCells}
+use Rattle.mem_begin.proofs.Standing.{AreLastCells}
 use Rattle.mem_begin.proofs.table.cells_of.Given as goal
 
 abbrev pub invariant-loop-place : goal.invariant-loop-place

@@ -18,7 +18,7 @@ pub stamp-requires-clause-may : goal.stamp-requires-clause-may
 stamp-requires-clause-may g c =
     subst (λ (z : Call × Reply). MayCall (IsLawfulLog g.T.Given.given) (StandsAt g.T.Given.given) c.args.core.now.view z.0 z.1)
     (λ i. (sym c.into_call.ensures i, (ap (λ (v : Verdict). v.reply) c.requires.answers ∙ sym c.reply.ensures) i))
-    (may_come g.T.Given.given c.args.shared.now c.args.nodes c.requires.table c.args.mv c.requires.within c.args.plan
+    (may_come g.T.Given.given c.args.shared.now c.args.nodes c.requires.table c.args.move_ c.requires.within c.args.plan
     (map node_number c.args.above.now) c.args.core.now c.requires.ready)
 
 pub add_entry-requires-clause-may : goal.add_entry-requires-clause-may
@@ -26,11 +26,11 @@ add_entry-requires-clause-may g c =
     let stamps = subst (λ (z : Call × Reply). Stamps (IsLawfulLog g.T.Given.given)
     (StandsAt g.T.Given.given) z.0 z.1 c.args.core.now c.stamp.result.0 c.stamp.new.self)
     (λ i. (c.into_call.ensures i, c.reply.ensures i)) c.stamp.ensures in
-    let due = verdict_stamped g.T.Given.given c.args.shared.now c.args.nodes c.requires.table c.args.mv c.requires.within c.args.plan
+    let due = verdict_stamped g.T.Given.given c.args.shared.now c.args.nodes c.requires.table c.args.move_ c.requires.within c.args.plan
     (map node_number c.args.above.now) c.args.core.now c.requires.ready (reply_of c.args.short) c.stamp.result.0 c.stamp.new.self stamps
     ∙ c.requires.answers in
     subst (λ l. MayTake c.args.nodes l c.stamp.new.self) (sym (ap (λ r. r.items) c.new.ensures))
-    (has_room g.T.Given.given c.args.shared.now c.args.nodes c.args.core.now c.requires.table c.requires.ready.work (rename_call c.args.mv)
+    (has_room g.T.Given.given c.args.shared.now c.args.nodes c.args.core.now c.requires.table c.requires.ready.work (rename_call c.args.move_)
     (reply_of c.args.short) c.stamp.result.0 c.stamp.new.self stamps due c.events_are_few.ensures)
 
 pub let_go-requires-clause-home : goal.let_go-requires-clause-home
@@ -38,11 +38,11 @@ let_go-requires-clause-home g c =
     let stamps = subst (λ (z : Call × Reply). Stamps (IsLawfulLog g.T.Given.given)
     (StandsAt g.T.Given.given) z.0 z.1 c.args.core.now c.stamp.result.0 c.stamp.new.self)
     (λ i. (c.into_call.ensures i, c.reply.ensures i)) c.stamp.ensures in
-    let due = verdict_stamped g.T.Given.given c.args.shared.now c.args.nodes c.requires.table c.args.mv c.requires.within c.args.plan
+    let due = verdict_stamped g.T.Given.given c.args.shared.now c.args.nodes c.requires.table c.args.move_ c.requires.within c.args.plan
     (map node_number c.args.above.now) c.args.core.now c.requires.ready (reply_of c.args.short) c.stamp.result.0 c.stamp.new.self stamps
     ∙ c.requires.answers in
     let takes = subst (λ l. TakesEntry c.args.nodes l c.stamp.new.self c.add_entry.new.core) (ap (λ r. r.items) c.new.ensures) c.add_entry.ensures in
-    goes_home g.T.Given.given c.args.shared.now c.args.nodes c.args.core.now c.requires.table c.requires.ready.work (rename_call c.args.mv)
+    goes_home g.T.Given.given c.args.shared.now c.args.nodes c.args.core.now c.requires.table c.requires.ready.work (rename_call c.args.move_)
     (reply_of c.args.short) c.stamp.result.0 c.stamp.new.self stamps due c.add_entry.new.core takes
 
 pub returns : goal.returns
@@ -50,15 +50,15 @@ returns g c =
     let stamps = subst (λ (z : Call × Reply). Stamps (IsLawfulLog g.T.Given.given)
     (StandsAt g.T.Given.given) z.0 z.1 c.args.core.now c.stamp.result.0 c.stamp.new.self)
     (λ i. (c.into_call.ensures i, c.reply.ensures i)) c.stamp.ensures in
-    let due = verdict_stamped g.T.Given.given c.args.shared.now c.args.nodes c.requires.table c.args.mv c.requires.within c.args.plan
+    let due = verdict_stamped g.T.Given.given c.args.shared.now c.args.nodes c.requires.table c.args.move_ c.requires.within c.args.plan
     (map node_number c.args.above.now) c.args.core.now c.requires.ready (reply_of c.args.short) c.stamp.result.0 c.stamp.new.self stamps
     ∙ c.requires.answers in
     let takes = subst (λ l. TakesEntry c.args.nodes l c.stamp.new.self c.add_entry.new.core) (ap (λ r. r.items) c.new.ensures) c.add_entry.ensures in
-    ends_as g.T.Given.given c.args.shared.now c.args.nodes c.args.core.now c.requires.table c.requires.ready.work (rename_call c.args.mv)
+    ends_as g.T.Given.given c.args.shared.now c.args.nodes c.args.core.now c.requires.table c.requires.ready.work (rename_call c.args.move_)
     (reply_of c.args.short) c.stamp.result.0 c.stamp.new.self stamps (answered (reply_of c.args.short)) c.add_entry.new.core c.let_go.new.self
     due refl refl
-    (final_is g.T.Given.given c.args.shared.now c.args.nodes c.args.core.now c.requires.table c.requires.ready.work (rename_call c.args.mv)
+    (final_is g.T.Given.given c.args.shared.now c.args.nodes c.args.core.now c.requires.table c.requires.ready.work (rename_call c.args.move_)
     (reply_of c.args.short) c.stamp.result.0 c.stamp.new.self stamps due c.add_entry.new.core takes)
-    (same_count g.T.Given.given c.args.shared.now c.args.nodes c.args.core.now c.requires.table c.requires.ready.work (rename_call c.args.mv)
+    (same_count g.T.Given.given c.args.shared.now c.args.nodes c.args.core.now c.requires.table c.requires.ready.work (rename_call c.args.move_)
     (reply_of c.args.short) c.stamp.result.0 c.stamp.new.self stamps due c.add_entry.new.core takes)
     c.let_go.ensures.lets_go c.let_go.ensures.left c.let_go.ensures.places

@@ -22,18 +22,18 @@ use Rattle.mem_rename.specs.Moving.{SetsLock}
 use Rattle.mem_rename.proofs.moving.move_child.Goals as goal
 
 pub prepare-requires-clause-held : goal.prepare-requires-clause-held
-prepare-requires-clause-held g c = new_there c.args.nodes c.args.core.now c.args.mv c.args.plan c.requires.ready.cells
+prepare-requires-clause-held g c = new_there c.args.nodes c.args.core.now c.args.move_ c.args.plan c.requires.ready.cells
 
 pub change_held-requires-clause-held : goal.change_held-requires-clause-held
 change_held-requires-clause-held g c =
-    can_change g.T.Given.given c.args.shared.now c.args.nodes c.requires.table c.args.mv c.requires.within c.args.plan c.requires.plan
+    can_change g.T.Given.given c.args.shared.now c.args.nodes c.requires.table c.args.move_ c.requires.within c.args.plan c.requires.plan
     (map node_number c.args.above.items) c.args.core.now c.requires.ready c.args.child c.requires.moves c.shift_in-shift.result
     c.in_ok-noted.noted c.prepare.new.core c.in_ok-noted.ensures
 
 pub stamp-stamp-requires-clause-may : goal.stamp-stamp-requires-clause-may
 stamp-stamp-requires-clause-may g c =
     subst (λ (z : Call). MayCall (IsLawfulLog g.T.Given.given) (StandsAt g.T.Given.given) c.change_held.new.core.view z reply.Ok) (sym c.into_call.ensures)
-    (may g.T.Given.given c.args.shared.now c.args.nodes c.requires.table c.args.mv c.requires.within c.args.plan c.requires.plan
+    (may g.T.Given.given c.args.shared.now c.args.nodes c.requires.table c.args.move_ c.requires.within c.args.plan c.requires.plan
     (map node_number c.args.above.items) c.args.core.now c.requires.ready c.args.child c.requires.moves c.shift_in-shift.result
     c.in_ok-noted.noted c.prepare.new.core c.in_ok-noted.ensures c.change_held.new.core c.change_held.ensures)
 
@@ -41,7 +41,7 @@ pub set_lock-requires : goal.set_lock-requires
 set_lock-requires g c = λ comes.
     let stamps = subst (λ (z : Call). Stamps (IsLawfulLog g.T.Given.given)
     (StandsAt g.T.Given.given) z reply.Ok c.change_held.new.core c.stamp-stamp.result.0 c.stamp-stamp.new.self) c.into_call.ensures c.stamp-stamp.ensures in
-    lock_there g.T.Given.given c.args.shared.now c.args.nodes c.requires.table c.args.mv c.requires.within c.args.plan c.requires.plan
+    lock_there g.T.Given.given c.args.shared.now c.args.nodes c.requires.table c.args.move_ c.requires.within c.args.plan c.requires.plan
     (map node_number c.args.above.items) c.args.core.now c.requires.ready c.args.child c.requires.moves c.shift_in-shift.result
     c.in_ok-noted.noted c.prepare.new.core c.in_ok-noted.ensures c.change_held.new.core c.change_held.ensures c.stamp-stamp.result.0 c.stamp-stamp.new.self stamps (sym c.is_some-comes.ensures ∙ comes)
 
@@ -50,7 +50,7 @@ add_entry-requires-clause-part g c =
     let stamps = subst (λ (z : Call). Stamps (IsLawfulLog g.T.Given.given)
     (StandsAt g.T.Given.given) z reply.Ok c.change_held.new.core c.stamp-stamp.result.0 c.stamp-stamp.new.self) c.into_call.ensures c.stamp-stamp.ensures in
     some_of (part_held c.args.nodes c.set_lock.new.core.held c.set_lock.new.core.view.core) _
-    (part_locked g.T.Given.given c.args.shared.now c.args.nodes c.requires.table c.args.mv c.requires.within c.args.plan c.requires.plan
+    (part_locked g.T.Given.given c.args.shared.now c.args.nodes c.requires.table c.args.move_ c.requires.within c.args.plan c.requires.plan
     (map node_number c.args.above.items) c.args.core.now c.requires.ready c.args.child c.requires.moves c.shift_in-shift.result
     c.in_ok-noted.noted c.prepare.new.core c.in_ok-noted.ensures c.change_held.new.core c.change_held.ensures c.stamp-stamp.result.0 c.stamp-stamp.new.self stamps c.is_some-comes.result c.set_lock.new.core c.set_lock.ensures)
 
@@ -60,7 +60,7 @@ add_entry-requires-clause-may g c =
     (StandsAt g.T.Given.given) z reply.Ok c.change_held.new.core c.stamp-stamp.result.0 c.stamp-stamp.new.self) c.into_call.ensures c.stamp-stamp.ensures in
     let shift = c.shift_in-shift.ensures (map node_number c.args.above.items) in
     subst (λ l. MayTake c.args.nodes l c.set_lock.new.core) (sym c.shifted.ensures)
-    (takes_shift g.T.Given.given c.args.shared.now c.args.nodes c.requires.table c.args.mv c.requires.within c.args.plan c.requires.plan
+    (takes_shift g.T.Given.given c.args.shared.now c.args.nodes c.requires.table c.args.move_ c.requires.within c.args.plan c.requires.plan
     (map node_number c.args.above.items) c.args.core.now c.requires.ready c.args.child c.requires.moves c.shift_in-shift.result
     c.in_ok-noted.noted c.prepare.new.core c.in_ok-noted.ensures c.change_held.new.core c.change_held.ensures c.stamp-stamp.result.0 c.stamp-stamp.new.self stamps c.is_some-comes.result c.set_lock.new.core c.set_lock.ensures
     c.in_ok-noted.noted.old c.in_ok-noted.noted.new c.way_of-way.result (ap (λ (s : Shift). s.from) shift)
@@ -76,7 +76,7 @@ let_go-requires-clause-home g c =
     ∙ ap (shift_logged c.shift_in-shift.result c.in_ok-noted.noted.old c.in_ok-noted.noted.new c.stamp-stamp.result.0)
     (c.way_of-way.ensures ∙ ap (λ (b : Bool). cond b (map node_number c.args.above.items) []) c.is_some-comes.ensures) in
     let takes = subst (λ l. TakesEntry c.args.nodes l c.set_lock.new.core c.add_entry.new.core) logged c.add_entry.ensures in
-    goes_home g.T.Given.given c.args.shared.now c.args.nodes c.requires.table c.args.mv c.requires.within c.args.plan c.requires.plan
+    goes_home g.T.Given.given c.args.shared.now c.args.nodes c.requires.table c.args.move_ c.requires.within c.args.plan c.requires.plan
     (map node_number c.args.above.items) c.args.core.now c.requires.ready c.args.child c.requires.moves c.shift_in-shift.result
     c.in_ok-noted.noted c.prepare.new.core c.in_ok-noted.ensures c.change_held.new.core c.change_held.ensures c.stamp-stamp.result.0 c.stamp-stamp.new.self stamps c.set_lock.new.core lock (c.shift_in-shift.ensures (map node_number c.args.above.items))
     c.add_entry.new.core takes
@@ -91,7 +91,7 @@ returns g c =
     ∙ ap (shift_logged c.shift_in-shift.result c.in_ok-noted.noted.old c.in_ok-noted.noted.new c.stamp-stamp.result.0)
     (c.way_of-way.ensures ∙ ap (λ (b : Bool). cond b (map node_number c.args.above.items) []) c.is_some-comes.ensures) in
     let takes = subst (λ l. TakesEntry c.args.nodes l c.set_lock.new.core c.add_entry.new.core) logged c.add_entry.ensures in
-    answers g.T.Given.given c.args.shared.now c.args.nodes c.requires.table c.args.mv c.requires.within c.args.plan c.requires.plan
+    answers g.T.Given.given c.args.shared.now c.args.nodes c.requires.table c.args.move_ c.requires.within c.args.plan c.requires.plan
     (map node_number c.args.above.items) c.args.core.now c.requires.ready c.args.child c.requires.moves c.shift_in-shift.result
     c.in_ok-noted.noted c.prepare.new.core c.in_ok-noted.ensures c.change_held.new.core c.change_held.ensures c.stamp-stamp.result.0 c.stamp-stamp.new.self stamps c.set_lock.new.core lock (c.shift_in-shift.ensures (map node_number c.args.above.items))
     c.add_entry.new.core takes c.let_go.new.self c.let_go.ensures.lets_go c.let_go.ensures.left c.let_go.ensures.places

@@ -14,20 +14,20 @@ returns-in-Err-reserve_log g c =
 
 pub add_row-requires : goal.add_row-requires
 add_row-requires g c = subst IsSome
-    (sym (kept_bucket c.args.nodes c.args.core.now c.reserve_log.new.core c.in_default.ensures.keeps c.args.mv.now.to_directory
-    (name_bucket c.args.mv.now.to_name) c.requires.within.new (bucket_small c.args.mv.now.to_name))) c.requires.held
+    (sym (kept_bucket c.args.nodes c.args.core.now c.reserve_log.new.core c.in_default.ensures.keeps c.args.move_.now.to_directory
+    (name_bucket c.args.move_.now.to_name) c.requires.within.new (bucket_small c.args.move_.now.to_name))) c.requires.held
 
 pub give_up-requires-in-Err-add_row : goal.give_up-requires-in-Err-add_row
 give_up-requires-in-Err-add_row g c =
     let works = works_kept g.T.Given.given c.args.shared.now c.args.nodes c.args.core.now c.requires.table c.requires.work c.reserve_log.new.core c.in_default.ensures.keeps in
-    works_same g.T.Given.given c.args.shared.now c.args.nodes c.reserve_log.new.core c.requires.table works c.args.mv.now.to_directory
-    (name_bucket c.args.mv.now.to_name) c.requires.within.new (bucket_small c.args.mv.now.to_name) c.add_row.new.core
+    works_same g.T.Given.given c.args.shared.now c.args.nodes c.reserve_log.new.core c.requires.table works c.args.move_.now.to_directory
+    (name_bucket c.args.move_.now.to_name) c.requires.within.new (bucket_small c.args.move_.now.to_name) c.add_row.new.core
     c.in-Err-add_row.ensures
 
 pub returns-in-Err-add_row : goal.returns-in-Err-add_row
 returns-in-Err-add_row g c =
     let works = works_kept g.T.Given.given c.args.shared.now c.args.nodes c.args.core.now c.requires.table c.requires.work c.reserve_log.new.core c.in_default.ensures.keeps in
     refused_kept g.T.Given.given c.args.shared.now c.args.nodes c.args.core.now c.requires.table c.requires.work c.reserve_log.new.core c.in_default.ensures.keeps c.give_up-in-Err-add_row.new.core
-    (refused_same g.T.Given.given c.args.shared.now c.args.nodes c.reserve_log.new.core c.requires.table works c.args.mv.now.to_directory
-    (name_bucket c.args.mv.now.to_name) c.requires.within.new (bucket_small c.args.mv.now.to_name) c.add_row.new.core
+    (refused_same g.T.Given.given c.args.shared.now c.args.nodes c.reserve_log.new.core c.requires.table works c.args.move_.now.to_directory
+    (name_bucket c.args.move_.now.to_name) c.requires.within.new (bucket_small c.args.move_.now.to_name) c.add_row.new.core
     c.in-Err-add_row.ensures c.give_up-in-Err-add_row.new.core c.give_up-in-Err-add_row.ensures)

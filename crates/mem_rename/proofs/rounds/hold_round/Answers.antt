@@ -6,7 +6,7 @@ use Rattle.mem_rename.proofs.rounds.hold_round.Goals as goal
 
 pub returns-in-Ok-Some-clause-held : goal.returns-in-Ok-Some-clause-held
 returns-in-Ok-Some-clause-held g c =
-    round g.T.Given.given c.args.shared.now c.args.nodes c.requires.table c.args.mv.now c.args.plan
+    round g.T.Given.given c.args.shared.now c.args.nodes c.requires.table c.args.move_.now c.args.plan
     (map node_number c.in-Ok-Some.above.items) c.args.core.now c.hold_lock.new.core c.hold_asked.new.core c.hold_own.new.core
     c.hold_lock.ensures.work c.hold_own.ensures.work c.hold_lock.ensures.on
     (subst (λ l. HoldsAsked c.args.nodes l c.hold_lock.new.core c.hold_asked.new.core)

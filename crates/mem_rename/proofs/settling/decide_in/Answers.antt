@@ -7,12 +7,12 @@ use Rattle.mem_rename.proofs.Decided.{decided}
 use Rattle.mem_rename.proofs.settling.decide_in.Goals as goal
 
 pub look_in-look-requires-clause-old : goal.look_in-look-requires-clause-old
-look_in-look-requires-clause-old c = old_there c.args.nodes c.args.core.now c.args.mv.now c.args.plan c.requires
+look_in-look-requires-clause-old c = old_there c.args.nodes c.args.core.now c.args.move_.now c.args.plan c.requires
 
 pub look_in-look-requires-clause-new : goal.look_in-look-requires-clause-new
-look_in-look-requires-clause-new c = new_there c.args.nodes c.args.core.now c.args.mv.now c.args.plan c.requires
+look_in-look-requires-clause-new c = new_there c.args.nodes c.args.core.now c.args.move_.now c.args.plan c.requires
 
 pub returns : goal.returns
 returns c =
-    sym (decided (seen_of c.args.nodes c.args.core.now.held c.args.mv.now c.args.plan (map node_number c.args.above.now)) c.args.mv.now)
-    ∙ ap (verdict_of c.args.mv.now) ((λ i. decision_by (sym c.look_in-look.ensures i) (sym c.reads_in-reads.ensures i) c.args.mv.now) ∙ sym c.decide.ensures)
+    sym (decided (seen_of c.args.nodes c.args.core.now.held c.args.move_.now c.args.plan (map node_number c.args.above.now)) c.args.move_.now)
+    ∙ ap (verdict_of c.args.move_.now) ((λ i. decision_by (sym c.look_in-look.ensures i) (sym c.reads_in-reads.ensures i) c.args.move_.now) ∙ sym c.decide.ensures)

@@ -15,7 +15,7 @@ hold_round-requires-clause-room g c = let r = c.loop.invariant.again.room in let
 
 pub returns-then-is : goal.returns-then-is
 returns-then-is g c =
-    settled g.T.Given.given c.args.shared.now c.args.nodes c.args.mv.now c.loop.plan c.next_plan-next.result
+    settled g.T.Given.given c.args.shared.now c.args.nodes c.args.move_.now c.loop.plan c.next_plan-next.result
     (map node_number c.in-Ok-Some.above.items) c.args.core.now c.loop.core c.hold_round.new.core c.loop.invariant.within c.loop.invariant.again
     (rw c.in-Ok-Some.field-0-is at c.in-Ok-Some.ensures.held) (c.next_plan-next.ensures.asked (map node_number c.in-Ok-Some.above.items))
     (sym c.is.ensures ∙ c.if-is.true)
