@@ -63,7 +63,7 @@ pub record Served (due_by : Judgement → Status) (nodes : ℕ) (phases : List (
   pub text : HasText (history_text history) before after status
   -- each fsync is answered as it is for its cause
   pub answers : HasAnswers old.faults new.faults first history
-  -- the moments of acknowledgement do not fall, and lie within the run
+  -- while the count of device calls has not come to its last value, the moments of acknowledgement do not fall, and lie within the run
   pub acks : CountsOn new → AcksRise old.now history new.now
   -- its turns at the disk tell what each fsync did
   pub turns_are : HasTurnsBy (was_mounted status history) old new first history turns

@@ -59,7 +59,8 @@ failed_turns entry node counts None =
     ∷ turn_of entry node (commit_number entry) counts.calls_after counts.faults_after act.Fail ∷ []
 
 -- The turns of an fsync of a node, by what it did. What was reserved was so at its begin, and so its cut was taken; the gate was opened by
--- the device call before the sync by which the commit was durable, at the moment of the acknowledgement.
+-- the device call before the sync by which the commit was durable, at the moment of the acknowledgement; where no device call is known to have
+-- been made, at the begin.
 abbrev pub turns_of : Entry → NodeId → Counts → Deed → List Turn
 turns_of entry node counts deed.Nothing = []
 turns_of entry node counts deed.Halted = turn_of entry node 0 counts.calls_before counts.faults_before act.Halted ∷ []
