@@ -19,7 +19,7 @@ IsTreeCell nodes (id.Bucket node number) = (node.0 < nodes) × (number < 8)
 IsTreeCell nodes (id.File node) = node.0 < nodes
 IsTreeCell nodes _ = ⊥
 
--- so is each of these
+-- each of these is a bucket or a file of a table of so many nodes
 abbrev pub AreTreeCells : ℕ → List CellId → Type 0
 AreTreeCells nodes [] = Unit {0}
 AreTreeCells nodes (cell ∷ cells) = IsTreeCell nodes cell × AreTreeCells nodes cells
@@ -48,7 +48,7 @@ IsNextAbove nodes last cells None = (cell : CellId) → IsOneOf cells cell → c
 abbrev pub HoldsCell : ℕ → List (HeldCell Cell) → CellId → Type 0
 HoldsCell nodes held cell = (value : Cell) × (value_held nodes held cell ≡ Some value) × IsOfKind cell value
 
--- so is each of these
+-- each of these cells is held, with a value of its kind
 abbrev pub HoldsCells : ℕ → List (HeldCell Cell) → List CellId → Type 0
 HoldsCells nodes held cells = (cell : CellId) → IsOneOf cells cell → HoldsCell nodes held cell
 
