@@ -14,7 +14,6 @@ use Rattle.stamp_table.specs.Events.{calls_in}
 use Rattle.stamp_table.specs.Hand.{Hand, places_of}
 use Rattle.stamp_table.specs.Table.{TableState, LetsGo, Stands, EachFrom, left_below}
 use Rattle.mem_values.specs.declared.cell.Cell.{Cell}
-use Rattle.mem_values.specs.declared.cell_id.CellId.{CellId}
 use Rattle.mem_values.specs.declared.cell_id.CellId.TheVariants as id
 use Rattle.mem_values.specs.declared.fact.Fact.{Fact}
 use Rattle.mem_values.specs.Account.{account_of}

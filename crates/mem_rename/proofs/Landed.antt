@@ -1,5 +1,5 @@
 -- Each cell of a core that moved a child goes home, and the call has ended.
-use Rattle.std.proofs.Common.{◌≡◌, ℕ, ◌+◌, ◌*◌, ◌<◌, ◌≤◌, Bool, true, false, cond, not, ◌&&◌, nat_eq, List, [], ◌∷◌, ◌++◌, length, reverse, Option, Some, None, IsSome, option_map, ◌⊎◌, inl, inr, refl, sym, ap, ap₂, subst, ◌∙◌, arith}
+use Rattle.std.proofs.Common.{◌≡◌, ℕ, ◌+◌, ◌*◌, ◌<◌, Bool, true, false, cond, not, ◌&&◌, nat_eq, List, [], ◌∷◌, ◌++◌, length, reverse, Option, Some, None, IsSome, option_map, inl, inr, refl, sym, ap, subst, ◌∙◌, arith}
 use borrow.Author.Tests.{eqb-true}
 use Rattle.std.specs.Prelude.{is_some}
 use Rattle.std.specs.Option.{option_and_then}
@@ -7,7 +7,7 @@ use Rattle.sfs_base.proofs.BasicTruth.{true_or_false, and_first, and_second, not
 use Rattle.sfs_base.specs.Name.{bucket as name_bucket}
 use Rattle.sfs_base.specs.declared.numbers.NodeId.{NodeId}
 use Rattle.disk_change.specs.OldKept.{OldKept}
-use Rattle.sfs_tree.specs.Tree.{TreeState, made_by}
+use Rattle.sfs_tree.specs.Tree.{TreeState}
 use Rattle.sfs_tree.specs.declared.changes.Change.{Change}
 use Rattle.sfs_tree.specs.declared.reply.Reply.TheVariants as reply
 use Rattle.sfs_tree.specs.Effect.{Moves}
@@ -21,14 +21,12 @@ use Rattle.stamp_table.specs.declared.event.Event.{Event}
 use Rattle.stamp_table.specs.declared.event.Event.TheVariants.{Called}
 use Rattle.stamp_table.specs.declared.view.View.{View}
 use Rattle.stamp_table.specs.declared.held.HeldCell.{HeldCell}
-use Rattle.stamp_table.specs.Events.{calls_in}
 use Rattle.stamp_table.specs.Hand.{Hand, places_of}
 use Rattle.stamp_table.specs.Table.{TableState, Stamps, LetsGo, Stands, EachFrom, with_value, left_below}
 use Rattle.stamp_table.proofs.Replacing.{same_places}
 use Rattle.mem_cells.specs.Part.{IsAddedTo}
 use Rattle.mem_values.specs.declared.cell.Cell.{Cell}
 use Rattle.mem_values.specs.declared.cell.Cell.TheVariants as cell
-use Rattle.mem_values.specs.declared.cell.PartCell.{PartCell}
 use Rattle.mem_values.specs.declared.cell.FileCell.{FileCell}
 use Rattle.mem_values.specs.declared.bucket.Bucket.{Bucket}
 use Rattle.mem_values.specs.declared.cell_id.CellId.{CellId}
@@ -39,7 +37,7 @@ use Rattle.mem_values.specs.Account.{account_of}
 use Rattle.mem_values.specs.Stands.{StandsForCell, StandsAt}
 use Rattle.mem_values.specs.Facts.{IsLawfulLog}
 use Rattle.mem_calls.specs.Table.{IsFileTable}
-use Rattle.mem_calls.specs.Held.{value_held, as_part, as_bucket, as_file, bucket_held, file_held, part_held}
+use Rattle.mem_calls.specs.Held.{value_held, as_part, as_bucket, as_file}
 use Rattle.mem_calls.specs.Parts.{TakesEntry}
 use Rattle.mem_calls.specs.Outcome.{IsAnswered}
 use Rattle.mem_calls.proofs.PartKept.{value_of_part}
@@ -63,8 +61,6 @@ use Rattle.mem_rename.proofs.Answering as answering
 use Rattle.mem_rename.proofs.Fitted as fitted
 use Rattle.mem_rename.proofs.Home.{replaced_files_lose_a_link}
 use Rattle.mem_rename.proofs.Homecoming as homecoming
-use Rattle.mem_rename.proofs.HeldChanges.{bucket_stays}
-use Rattle.mem_rename.proofs.Logged.{renames_log}
 use Rattle.mem_rename.proofs.Moved.{MovesChild, moves_child, renames_need_lock, is_this_there}
 use Rattle.mem_rename.proofs.MovedHome.{plans, held_too}
 use Rattle.mem_rename.proofs.Readied.{kept_value, kept_bucket, kept_file}

@@ -1,59 +1,25 @@
 -- A child that moves: each cell goes home with what the rename leaves in it.
-use Rattle.std.proofs.Common.{◌≡◌, ℕ, ◌+◌, ◌*◌, ◌-◌, ◌^◌, ◌<◌, ◌≤◌, Bool, true, false, cond, not, ◌&&◌, nat_eq, List, [], ◌∷◌, ◌++◌, length, filter, reverse, Option, Some, None, IsSome, option_map, ◌⊎◌, inl, inr, refl, sym, ap, ap₂, subst, ◌∙◌, arith}
-use borrow.Author.Tests.{eqb-true, eq-eqb, eqb-false}
-use Rattle.std.specs.Prelude.{is_some, All}
-use Rattle.std.specs.Option.{option_and_then}
-use Rattle.std.proofs.lemmas.Option.{option_and_then_some}
+use Rattle.std.proofs.Common.{◌≡◌, ℕ, Bool, true, false, cond, not, ◌&&◌, nat_eq, List, [], ◌∷◌, Option, Some, None, IsSome, option_map, refl, sym, ap, ap₂, subst, ◌∙◌}
+use Rattle.std.specs.Prelude.{is_some}
 use Rattle.sfs_base.proofs.BasicTruth.{true_or_false, and_first, and_second, not_both}
-use Rattle.sfs_base.specs.Name.{bucket as name_bucket}
 use Rattle.sfs_base.specs.declared.numbers.NodeId.{NodeId}
-use Rattle.sfs_base.specs.declared.numbers.Stamp.{Stamp}
 use Rattle.disk_change.specs.OldKept.{OldKept}
 use Rattle.sfs_tree.specs.Tree.{TreeState}
-use Rattle.sfs_tree.specs.declared.call.Call.{Call}
-use Rattle.sfs_tree.specs.declared.reply.Reply.{Reply}
-use Rattle.sfs_tree.specs.declared.reply.Reply.TheVariants as reply
-use Rattle.sfs_tree.specs.declared.history.Entry.{Entry}
-use Rattle.sfs_tree.specs.Effect.{Moves}
 use Rattle.sfs_tree.specs.Logged.{numbered_node}
-use Rattle.sfs_tree.specs.Parts.{is_this}
-use Rattle.sfs_tree.specs.Verdict.{Verdict, verdict, done, names_child}
-use Rattle.stamp_table.specs.declared.event.Event.{Event}
-use Rattle.stamp_table.specs.declared.event.Event.TheVariants.{Called}
-use Rattle.stamp_table.specs.declared.view.View.{View}
+use Rattle.sfs_tree.specs.Verdict.{names_child}
 use Rattle.stamp_table.specs.declared.held.HeldCell.{HeldCell}
-use Rattle.stamp_table.specs.Events.{calls_in}
 use Rattle.stamp_table.specs.Hand.{Hand, places_of}
-use Rattle.stamp_table.specs.Table.{TableState, MayCall, Stamps, with_value, cell_at, is_at}
-use Rattle.stamp_table.proofs.Replacing.{same_places}
+use Rattle.stamp_table.specs.Table.{TableState, cell_at}
 use Rattle.mem_values.specs.declared.cell.Cell.{Cell}
-use Rattle.mem_values.specs.declared.cell.Cell.TheVariants as cell
-use Rattle.mem_values.specs.declared.cell.FileCell.{FileCell}
-use Rattle.mem_values.specs.declared.bucket.Bucket.{Bucket}
-use Rattle.mem_values.specs.declared.cell_id.CellId.{CellId}
-use Rattle.mem_values.specs.declared.cell_id.CellId.TheVariants as id
 use Rattle.mem_values.specs.declared.fact.Fact.{Fact}
-use Rattle.mem_values.specs.Places.{cell_place, IsCell}
-use Rattle.mem_values.specs.Account.{account_of}
-use Rattle.mem_values.specs.Stands.{StandsForCell, StandsAt}
-use Rattle.mem_values.specs.Facts.{IsLawfulLog}
 use Rattle.mem_calls.specs.Table.{IsFileTable}
-use Rattle.mem_calls.specs.Held.{value_held, as_bucket, as_file, as_part, bucket_held, file_held, part_held}
-use Rattle.mem_calls.proofs.Edited.{stamps_back}
-use Rattle.mem_calls.proofs.Stamped as stamped
 use Rattle.mem_rename.specs.declared.sides.Move.{Move}
 use Rattle.mem_rename.specs.declared.plans.Plan.{Plan}
 use Rattle.mem_rename.specs.declared.looking.Look.{Look}
-use Rattle.mem_rename.specs.declared.shifts.Shift.{Shift}
-use Rattle.mem_rename.specs.declared.shifts.Noted.{Noted}
-use Rattle.mem_rename.specs.Sights.{Sight, rename_call, child_seen, there_seen, moves_directory, meets_directory, goes_between, rename_by, ShowsMove, stands_by}
+use Rattle.mem_rename.specs.Sights.{Sight, child_seen, there_seen, moves_directory, meets_directory, goes_between}
 use Rattle.mem_rename.specs.Decisions.{look_of, same_child}
-use Rattle.mem_rename.specs.Shifts.{shift_of}
 use Rattle.mem_rename.specs.Ready.{seen_of, AreSidesWithin, HoldsRename, MayMeetOn}
-use Rattle.mem_rename.specs.Moving.{with_row, less_one, same_bucket, same_file, at_bucket, at_file, bucket_moved, IsPrepared, ChangesHeld, SetsLock}
-use Rattle.mem_rename.proofs.Moved.{MovesChild, moves_child}
-use Rattle.mem_rename.proofs.Verdicts.{child_row, there_row}
-use Rattle.mem_rename.proofs.Answering as answering
+use Rattle.mem_rename.proofs.Moved.{MovesChild}
 use Rattle.mem_rename.proofs.Readies as readies
 use Rattle.mem_rename.proofs.Fitted as fitted
 use Rattle.mem_rename.proofs.Home as home

@@ -4,7 +4,7 @@ use borrow.Author.Tests.{eqb-true}
 use Rattle.std.specs.Prelude.{All}
 use Rattle.std.proofs.lemmas.List.Elements.{All-nil, All-cons, All-append}
 use Rattle.sfs_tree.specs.declared.changes.Change.{Change}
-use Rattle.sfs_tree.specs.declared.changes.Act.TheVariants.{Add, Remove}
+use Rattle.sfs_tree.specs.declared.changes.Act.TheVariants.{Add}
 use Rattle.sfs_tree.specs.Tree.{TreeState, kind_if}
 use Rattle.sfs_tree.specs.Changes.{other_side}
 use Rattle.sfs_tree.specs.Logged.{is_logged_in, log_entry}

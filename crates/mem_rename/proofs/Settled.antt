@@ -1,5 +1,5 @@
 -- A core that begins again, and one that has come to hold all.
-use Rattle.std.proofs.Common.{◌≡◌, ℕ, ◌+◌, ◌<◌, ◌≤◌, Bool, true, false, not, ◌&&◌, List, [], ◌∷◌, ◌++◌, length, Option, Some, None, inl, inr, refl, sym, ap, subst, ◌∙◌, arith, append-nil, append_assoc}
+use Rattle.std.proofs.Common.{◌≡◌, ℕ, Bool, true, false, ◌&&◌, List, [], ◌++◌, length, Option, Some, None, inl, inr, refl, sym, ap, ◌∙◌, arith, append-nil, append_assoc}
 use borrow.Author.Tests.{eqb-true}
 use Rattle.std.specs.Option.{option_and_then}
 use Rattle.sfs_base.specs.Name.{bucket as name_bucket}

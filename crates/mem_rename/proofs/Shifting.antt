@@ -1,11 +1,10 @@
 -- What changes of a bucket and of a file is what a rename leaves in them.
-use Rattle.std.proofs.Common.{◌≡◌, ℕ, ◌+◌, ◌-◌, ◌<◌, Bool, true, false, cond, not, ◌&&◌, nat_eq, List, Option, Some, None, option_map, ◌⊎◌, inl, inr, refl, sym, ap, subst, ◌∙◌, arith}
+use Rattle.std.proofs.Common.{◌≡◌, ℕ, ◌+◌, ◌<◌, Bool, true, false, cond, not, ◌&&◌, nat_eq, Option, Some, None, option_map, refl, sym, ap, ◌∙◌, arith}
 use borrow.Author.Tests.{eqb-true}
-use Rattle.std.specs.FinMap.{FinMap, insert, remove}
-use Rattle.sfs_base.proofs.BasicTruth.{and_first, and_second}
+use Rattle.std.specs.FinMap.{insert, remove}
+use Rattle.sfs_base.proofs.BasicTruth.{and_first}
 use Rattle.sfs_base.specs.Name.{bucket as name_bucket}
 use Rattle.sfs_base.specs.declared.numbers.NodeId.{NodeId}
-use Rattle.sfs_tree.specs.Order.{name_cmp}
 use Rattle.sfs_tree.specs.NameRow.{number_of}
 use Rattle.sfs_tree.specs.Logged.{numbered_node}
 use Rattle.sfs_tree.specs.Parts.{is_this}
@@ -14,7 +13,7 @@ use Rattle.mem_values.specs.declared.bucket.Bucket.{Bucket}
 use Rattle.mem_rename.specs.declared.sides.Move.{Move}
 use Rattle.mem_rename.specs.declared.plans.Plan.{Plan}
 use Rattle.mem_rename.specs.Sights.{Sight, there_seen, moves_directory, meets_directory, goes_between}
-use Rattle.mem_rename.specs.After.{rows_moved, directories_moved, stands_moved, IsMovedBucket, IsMovedFile}
+use Rattle.mem_rename.specs.After.{rows_moved, directories_moved, IsMovedBucket, IsMovedFile}
 use Rattle.mem_rename.specs.Moving.{with_row, without_row, standing, less_one, at_bucket, in_directory, at_file, bucket_moved}
 use Rattle.mem_rename.proofs.RowsBack.{come_then_go}
 

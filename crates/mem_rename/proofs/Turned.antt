@@ -1,26 +1,19 @@
 -- A core that moves a child: its room, its stamp and its end.
-use Rattle.std.proofs.Common.{◌≡◌, ℕ, ◌+◌, ◌*◌, ◌-◌, ◌^◌, ◌<◌, ◌≤◌, Bool, true, false, cond, not, ◌&&◌, nat_eq, List, [], ◌∷◌, ◌++◌, length, reverse, Option, Some, None, IsSome, option_map, ◌⊎◌, inl, inr, refl, sym, ap, ap₂, subst, ◌∙◌, arith}
-use borrow.Author.Tests.{eqb-true, eq-eqb, eqb-false}
+use Rattle.std.proofs.Common.{◌≡◌, ℕ, ◌^◌, ◌<◌, ◌≤◌, Bool, true, false, List, length, Option, Some, None, IsSome, inl, refl, sym, ap, subst, ◌∙◌, arith}
 use Rattle.std.specs.Prelude.{is_some, MatchOption}
 use Rattle.std.specs.Option.{option_and_then}
-use Rattle.std.proofs.lemmas.Option.{option_and_then_some}
-use Rattle.sfs_base.proofs.BasicTruth.{true_or_false, and_first, and_second}
 use Rattle.sfs_base.specs.Name.{bucket as name_bucket}
 use Rattle.sfs_base.specs.declared.numbers.NodeId.{NodeId}
 use Rattle.disk_change.specs.OldKept.{OldKept}
 use Rattle.sfs_tree.specs.Tree.{TreeState}
 use Rattle.sfs_tree.specs.declared.reply.Reply.{Reply}
 use Rattle.sfs_tree.specs.declared.reply.Reply.TheVariants as reply
-use Rattle.sfs_tree.specs.declared.history.Entry.{Entry}
 use Rattle.sfs_tree.specs.Effect.{Moves}
 use Rattle.sfs_tree.specs.Verdict.{Verdict, done}
 use Rattle.stamp_table.specs.declared.event.Event.{Event}
-use Rattle.stamp_table.specs.declared.event.Event.TheVariants.{Called}
 use Rattle.stamp_table.specs.declared.view.View.{View}
-use Rattle.stamp_table.specs.declared.held.HeldCell.{HeldCell}
-use Rattle.stamp_table.specs.Events.{calls_in}
 use Rattle.stamp_table.specs.Hand.{Hand, places_of}
-use Rattle.stamp_table.specs.Table.{TableState, MayCall, Stamps, with_value}
+use Rattle.stamp_table.specs.Table.{TableState, MayCall, Stamps}
 use Rattle.stamp_table.proofs.Replacing.{same_places}
 use Rattle.mem_values.specs.declared.cell.Cell.{Cell}
 use Rattle.mem_values.specs.declared.cell.PartCell.{PartCell}
@@ -46,7 +39,7 @@ use Rattle.mem_rename.specs.declared.sides.Move.{Move}
 use Rattle.mem_rename.specs.declared.plans.Plan.{Plan}
 use Rattle.mem_rename.specs.declared.shifts.Shift.{Shift}
 use Rattle.mem_rename.specs.declared.shifts.Noted.{Noted}
-use Rattle.mem_rename.specs.Sights.{Sight, rename_call, rename_by}
+use Rattle.mem_rename.specs.Sights.{rename_call, rename_by}
 use Rattle.mem_rename.specs.Shifts.{shift_logged}
 use Rattle.mem_rename.specs.Ready.{seen_of, AreSidesWithin, HoldsRename}
 use Rattle.mem_rename.specs.Rounds.{IsPlanWithin}
@@ -54,7 +47,6 @@ use Rattle.mem_rename.specs.Moving.{with_row, less_one, same_file, at_bucket, at
 use Rattle.mem_rename.proofs.Answering as answering
 use Rattle.mem_rename.proofs.Readies.{held_bucket, held_file, comes_asked, directory_asked, file_asked}
 use Rattle.mem_rename.proofs.Kept.{bucket_in}
-use Rattle.mem_rename.proofs.Sighted.{old_there}
 use Rattle.mem_rename.proofs.Changeable.{still_can}
 use Rattle.mem_rename.proofs.HeldChanges.{both_held, bucket_step}
 use Rattle.mem_rename.proofs.Readied.{kept_value, kept_bucket, kept_file}

@@ -1,5 +1,5 @@
 -- What a rename logs of a child that moves, in the words of the code.
-use Rattle.std.specs.Prelude.{◌≡◌, ℕ, ◌≤◌, Bool, List, [], ◌∷◌, ◌++◌, Option, Some, None, is_some, if◌then◌else◌}
+use Rattle.std.specs.Prelude.{◌≡◌, ℕ, ◌≤◌, Bool, List, [], ◌∷◌, ◌++◌, Option, Some, None}
 use Rattle.sfs_tree.specs.declared.changes.Act.TheVariants.{Add, Remove}
 use Rattle.sfs_tree.specs.declared.changes.Change.{Change}
 use Rattle.sfs_tree.specs.Tree.{kind_if}

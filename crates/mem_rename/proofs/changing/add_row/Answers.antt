@@ -1,8 +1,7 @@
-use Rattle.std.proofs.Common.{refl, subst, sym, ◌≡◌, ℕ}
-use Rattle.std.specs.Prelude.{MatchResult}
+use Rattle.std.proofs.Common.{refl, subst, ℕ}
 use Rattle.mem_values.specs.declared.cell.Cell.TheVariants as cell
 use Rattle.mem_values.specs.declared.cell_id.CellId.TheVariants as id
-use Rattle.mem_calls.specs.Held.{value_held, as_bucket, bucket_held}
+use Rattle.mem_calls.specs.Held.{value_held, as_bucket}
 use Rattle.mem_calls.proofs.Nothing.{some_first}
 use Rattle.mem_calls.proofs.Taken.{put_there}
 use Rattle.mem_rename.specs.Moving.{with_row, PutsBucket}

@@ -1,6 +1,5 @@
-use Rattle.std.proofs.Common.{sym}
-use Rattle.mem_rename.specs.Moving.{standing, same_file}
-use Rattle.mem_rename.proofs.HeldChanges.{below_in, below_begins, below_more, below_ends, same_held, bucket_stays}
+use Rattle.mem_rename.specs.Moving.{standing}
+use Rattle.mem_rename.proofs.HeldChanges.{below_more}
 use Rattle.mem_rename.proofs.changing.all_stand.Goals as goal
 
 pub loop-number-preserved : goal.loop-number-preserved

@@ -1,4 +1,4 @@
-use Rattle.std.proofs.Common.{◌≡◌, ap, sym, subst, ◌∙◌, IsSome}
+use Rattle.std.proofs.Common.{ap, sym, subst, ◌∙◌, IsSome}
 use Rattle.std.specs.FinMap.{get}
 use Rattle.mem_rename.specs.Moving.{row_again}
 use Rattle.mem_rename.proofs.RowsBack.{put_is_there, undone}

@@ -1,8 +1,7 @@
 use Rattle.std.proofs.Common.{Some, None, sym, subst, ◌≡◌}
-use Rattle.std.specs.Prelude.{MatchOption}
 use Rattle.sfs_base.specs.Name.{bucket as name_bucket}
 use Rattle.mem_calls.proofs.Shown.{bucket_small}
-use Rattle.mem_rename.specs.Moving.{without_row, standing, less_one, same_bucket, same_file, at_bucket, in_directory, at_file, bucket_moved, ChangesHeld}
+use Rattle.mem_rename.specs.Moving.{without_row, less_one, at_file, bucket_moved, ChangesHeld}
 use Rattle.mem_rename.proofs.HeldChanges.{both_held, bucket_step, file_step}
 use Rattle.mem_rename.proofs.Changeable.{still_can}
 use Rattle.mem_rename.proofs.moving.change_held.Goals as goal

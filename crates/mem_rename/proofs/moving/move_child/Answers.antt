@@ -1,20 +1,18 @@
-use Rattle.std.proofs.Common.{◌≡◌, ℕ, List, map, sym, ap, subst, ◌∙◌, IsSome, true}
+use Rattle.std.proofs.Common.{map, sym, ap, subst, ◌∙◌}
 use Rattle.sfs_tree.specs.NameRow.{node_number}
 use Rattle.sfs_tree.specs.declared.call.Call.{Call}
 use Rattle.sfs_tree.specs.declared.reply.Reply.TheVariants as reply
 use Rattle.stamp_table.specs.Table.{MayCall, Stamps}
 use Rattle.mem_values.specs.Stands.{StandsAt}
 use Rattle.mem_values.specs.Facts.{IsLawfulLog}
-use Rattle.mem_values.specs.declared.cell_id.CellId.TheVariants as id
-use Rattle.mem_calls.specs.Held.{value_held, part_held}
+use Rattle.mem_calls.specs.Held.{part_held}
 use Rattle.mem_calls.specs.Parts.{MayTake}
 use Rattle.mem_calls.proofs.HeldKinds.{some_of}
 use Rattle.mem_rename.specs.declared.shifts.Shift.{Shift}
 use Rattle.mem_rename.proofs.Sighted.{new_there}
-use Rattle.mem_rename.proofs.MovedHome.{plans, held_too}
 use Rattle.mem_rename.proofs.Turned.{can_change, may, lock_there, part_locked, takes_shift}
 use Rattle.mem_rename.proofs.Landed.{goes_home, answers}
-use Rattle.std.specs.Prelude.{is_some, []}
+use Rattle.std.specs.Prelude.{[]}
 use Rattle.std.proofs.Common.{cond, Bool}
 use Rattle.mem_calls.specs.Parts.{TakesEntry}
 use Rattle.mem_rename.specs.Shifts.{shift_logged}

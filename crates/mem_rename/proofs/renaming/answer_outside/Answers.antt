@@ -1,4 +1,4 @@
-use Rattle.std.proofs.Common.{◌≡◌, sym, ap, ◌∙◌, arith}
+use Rattle.std.proofs.Common.{◌≡◌, ap, ◌∙◌, arith}
 use Rattle.sfs_tree.specs.Verdict.{verdict}
 use Rattle.mem_values.specs.Places.{node_count}
 use Rattle.mem_calls.proofs.HeldKinds.{still_directory}

@@ -1,4 +1,4 @@
-use Rattle.std.proofs.Common.{map, ◌∙◌, subst}
+use Rattle.std.proofs.Common.{rules, map, ◌∙◌, subst}
 use Rattle.sfs_tree.specs.NameRow.{node_number}
 use Rattle.mem_rename.specs.Holding.{HoldsAsked}
 use Rattle.mem_rename.proofs.Gathered.{round}
@@ -7,11 +7,10 @@ use Rattle.mem_rename.proofs.rounds.hold_round.Goals as goal
 pub returns-in-Ok-Some-clause-held : goal.returns-in-Ok-Some-clause-held
 returns-in-Ok-Some-clause-held g c =
     round g.T.Given.given c.args.shared.now c.args.nodes c.requires.table c.args.move_.now c.args.plan
-    (map node_number c.in-Ok-Some.above.items) c.args.core.now c.hold_lock.new.core c.hold_asked.new.core c.hold_own.new.core
-    c.hold_lock.ensures.work c.hold_own.ensures.work c.hold_lock.ensures.on
+    (map node_number c.in-Ok-Some.above.items) c.args.core.now c.hold_lock.new.core c.hold_asked.new.core
+    c.hold_lock.ensures.work c.hold_asked.ensures.work c.hold_lock.ensures.on
     (subst (λ l. HoldsAsked c.args.nodes l c.hold_lock.new.core c.hold_asked.new.core)
     (c.deref.ensures.value ∙ c.in_ok-cells.ensures) c.hold_asked.ensures.holds)
-    c.hold_own.ensures.on c.hold_own.ensures.still c.hold_own.ensures.legal
     (λ comes. c.hold_lock.ensures.lock (c.is_some-comes.ensures ∙ comes))
     (λ comes. (rw c.in-Ok-Some.field-0-is at c.in-Ok-Some.ensures.way) (c.is_some-comes.ensures ∙ comes))
-    c.hold_own.ensures.part c.hold_own.ensures.met
+    (search rules)

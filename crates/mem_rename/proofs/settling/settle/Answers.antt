@@ -1,7 +1,7 @@
-use Rattle.std.proofs.Common.{sym, subst, ap, ◌∙◌, arith, map, length}
+use Rattle.std.proofs.Common.{sym, subst, ◌∙◌, arith, map}
 use Rattle.sfs_tree.specs.NameRow.{node_number}
 use Rattle.mem_rename.specs.Rounds.{IsPlanWithin}
-use Rattle.mem_rename.proofs.Settled.{refused_same, refused_both, refused_after, none_within, settled}
+use Rattle.mem_rename.proofs.Settled.{refused_same, none_within, settled}
 use Rattle.mem_rename.proofs.settling.settle.Goals as goal
 
 pub loop-init : goal.loop-init
@@ -15,7 +15,8 @@ hold_round-requires-clause-room g c = let r = c.loop.invariant.again.room in let
 
 pub returns-then-is : goal.returns-then-is
 returns-then-is g c =
-    settled g.T.Given.given c.args.shared.now c.args.nodes c.args.move_.now c.loop.plan c.next_plan-next.result
-    (map node_number c.in-Ok-Some.above.items) c.args.core.now c.loop.core c.hold_round.new.core c.loop.invariant.within c.loop.invariant.again
-    (rw c.in-Ok-Some.field-0-is at c.in-Ok-Some.ensures.held) (c.next_plan-next.ensures.asked (map node_number c.in-Ok-Some.above.items))
-    (sym c.is.ensures ∙ c.if-is.true)
+    settled g.T.Given.given c.args.shared.now c.args.nodes c.requires.table c.args.move_.now c.loop.plan c.next_plan-next.result
+    (map node_number c.in-Some-2.above.items) c.loop.core c.hold_round.new.core c.hold_own.new.core
+    (rw c.in-Some-2.is at c.in_ok-above.ensures.held) c.hold_own.ensures.work c.hold_own.ensures.on c.hold_own.ensures.still c.hold_own.ensures.legal
+    c.args.core.now c.loop.invariant.within c.loop.invariant.again (c.next_plan-next.ensures.asked (map node_number c.in-Some-2.above.items))
+    (sym c.is.ensures ∙ c.if-is.true) c.hold_own.ensures.part
