@@ -36,8 +36,10 @@ pub record IsBack (nodes : ℕ) (before : Hand Cell Fact) (dir : NodeId) (name :
   pub is_p : as_part vp ≡ Some ready.part.value
   pub puts_p : Puts nodes (id.Part (record { 0 = then.view.core })) vp then put
 
-module _ (given : ℕ → Option OldKept) (t : TableState) (nodes : ℕ) (before : Hand Cell Fact) (table : IsFileTable t nodes) (work : IsWorking given t before) (dir : NodeId) (name : List ℕ)
-    (free : IsFree nodes before.held dir name) (part : IsSome (part_held nodes before.held before.view.core)) (ready : Ready) (mid : Hand Cell Fact) (is : IsReady nodes dir name before ready mid)
+module _ (given : ℕ → Option OldKept) (t : TableState) (nodes : ℕ) (before : Hand Cell Fact) (table : IsFileTable t nodes) (work : IsWorking given t before)
+    (dir : NodeId) (name : List ℕ)
+    (free : IsFree nodes before.held dir name) (part : IsSome (part_held nodes before.held before.view.core)) (ready : Ready) (mid : Hand Cell Fact)
+    (is : IsReady nodes dir name before ready mid)
     (put : Hand Cell Fact) (back : IsBack nodes before dir name ready mid put) where
   abbrev mine : CellId
   mine = id.Part (record { 0 = before.view.core })
@@ -52,7 +54,8 @@ module _ (given : ℕ → Option OldKept) (t : TableState) (nodes : ℕ) (before
   core_then = ap (λ (h : Hand Cell Fact). h.view.core) back.puts_b ∙ ap (λ (h : Hand Cell Fact). h.view.core) out_same
 
   puts : put ≡ record before {
-    held = with_value (cell_place nodes mine) back.vp (with_value (cell_place nodes at) back.vb (with_value (cell_place nodes at) back.none (with_value (cell_place nodes mine) is.out.0 before.held)));
+    held = with_value (cell_place nodes mine) back.vp
+        (with_value (cell_place nodes at) back.vb (with_value (cell_place nodes at) back.none (with_value (cell_place nodes mine) is.out.0 before.held)));
   }
   puts = back.puts_p ∙ (ap (λ (n : ℕ). record back.then { held = with_value (cell_place nodes (id.Part (record { 0 = n }))) back.vp back.then.held }) core_then
       ∙ (ap (λ (h : Hand Cell Fact). record h { held = with_value (cell_place nodes mine) back.vp h.held }) back.puts_b
@@ -62,9 +65,11 @@ module _ (given : ℕ → Option OldKept) (t : TableState) (nodes : ℕ) (before
   is_old = back.is_b ∙ ap Some (sym (same_bucket nodes before dir name free part ready mid is back.b back.was))
 
   pub works_again : IsWorking given t put
-  works_again = works_both given t nodes before table work dir (bucket name) free.within (bucket_small name) free.bucket_of free.bucket_is back.vb is_old is.part ready.part.value is.was is.same is.made
+  works_again = works_both given t nodes before table work dir (bucket name) free.within
+      (bucket_small name) free.bucket_of free.bucket_is back.vb is_old is.part ready.part.value is.was is.same is.made
       back.vp back.is_p back.none is.out.0 put puts
 
   pub back_again : (last : Hand Cell Fact) → IsRefused t put last → IsRefused t before last
-  back_again last refused = back_both given t nodes before table work dir (bucket name) free.within (bucket_small name) free.bucket_of free.bucket_is back.vb is_old is.part ready.part.value is.was is.same is.made
+  back_again last refused = back_both given t nodes before table work dir (bucket name) free.within
+      (bucket_small name) free.bucket_of free.bucket_is back.vb is_old is.part ready.part.value is.was is.same is.made
       back.vp back.is_p back.none is.out.0 put puts last refused

@@ -31,7 +31,8 @@ use Rattle.mem_calls.proofs.PutBack.{stands_now}
 use Rattle.mem_calls.proofs.LinkBack.{bucket_of_value}
 use Rattle.mem_calls.proofs.Unlinked.{apart_value}
 
-module _ (nodes : ℕ) (before : Hand Cell Fact) (dir : NodeId) (name : List ℕ) (free : IsFree nodes before.held dir name) (part : IsSome (part_held nodes before.held before.view.core)) where
+module _ (nodes : ℕ) (before : Hand Cell Fact) (dir : NodeId) (name : List ℕ) (free : IsFree nodes before.held dir name)
+    (part : IsSome (part_held nodes before.held before.view.core)) where
   abbrev mine : CellId
   mine = id.Part (record { 0 = before.view.core })
 
@@ -62,17 +63,20 @@ module _ (nodes : ℕ) (before : Hand Cell Fact) (dir : NodeId) (name : List ℕ
     -- and then the bucket
     module _ (out : Hand Cell Fact) (none : Cell) (taken : Puts nodes (id.Bucket dir (bucket name)) none mid out) where
       abbrev pub out_held : List (HeldCell Cell)
-      out_held = with_value (cell_place nodes (id.Bucket dir (bucket name))) none (with_value (cell_place nodes (id.Part (record { 0 = before.view.core }))) is_ready.out.0 before.held)
+      out_held = with_value (cell_place nodes (id.Bucket dir (bucket name))) none
+          (with_value (cell_place nodes (id.Part (record { 0 = before.view.core }))) is_ready.out.0 before.held)
 
       pub out_is : out ≡ record before {
-        held = with_value (cell_place nodes (id.Bucket dir (bucket name))) none (with_value (cell_place nodes (id.Part (record { 0 = before.view.core }))) is_ready.out.0 before.held);
+        held = with_value (cell_place nodes (id.Bucket dir (bucket name))) none
+            (with_value (cell_place nodes (id.Part (record { 0 = before.view.core }))) is_ready.out.0 before.held);
       }
       out_is = taken ∙ ap (λ (h : Hand Cell Fact). record h { held = with_value (cell_place nodes at) none h.held }) is_ready.out.1
 
       pub at_there : (h : Hand Cell Fact) → h.held ≡ out.held → IsSome (value_held nodes h.held (id.Bucket dir (bucket name)))
       at_there h same = some_of (value_held nodes h.held at) none (ap (λ l. value_held nodes l at) (same ∙ ap (λ (x : Hand Cell Fact). x.held) out_is)
           ∙ value_with nodes at none (with_value (cell_place nodes mine) is_ready.out.0 before.held)
-          (subst (λ (x : Hand Cell Fact). IsSome (value_held nodes x.held at)) is_ready.out.1 (some_first as_bucket (value_held nodes mid.held at) bucket_there)))
+          (subst (λ (x : Hand Cell Fact). IsSome (value_held nodes x.held at)) is_ready.out.1
+          (some_first as_bucket (value_held nodes mid.held at) bucket_there)))
 
       -- the own log's cell is still held
       pub part_out : value_held nodes out_held (id.Part (record { 0 = before.view.core })) ≡ Some is_ready.out.0
@@ -80,19 +84,23 @@ module _ (nodes : ℕ) (before : Hand Cell Fact) (dir : NodeId) (name : List ℕ
           ∙ value_with nodes mine is_ready.out.0 before.held (some_first as_part (value_held nodes before.held mine) part)
 
       -- also where the bucket is put back
-      pub part_back : (vb : Cell) (put : Hand Cell Fact) → Puts nodes (id.Bucket dir (bucket name)) vb out put → IsSome (value_held nodes put.held (id.Part (record { 0 = put.view.core })))
+      pub part_back : (vb : Cell) (put : Hand Cell Fact) → Puts nodes (id.Bucket dir (bucket name)) vb out put
+          → IsSome (value_held nodes put.held (id.Part (record { 0 = put.view.core })))
       part_back vb put puts =
           let core : put.view.core ≡ before.view.core = ap (λ (h : Hand Cell Fact). h.view.core) puts ∙ ap (λ (h : Hand Cell Fact). h.view.core) out_is in
           subst (λ (n : ℕ). IsSome (value_held nodes put.held (id.Part (record { 0 = n })))) (sym core) (some_of (value_held nodes put.held mine) is_ready.out.0
-          (ap (λ l. value_held nodes l mine) (ap (λ (h : Hand Cell Fact). h.held) puts ∙ ap (λ (h : Hand Cell Fact). with_value (cell_place nodes at) vb h.held) out_is)
+          (ap (λ l. value_held nodes l mine)
+          (ap (λ (h : Hand Cell Fact). h.held) puts ∙ ap (λ (h : Hand Cell Fact). with_value (cell_place nodes at) vb h.held) out_is)
           ∙ (apart_value nodes out_held at mine vb bucket_below ∙ part_out)))
 
--- a bucket in which a name has no row does not say that it names a directory
-pub directory_free : (given : ℕ → Option OldKept) (t : TableState) (nodes : ℕ) (before : Hand Cell Fact) → IsFileTable t nodes → IsWorking given t before → (dir : NodeId) (name : List ℕ) (free : IsFree nodes before.held dir name)
-    → get free.bucket_of.directories name ≡ None
-directory_free given t nodes before table work dir name free =
-    let first = before.view.first in
-    let shows = option_and_then_some as_bucket (value_held nodes before.held (id.Bucket dir (bucket name))) free.bucket_of free.bucket_is
-    (λ v found kind. bucket_of_value given before.view.first before.view.seen dir (bucket name) v free.bucket_of kind
-    (stands_now given t nodes before table work (id.Bucket dir (bucket name)) v (free.within, bucket_small name) found)) in
-    shows.directories name ∙ ap (if_directory (tree_after before.view.first (calls_in before.view.seen))) (ap (λ m. get m name) (sym shows.rows) ∙ free.free)
+module _ (given : ℕ → Option OldKept) (t : TableState) (nodes : ℕ) (before : Hand Cell Fact) (table : IsFileTable t nodes) (work : IsWorking given t before)
+    (dir : NodeId) (name : List ℕ) (free : IsFree nodes before.held dir name) where
+  shows : ShowsBucket (tree_after before.view.first (calls_in before.view.seen)) dir.0 (bucket name) free.bucket_of
+  shows = option_and_then_some as_bucket (value_held nodes before.held (id.Bucket dir (bucket name))) free.bucket_of free.bucket_is
+      (λ v found kind. bucket_of_value given before.view.first before.view.seen dir (bucket name) v free.bucket_of kind
+      (stands_now given t nodes before table work (id.Bucket dir (bucket name)) v (free.within, bucket_small name) found))
+
+  -- a bucket in which a name has no row does not say that it names a directory
+  pub directory_free : get free.bucket_of.directories name ≡ None
+  directory_free = shows.directories name
+      ∙ ap (if_directory (tree_after before.view.first (calls_in before.view.seen))) (ap (λ m. get m name) (sym shows.rows) ∙ free.free)

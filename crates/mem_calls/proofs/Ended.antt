@@ -240,7 +240,8 @@ module _ (given : ℕ → Option OldKept) (t : TableState) (nodes : ℕ) (before
       (stays S before.view.core dir name child (changed.sound given t nodes before c v number mid turn) (changed.core_known given t nodes before c v number mid turn) removes row.0 row.1 apart)))
 
   -- and of the directory's own
-  own_home : (k : ℕ) (value : Cell) (old new : Bucket) → k < 8 → bucket_held nodes before.held child k ≡ Some old → as_bucket value ≡ Some new → IsPlaced None old new → StandsForCell given before.view.first (account_of after_log) (id.Bucket child k) value
+  own_home : (k : ℕ) (value : Cell) (old new : Bucket) → k < 8 → bucket_held nodes before.held child k ≡ Some old → as_bucket value ≡ Some new
+      → IsPlaced None old new → StandsForCell given before.view.first (account_of after_log) (id.Bucket child k) value
   own_home k value old new lt was is nowhere = value_of_bucket given before.view.first after_log child k value new is
       (subst (λ x. Rattle.mem_values.specs.Stands.ShowsBucket x child.0 k new) (sym (changed.next_is given t nodes before c v number mid turn))
       (nowhere_after S before.view.core dir name child (changed.sound given t nodes before c v number mid turn) (changed.core_known given t nodes before c v number mid turn) removes row.0 row.1 apart k old new

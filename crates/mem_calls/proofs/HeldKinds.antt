@@ -53,7 +53,8 @@ module _ (nodes : ℕ) (before after : Hand Cell Fact) where
   holds_file node gains = some_then as_file (value_held nodes after.held (id.File node)) gains.there.0 gains.there.1 (file_kind node gains.there.0 gains.there.2)
 
   pub holds_pending : (node : NodeId) → Gains nodes (id.Pending node) before after → IsSome (pending_held nodes after.held node)
-  holds_pending node gains = some_then as_pending (value_held nodes after.held (id.Pending node)) gains.there.0 gains.there.1 (pending_kind node gains.there.0 gains.there.2)
+  holds_pending node gains = some_then as_pending (value_held nodes after.held (id.Pending node)) gains.there.0 gains.there.1
+      (pending_kind node gains.there.0 gains.there.2)
 
   pub holds_bucket : (node : NodeId) (number : ℕ) → Gains nodes (id.Bucket node number) before after → IsSome (bucket_held nodes after.held node number)
   holds_bucket node number gains = some_then as_bucket (value_held nodes after.held (id.Bucket node number)) gains.there.0 gains.there.1 (bucket_kind node number gains.there.0 gains.there.2)
@@ -67,7 +68,8 @@ module _ (nodes : ℕ) (before after : Hand Cell Fact) where
   pub still_file : (node : NodeId) (f : FileCell) → StillHolds nodes before after → file_held nodes before.held node ≡ Some f → file_held nodes after.held node ≡ Some f
   still_file node f still is = still_then as_file (id.File node) f still is
 
-  pub still_pending : (node : NodeId) (p : Pending) → StillHolds nodes before after → pending_held nodes before.held node ≡ Some p → pending_held nodes after.held node ≡ Some p
+  pub still_pending : (node : NodeId) (p : Pending) → StillHolds nodes before after → pending_held nodes before.held node ≡ Some p
+      → pending_held nodes after.held node ≡ Some p
   still_pending node p still is = still_then as_pending (id.Pending node) p still is
 
   pub still_directory : (node : NodeId) (number : ℕ) → StillHolds nodes before after → HoldsDirectory nodes before.held node number → HoldsDirectory nodes after.held node number

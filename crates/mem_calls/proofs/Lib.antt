@@ -40,4 +40,5 @@ pub mod MakeFaults
 pub mod NewNodes
 pub mod NewCells
 pub mod SettledHome
+pub mod Creation
 pub mod Created

@@ -111,13 +111,18 @@ pub record Linking (given : ℕ → Option OldKept) (t : TableState) (nodes : �
   pub is : IsComing nodes dir name file.0 File before coming out
   pub drawn : Stamps (IsLawfulLog given) (StandsAt given) (call.Link file dir name) reply.Ok out number mid
 
-pub linking : {given : ℕ → Option OldKept} {t : TableState} {nodes : ℕ} {before : Hand Cell Fact} {file dir : NodeId} {name : List ℕ} {coming : Coming} {out : Hand Cell Fact} {number : ℕ}
-    {mid : Hand Cell Fact} → IsFileTable t nodes → IsWorking given t before → MayLink nodes before.held file dir name → IsSome (part_held nodes before.held before.view.core)
-    → InEach before (λ tree. verdict tree before.view.core (call.Link file dir name) ≡ done (Adds dir.0 name file.0)) → IsComing nodes dir name file.0 File before coming out
-    → Stamps (IsLawfulLog given) (StandsAt given) (call.Link file dir name) reply.Ok out number mid → Linking given t nodes before file dir name coming out number mid
+pub linking : {given : ℕ → Option OldKept} {t : TableState} {nodes : ℕ} {before : Hand Cell Fact} {file dir : NodeId} {name : List ℕ} {coming : Coming}
+    {out : Hand Cell Fact} {number : ℕ}
+    {mid : Hand Cell Fact} → IsFileTable t nodes → IsWorking given t before → MayLink nodes before.held file dir name
+    → IsSome (part_held nodes before.held before.view.core)
+    → InEach before (λ tree. verdict tree before.view.core (call.Link file dir name) ≡ done (Adds dir.0 name file.0))
+    → IsComing nodes dir name file.0 File before coming out
+    → Stamps (IsLawfulLog given) (StandsAt given) (call.Link file dir name) reply.Ok out number mid
+    → Linking given t nodes before file dir name coming out number mid
 linking table work may part due is drawn = record { table = table; work = work; may = may; part = part; due = due; is = is; drawn = drawn }
 
-module _ (given : ℕ → Option OldKept) (t : TableState) (nodes : ℕ) (before : Hand Cell Fact) (table : IsFileTable t nodes) (work : IsWorking given t before) (file dir : NodeId)
+module _ (given : ℕ → Option OldKept) (t : TableState) (nodes : ℕ) (before : Hand Cell Fact) (table : IsFileTable t nodes) (work : IsWorking given t before)
+    (file dir : NodeId)
     (name : List ℕ) (may : MayLink nodes before.held file dir name) (part : IsSome (part_held nodes before.held before.view.core))
     (due : InEach before (λ tree. verdict tree before.view.core (call.Link file dir name) ≡ done (Adds dir.0 name file.0))) where
   abbrev own_log : CellId
@@ -140,7 +145,8 @@ module _ (given : ℕ → Option OldKept) (t : TableState) (nodes : ℕ) (before
       (same_place nodes (id.File file) which))
       (same_place nodes own_log which)
 
-module _ {given : ℕ → Option OldKept} {t : TableState} {nodes : ℕ} {before : Hand Cell Fact} {file dir : NodeId} {name : List ℕ} {coming : Coming} {out : Hand Cell Fact} {number : ℕ}
+module _ {given : ℕ → Option OldKept} {t : TableState} {nodes : ℕ} {before : Hand Cell Fact} {file dir : NodeId} {name : List ℕ} {coming : Coming}
+    {out : Hand Cell Fact} {number : ℕ}
     {mid : Hand Cell Fact} (r : Linking given t nodes before file dir name coming out number mid) where
   abbrev mine : CellId
   mine = id.Part (record { 0 = before.view.core })
@@ -207,18 +213,21 @@ module _ {given : ℕ → Option OldKept} {t : TableState} {nodes : ℕ} {before
   mid_held = changed.mid_held given t nodes before c v number mid turn
 
   pub bucket_out : IsSome (value_held nodes mid.held (id.Bucket dir (bucket name)))
-  bucket_out = at_there nodes before dir name r.may.place r.part coming.ready r.is.mid r.is.ready out none_b r.is.out.1 mid (ap (λ (h : Hand Cell Fact). h.held) r.drawn.frame)
+  bucket_out = at_there nodes before dir name r.may.place r.part coming.ready r.is.mid r.is.ready out none_b r.is.out.1 mid
+      (ap (λ (h : Hand Cell Fact). h.held) r.drawn.frame)
 
   -- the bucket of the name, which is the one that was made ready
   row : IsWithRow name file.0 File r.may.place.bucket_of coming.bucket.value
-  row = let same : r.is.old ≡ r.may.place.bucket_of = cc (sym r.is.was ∙ r.may.place.bucket_is) in subst (λ b. IsWithRow name file.0 File b coming.bucket.value) same r.is.row
+  row = let same : r.is.old ≡ r.may.place.bucket_of = cc (sym r.is.was ∙ r.may.place.bucket_is) in
+      subst (λ b. IsWithRow name file.0 File b coming.bucket.value) same r.is.row
 
   adds : (verdict S before.view.core c).effect ≡ Adds dir.0 name file.0
   adds = ap (λ (w : Verdict). w.effect) (changed.verdict_is given t nodes before c v number mid turn)
 
   file_stood : StandsFile before.view.first (calls_in log) file.0 r.may.file_of
   file_stood = option_and_then_some as_file (value_held nodes before.held (id.File file)) r.may.file_of r.may.file_is
-      (λ x found kind. file_of_value given before.view.first log file x r.may.file_of kind (changed.stood given t nodes before c v number mid turn (id.File file) x r.may.file_within found))
+      (λ x found kind. file_of_value given before.view.first log file x r.may.file_of kind
+      (changed.stood given t nodes before c v number mid turn (id.File file) x r.may.file_within found))
 
   some : 0 < file_links S file.0
   some = let e = file_stood.links in let lt = r.may.linked in omega (arith, e, lt)
@@ -236,7 +245,8 @@ module _ {given : ℕ → Option OldKept} {t : TableState} {nodes : ℕ} {before
   bucket_home value is = value_of_bucket given before.view.first after_log dir (bucket name) value coming.bucket.value is
       (subst (λ x. ShowsBucket x dir.0 (bucket name) coming.bucket.value) (sym (changed.next_is given t nodes before c v number mid turn))
       (bucket_after S before.view.core c sound core_known dir.0 name file.0 adds r.may.place.bucket_of coming.bucket.value
-      (name_shows before nodes (stamped.counted given t nodes before r.table r.work) S (changed.meets given t nodes before c v number mid turn) dir name (bucket name)
+      (name_shows before nodes (stamped.counted given t nodes before r.table r.work) S (changed.meets given t nodes before c v number mid turn) dir name
+      (bucket name)
       r.may.place.bucket_of r.may.place.within refl r.may.place.bucket_is)
       File row r.may.place.free file_next refl))
 
@@ -245,9 +255,11 @@ module _ {given : ℕ → Option OldKept} {t : TableState} {nodes : ℕ} {before
   file_home new value is links same = value_of_file given before.view.first after_log file value new is (record {
     links = links_next ∙ ap (λ x. file_links x file.0) (sym (changed.next_is given t nodes before c v number mid turn));
     bytes = ap (λ f. f.bytes) same ∙ (file_stood.bytes
-        ∙ (sym ((calls_keep_the_rest S before.view.core c sound core_known).bytes file.0 refl) ∙ ap (λ x. bytes_of x file.0) (sym (changed.next_is given t nodes before c v number mid turn))));
+        ∙ (sym ((calls_keep_the_rest S before.view.core c sound core_known).bytes file.0 refl)
+        ∙ ap (λ x. bytes_of x file.0) (sym (changed.next_is given t nodes before c v number mid turn))));
     marks = λ block. ap (λ f. Rattle.mem_files.specs.File.mark_of f block) same ∙ (file_stood.marks block
-        ∙ (sym (last_touch-push before.view.first (calls_in log) entry file.0 block (λ edit is_edit. let never : Adds dir.0 name file.0 ≡ Edits file.0 edit = sym adds ∙ is_edit in cc))
+        ∙ (sym (last_touch-push before.view.first (calls_in log) entry file.0 block
+        (λ edit is_edit. let never : Adds dir.0 name file.0 ≡ Edits file.0 edit = sym adds ∙ is_edit in cc))
         ∙ ap (λ l. last_touch before.view.first None l file.0 block) (sym (calls_snoc log entry))));
   })
     where
@@ -256,7 +268,8 @@ module _ {given : ℕ → Option OldKept} {t : TableState} {nodes : ℕ} {before
 
       count_next : count_of next.rows file.0 ≡ count_of S.rows file.0 + 1
       count_next =
-          (nodes_after S before.view.core (verdict S before.view.core c).effect (verdict S before.view.core c).makes file.0 (changed.fits given t nodes before c v number mid turn)).links
+          (nodes_after S before.view.core (verdict S before.view.core c).effect (verdict S before.view.core c).makes file.0
+          (changed.fits given t nodes before c v number mid turn)).links
           ∙ (ap (λ e. links_after S e file.0 (count_of S.rows file.0)) adds ∙ ap (λ b. if b then count_of S.rows file.0 + 1 else count_of S.rows file.0) here)
 
       links_next : new.links ≡ file_links next file.0
@@ -266,19 +279,23 @@ module _ {given : ℕ → Option OldKept} {t : TableState} {nodes : ℕ} {before
 
   logs : entry_logged S entry ≡ log_entry number dir.0 name file.0 File Add None [] ∷ []
   logs = ap (λ (w : Verdict). logged_by S before.view.core number w.effect w.makes) (changed.verdict_is given t nodes before c v number mid turn)
-      ∙ ap (λ k. log_entry number dir.0 name file.0 k Add None [] ∷ []) (sym (kind_again (kind_of S file.0)) ∙ ap kind_if (sym (directory_by_kind S file.0) ∙ is_file))
+      ∙ ap (λ k. log_entry number dir.0 name file.0 k Add None [] ∷ [])
+      (sym (kind_again (kind_of S file.0)) ∙ ap kind_if (sym (directory_by_kind S file.0) ∙ is_file))
 
   made_next : made_by S before.view.core ≡ made_by next before.view.core
   made_next = sym ((calls_keep_the_rest S before.view.core c sound core_known).own refl)
 
   part_stands : StandsPart before.view.first (account_of log) before.view.core coming.ready.part.value
-  part_stands = same_part_stands given before.view.first (account_of log) before.view.core r.is.ready.part coming.ready.part.value r.is.ready.same r.is.ready.made
+  part_stands = same_part_stands given before.view.first
+      (account_of log) before.view.core r.is.ready.part coming.ready.part.value r.is.ready.same r.is.ready.made
       (changed.part_stood given t nodes before c v number mid turn r.is.ready.part r.is.ready.was)
 
   pub has_room : length before.view.mine ≤ 2 ^ 50 → HasRoomFor (log_entry number dir.0 name file.0 File Add None [] ∷ []) coming.ready.part.value
-  has_room few = room_for_one before.view.first (account_of log) before.view.core coming.ready.part.value (log_entry number dir.0 name file.0 File Add None []) part_stands
+  has_room few = room_for_one before.view.first (account_of log) before.view.core coming.ready.part.value
+      (log_entry number dir.0 name file.0 File Add None []) part_stands
       (changed.legal_log given t nodes before c v number mid turn) (changed.number_is given t nodes before c v number mid turn) r.is.ready.room
-      (let e = r.is.ready.same.entries in let lt = changed.few_entries given t nodes before c v number mid turn r.is.ready.part r.is.ready.was few in omega (arith, e, lt))
+      (let e = r.is.ready.same.entries in let lt = changed.few_entries given t nodes before c v number mid turn r.is.ready.part r.is.ready.was few in
+      omega (arith, e, lt))
 
   module _ (vb : Cell) (three : Hand Cell Fact) (puts_b : Puts nodes (id.Bucket dir (bucket name)) vb mid three) where
     three_held : three.held ≡ with_value (cell_place nodes at) vb out_held
@@ -313,13 +330,16 @@ module _ {given : ℕ → Option OldKept} {t : TableState} {nodes : ℕ} {before
           ∙ part_out nodes before dir name r.may.place r.part coming.ready r.is.mid r.is.ready out none_b r.is.out.1))
 
       pub part_there : IsSome (value_held nodes four.held (id.Part (record { 0 = four.view.core })))
-      part_there = subst (λ (n : ℕ). IsSome (value_held nodes four.held (id.Part (record { 0 = n })))) (sym core_four) (some_of (value_held nodes four.held mine) none_p mine_there)
+      part_there = subst (λ (n : ℕ). IsSome (value_held nodes four.held (id.Part (record { 0 = n })))) (sym core_four)
+          (some_of (value_held nodes four.held mine) none_p mine_there)
 
       module _ (is_b : as_bucket vb ≡ Some coming.bucket.value) (after : PartCell) (vp : Cell) (is_p : as_part vp ≡ Some after)
-          (added : IsAddedTo coming.ready.part.value.log (log_entry number dir.0 name file.0 File Add None [] ∷ []) after.log) (made : after.made ≡ coming.ready.part.value.made)
+          (added : IsAddedTo coming.ready.part.value.log (log_entry number dir.0 name file.0 File Add None [] ∷ []) after.log)
+          (made : after.made ≡ coming.ready.part.value.made)
           (final : Hand Cell Fact) (puts_p : Puts nodes (id.Part (record { 0 = four.view.core })) vp four final) where
         abbrev new_held : List (HeldCell Cell)
-        new_held = with_value (cell_place nodes mine) vp (with_value (cell_place nodes (id.File file)) raised.change.value (with_value (cell_place nodes at) vb out_held))
+        new_held = with_value (cell_place nodes mine) vp
+            (with_value (cell_place nodes (id.File file)) raised.change.value (with_value (cell_place nodes at) vb out_held))
 
         puts : final ≡ record four { held = with_value (cell_place nodes mine) vp four.held }
         puts = puts_p ∙ ap (λ (n : ℕ). record four { held = with_value (cell_place nodes (id.Part (record { 0 = n }))) vp four.held }) core_four
@@ -352,7 +372,8 @@ module _ {given : ℕ → Option OldKept} {t : TableState} {nodes : ℕ} {before
         each which x is_cell found = elim (of_changed nodes (length t.first.made) which mine x vp _ is_cell r.work.core found) [
           | inl one ↦ stood_by which mine x vp one.0 one.1 part_goes
           | inr not_own ↦ elim (of_changed nodes (length t.first.made) which (id.File file) x raised.change.value _ is_cell r.may.file_within not_own.1) [
-            | inl two ↦ stood_by which (id.File file) x raised.change.value two.0 two.1 (file_home raised.change.new raised.change.value raised.change.is raised_links raised_file)
+            | inl two ↦ stood_by which (id.File file) x raised.change.value two.0 two.1
+                (file_home raised.change.new raised.change.value raised.change.is raised_links raised_file)
             | inr not_file ↦ elim (of_changed nodes (length t.first.made) which at x vb _ is_cell (r.may.place.within, bucket_small name) not_file.1) [
               | inl three_is ↦ stood_by which at x vb three_is.0 three_is.1 (bucket_home vb is_b)
               | inr not_bucket ↦ elim (of_changed nodes (length t.first.made) which at x none_b _ is_cell (r.may.place.within, bucket_small name) not_bucket.1) [
@@ -360,7 +381,8 @@ module _ {given : ℕ → Option OldKept} {t : TableState} {nodes : ℕ} {before
                 | inr not_again ↦ elim (of_changed nodes (length t.first.made) which mine x none_p _ is_cell r.work.core not_again.1) [
                   | inl own_again ↦ absurd (not_own.0 (ap (cell_place nodes) (sym own_again.0)))
                   | inr last ↦ changed.kept given t nodes before c v number mid turn which x is_cell last.1
-                      (link_keeps nodes S before.view.core file dir name which (changed.verdict_is given t nodes before c v number mid turn) not_own.0 not_file.0 not_bucket.0)
+                      (link_keeps nodes S before.view.core file dir name which
+                      (changed.verdict_is given t nodes before c v number mid turn) not_own.0 not_file.0 not_bucket.0)
                 ]
               ]
             ]

@@ -42,9 +42,11 @@ above a n lt = grind (arith, nat_tests)
 
 module _ (tree : TreeState) (core : ℕ) (dir : NodeId) (name : List ℕ) (kind : Kind) where
   abbrev rest : Option Code
-  rest = if is_some (row_of tree dir.0 name) then Some Exists else if is_full tree dir.0 name then Some DirFull else if nat_le tree.share (made_by tree core) then Some NoNodes else None
+  rest = if is_some (row_of tree dir.0 name) then Some Exists else if is_full tree dir.0 name then Some DirFull else if nat_le tree.share
+      (made_by tree core) then Some NoNodes else None
 
-  make_by : (fault : Option Code) → make_fault tree core dir.0 name ≡ fault → verdict tree core (call.Make dir name kind) ≡ or_else fault (make_node tree core dir.0 name kind)
+  make_by : (fault : Option Code) → make_fault tree core dir.0 name ≡ fault
+      → verdict tree core (call.Make dir name kind) ≡ or_else fault (make_node tree core dir.0 name kind)
   make_by fault is = ap (λ f. or_else f (make_node tree core dir.0 name kind)) is
 
   pub make_refused : (code : Code) → directory_fault tree dir.0 ≡ Some code → verdict tree core (call.Make dir name kind) ≡ refused code
@@ -55,7 +57,8 @@ module _ (tree : TreeState) (core : ℕ) (dir : NodeId) (name : List ℕ) (kind 
         → make_fault tree core dir.0 name ≡ (if row then Some Exists else if full then Some DirFull else if out then Some NoNodes else None)
     chain row full out row_is full_is out_is =
         ap (λ f. option_or f rest) place
-        ∙ (λ i. if (ap is_some (row_in tree dir.0 name b shows) ∙ row_is) i then Some Exists else if (ap (λ m. nat_le 4096 (len m)) (sym shows.rows) ∙ full_is) i then Some DirFull
+        ∙ (λ i. if (ap is_some (row_in tree dir.0 name b shows) ∙ row_is) i then Some Exists else if
+        (ap (λ m. nat_le 4096 (len m)) (sym shows.rows) ∙ full_is) i then Some DirFull
         else if out_is i then Some NoNodes else None)
 
     pub make_exists : is_some (get b.rows name) ≡ true → verdict tree core (call.Make dir name kind) ≡ refused Exists
@@ -64,7 +67,8 @@ module _ (tree : TreeState) (core : ℕ) (dir : NodeId) (name : List ℕ) (kind 
     pub make_full : is_some (get b.rows name) ≡ false → 4096 ≤ len b.rows → verdict tree core (call.Make dir name kind) ≡ refused DirFull
     make_full row full = make_by (Some DirFull) (chain false true (nat_le tree.share (made_by tree core)) row (at_most 4096 (len b.rows) full) refl)
 
-    pub make_out : is_some (get b.rows name) ≡ false → len b.rows < 4096 → tree.share ≤ made_by tree core → verdict tree core (call.Make dir name kind) ≡ refused NoNodes
+    pub make_out : is_some (get b.rows name) ≡ false → len b.rows < 4096 → tree.share ≤ made_by tree core
+        → verdict tree core (call.Make dir name kind) ≡ refused NoNodes
     make_out row free out = make_by (Some NoNodes) (chain false false true row (above 4096 (len b.rows) free) (at_most tree.share (made_by tree core) out))
 
     pub make_done : (child : NodeId) → is_some (get b.rows name) ≡ false → len b.rows < 4096 → made_by tree core < tree.share → next_number tree core ≡ child.0
@@ -82,13 +86,6 @@ module _ (hand : Hand Cell Fact) (nodes : ℕ) (counted : nodes ≡ node_count h
       let most = mul-le-mul_left hand.view.first.share up in
       omega (arith, lt, most, counted)
 
-  pub child_below : (child : NodeId) → next ≡ Some child → child.0 < nodes
-  child_below child is =
-      let n = subst (λ o. IsNext hand.view.first.first hand.view.first.share hand.view.core has.part.made o) is has.next_is in
-      let below = count_below has.part.made n.0 in
-      let number = n.1 in
-      omega (arith, below, number)
-
   -- a core counts fewer nodes than there are numbers
   made_below : (child : NodeId) → next ≡ Some child → has.part.made < nodes
   made_below child is =
@@ -96,7 +93,8 @@ module _ (hand : Hand Cell Fact) (nodes : ℕ) (counted : nodes ≡ node_count h
       let below = count_below has.part.made n.0 in
       omega (arith, below)
 
-  pub few_made : (child : NodeId) → next ≡ Some child → nodes < 4294967296 → (part : PartCell) → part_held nodes hand.held hand.view.core ≡ Some part → part.made < 4294967295
+  pub few_made : (child : NodeId) → next ≡ Some child → nodes < 4294967296 → (part : PartCell) → part_held nodes hand.held hand.view.core ≡ Some part
+      → part.made < 4294967295
   few_made child is fits part held =
       let same : has.part ≡ part = cc (sym has.held ∙ held) in
       subst (λ (p : PartCell). p.made < 4294967295) same (let below = made_below child is in omega (arith, below, fits))
@@ -143,7 +141,8 @@ module _ (hand : Hand Cell Fact) (nodes : ℕ) (counted : nodes ≡ node_count h
         lacks (Some x) none some = absurd (cc (none))
 
 -- the numbers of a table's cores
-module _ (t : TableState) (nodes : ℕ) (table : IsFileTable t nodes) (numbers : Numbers) (are : AreNumbersOf t.first numbers) (core : ℕ) (known : core < length t.first.made) where
+module _ (t : TableState) (nodes : ℕ) (table : IsFileTable t nodes) (numbers : Numbers) (are : AreNumbersOf t.first numbers) (core : ℕ)
+    (known : core < length t.first.made) where
   shares_below : numbers.first + core * numbers.share + numbers.share ≤ nodes
   shares_below =
       let up : core + 1 ≤ length t.first.made = omega (arith, known) in

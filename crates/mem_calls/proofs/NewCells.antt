@@ -37,7 +37,8 @@ IsNewCell child kind which =
     ((kind ≡ File) × (which ≡ id.File child)) ⊎ (((kind ≡ Directory) × ((number : ℕ) × (which ≡ id.Bucket child number))) ⊎ (which ≡ id.Pending child))
 
 pub new_is : (child : NodeId) (kind : Kind) (which : CellId) → is_new_cell child kind which ≡ true → IsNewCell child kind which
-new_is child Directory (id.Bucket node number) new = inr (inl (refl, (number, ap (λ (n : NodeId). id.Bucket n number) (node_is child node (or_same (child.0 == node.0) new)))))
+new_is child Directory (id.Bucket node number) new = inr
+    (inl (refl, (number, ap (λ (n : NodeId). id.Bucket n number) (node_is child node (or_same (child.0 == node.0) new)))))
 new_is child File (id.File node) new = inl (refl, ap id.File (node_is child node (or_same (child.0 == node.0) new)))
 new_is child Directory (id.Pending node) new = inr (inr (ap id.Pending (node_is child node new)))
 new_is child File (id.Pending node) new = inr (inr (ap id.Pending (node_is child node new)))
@@ -58,26 +59,31 @@ bucket_old child File dir number apart = refl
 bucket_old child Directory dir number apart = ap (λ b. b || false) (not_equal child.0 dir.0 apart)
 
 -- a cell that passes a test lies apart from one that does not
-pub apart_by : (nodes cores : ℕ) (test : CellId → Bool) (one other : CellId) → IsCell nodes cores one → IsCell nodes cores other → test one ≡ false → test other ≡ true
-    → cell_place nodes one ≡ cell_place nodes other → ⊥
-apart_by nodes cores test one other first second fails passes same = both_ways (test one) fails (ap test (places_apart nodes cores one other first second same) ∙ passes)
+module _ (nodes cores : ℕ) (test : CellId → Bool) (one other : CellId) where
+  pub apart_by : IsCell nodes cores one → IsCell nodes cores other → test one ≡ false → test other ≡ true → cell_place nodes one ≡ cell_place nodes other → ⊥
+  apart_by first second fails passes same = both_ways (test one) fails (ap test (places_apart nodes cores one other first second same) ∙ passes)
 
 module _ (nodes : ℕ) (held : List (HeldCell Cell)) (child : NodeId) (kind : Kind) (holds : HoldsNew nodes held child kind) where
   -- they are held
   pub new_held : (cores : ℕ) (which : CellId) → IsCell nodes cores which → is_new_cell child kind which ≡ true → IsSome (value_held nodes held which)
   new_held cores which is_cell new = elim (new_is child kind which new) [
-    | inl file ↦ subst (λ w. IsSome (value_held nodes held w)) (sym file.1) (some_first as_file (value_held nodes held (id.File child)) (subst (HoldsOwn nodes held child) file.0 holds.own))
+    | inl file ↦ subst (λ w. IsSome (value_held nodes held w)) (sym file.1)
+        (some_first as_file (value_held nodes held (id.File child)) (subst (HoldsOwn nodes held child) file.0 holds.own))
     | inr other ↦ elim other [
       | inl directory ↦
           let lt = (subst (IsCell nodes cores) directory.1.1 is_cell).1 in
           subst (λ w. IsSome (value_held nodes held w)) (sym directory.1.1)
-          (some_first as_bucket (value_held nodes held (id.Bucket child directory.1.0)) (subst (HoldsOwn nodes held child) directory.0 holds.own directory.1.0 lt))
-      | inr flushed ↦ subst (λ w. IsSome (value_held nodes held w)) (sym flushed) (some_first as_pending (value_held nodes held (id.Pending child)) holds.pending)
+          (some_first as_bucket (value_held nodes held (id.Bucket child directory.1.0))
+          (subst (HoldsOwn nodes held child) directory.0 holds.own directory.1.0 lt))
+      | inr flushed ↦ subst (λ w. IsSome (value_held nodes held w)) (sym flushed)
+          (some_first as_pending (value_held nodes held (id.Pending child)) holds.pending)
     ]
   ]
 
   -- and are so in other hands, where these have the same values of them
-  pub new_again : (other : List (HeldCell Cell)) → ((cores : ℕ) (which : CellId) → IsCell nodes cores which → is_new_cell child kind which ≡ true → value_held nodes other which ≡ value_held nodes held which)
+  pub new_again : (other : List (HeldCell Cell))
+      → ((cores : ℕ) (which : CellId) → IsCell nodes cores which → is_new_cell child kind which ≡ true
+      → value_held nodes other which ≡ value_held nodes held which)
       → HoldsNew nodes other child kind
   new_again other same = record {
     within = holds.within;
@@ -94,7 +100,8 @@ module _ (nodes : ℕ) (held : List (HeldCell Cell)) (child : NodeId) (kind : Ki
 
       by : (k : Kind) → kind ≡ k → HoldsOwn nodes other child kind
       by File is = subst (HoldsOwn nodes other child) (sym is) (subst (λ o. IsSome (option_and_then as_file o))
-          (sym (same 0 (id.File child) holds.within (ap (λ k. is_new_cell child k (id.File child)) is ∙ ap (λ b. b || false) itself))) (subst (HoldsOwn nodes held child) is holds.own))
+          (sym (same 0 (id.File child) holds.within (ap (λ k. is_new_cell child k (id.File child)) is ∙ ap (λ b. b || false) itself)))
+          (subst (HoldsOwn nodes held child) is holds.own))
       by Directory is = subst (HoldsOwn nodes other child) (sym is) (λ number lt. subst (λ o. IsSome (option_and_then as_bucket o))
           (sym (same 0 (id.Bucket child number) (holds.within, lt) (ap (λ k. is_new_cell child k (id.Bucket child number)) is ∙ ap (λ b. b || false) itself)))
           (subst (HoldsOwn nodes held child) is holds.own number lt))
@@ -102,13 +109,16 @@ module _ (nodes : ℕ) (held : List (HeldCell Cell)) (child : NodeId) (kind : Ki
 -- what is held for a creation still is
 module _ (nodes : ℕ) (before after : Hand Cell Fact) (still : StillHolds nodes before after) where
   pub still_own : (child : NodeId) (kind : Kind) → HoldsOwn nodes before.held child kind → HoldsOwn nodes after.held child kind
-  still_own child File own = let f = is_value (file_held nodes before.held child) own in some_of (file_held nodes after.held child) f.0 (still_file nodes before after child f.0 still f.1)
+  still_own child File own = let f = is_value (file_held nodes before.held child) own in
+      some_of (file_held nodes after.held child) f.0 (still_file nodes before after child f.0 still f.1)
   still_own child Directory own = still_buckets nodes before after child still own
 
   pub still_flushed : (child : NodeId) → IsSome (pending_held nodes before.held child) → IsSome (pending_held nodes after.held child)
-  still_flushed child some = let p = is_value (pending_held nodes before.held child) some in some_of (pending_held nodes after.held child) p.0 (still_pending nodes before after child p.0 still p.1)
+  still_flushed child some = let p = is_value (pending_held nodes before.held child) some in
+      some_of (pending_held nodes after.held child) p.0 (still_pending nodes before after child p.0 still p.1)
 
-  pub still_creation : (dir : NodeId) (name : List ℕ) (kind : Kind) (next : Option NodeId) → HoldsCreation nodes before.held dir name kind next → HoldsCreation nodes after.held dir name kind next
+  pub still_creation : (dir : NodeId) (name : List ℕ) (kind : Kind) (next : Option NodeId) → HoldsCreation nodes before.held dir name kind next
+      → HoldsCreation nodes after.held dir name kind next
   still_creation dir name kind next holds = record {
     place = still_directory nodes before after dir (bucket name) still holds.place;
     new = λ child is within apart. let new = holds.new child is within apart in
@@ -116,18 +126,14 @@ module _ (nodes : ℕ) (before after : Hand Cell Fact) (still : StillHolds nodes
   }
 
 -- the place of a name, the node's own cells, and then what was flushed of it
-pub creation_held : (nodes : ℕ) (before after : Hand Cell Fact) (dir : NodeId) (name : List ℕ) (child : NodeId) (kind : Kind) (next : Option NodeId) → HoldsDirectory nodes before.held dir (bucket name)
-    → HoldsOwn nodes before.held child kind → Gains nodes (id.Pending child) before after → child.0 < nodes → next ≡ Some child → HoldsCreation nodes after.held dir name kind next
-creation_held nodes before after dir name child kind next place own gains within is = record {
-  place = still_directory nodes before after dir (bucket name) gains.still place;
-  new = λ other is_other lt apart. subst (λ n. HoldsNew nodes after.held n kind) (some_node child other (sym is ∙ is_other))
-      (record { within = within; own = still_own nodes before after gains.still child kind own; pending = holds_pending nodes before after child gains });
-}
-  where
-    some_node : (a b : NodeId) → ◌≡◌ {A = Option NodeId} (Some a) (Some b) → a ≡ b
-    some_node a b e = cc (e)
-
--- where there is no such place no cells of a node need be held
-pub creation_nowhere : (nodes : ℕ) (hand : Hand Cell Fact) (dir : NodeId) (name : List ℕ) (kind : Kind) (next : Option NodeId) → HoldsDirectory nodes hand.held dir (bucket name)
-    → ((child : NodeId) → next ≡ Some child → dir.0 < nodes → child.0 ≢ dir.0 → ⊥) → HoldsCreation nodes hand.held dir name kind next
-creation_nowhere nodes hand dir name kind next place nowhere = record { place = place; new = λ child is lt apart. absurd (nowhere child is lt apart) }
+module _ (nodes : ℕ) (before after : Hand Cell Fact) (dir : NodeId) (name : List ℕ) (child : NodeId) (kind : Kind) (next : Option NodeId) where
+  pub creation_held : HoldsDirectory nodes before.held dir (bucket name) → HoldsOwn nodes before.held child kind → Gains nodes (id.Pending child) before after
+      → child.0 < nodes → next ≡ Some child → HoldsCreation nodes after.held dir name kind next
+  creation_held place own gains within is = record {
+    place = still_directory nodes before after dir (bucket name) gains.still place;
+    new = λ other is_other lt apart. subst (λ n. HoldsNew nodes after.held n kind) (some_node child other (sym is ∙ is_other))
+        (record { within = within; own = still_own nodes before after gains.still child kind own; pending = holds_pending nodes before after child gains });
+  }
+    where
+      some_node : (a b : NodeId) → ◌≡◌ {A = Option NodeId} (Some a) (Some b) → a ≡ b
+      some_node a b e = cc (e)

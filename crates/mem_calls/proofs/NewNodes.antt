@@ -61,7 +61,8 @@ both_false true b one two = one
 both_false false b one two = two
 
 -- cells that a creation does not change
-old_bucket : (child node : NodeId) (kind : Kind) (k : ℕ) → is_new_cell child kind (id.Bucket node k) ≡ false → (is_directory_kind kind && (child.0 == node.0)) ≡ false
+old_bucket : (child node : NodeId) (kind : Kind) (k : ℕ) → is_new_cell child kind (id.Bucket node k) ≡ false
+    → (is_directory_kind kind && (child.0 == node.0)) ≡ false
 old_bucket child node File k new = refl
 old_bucket child node Directory k new = or_first (child.0 == node.0) false new
 
@@ -70,7 +71,8 @@ old_pending child node File new = new
 old_pending child node Directory new = new
 
 -- where no birth is one of this node none is found
-none_found : (node : ℕ) (births : List Birth) → ((birth : Birth) → IsOneOf births birth → birth.node ≡ node → ⊥) → find (λ (birth : Birth). birth.node == node) births ≡ None
+none_found : (node : ℕ) (births : List Birth) → ((birth : Birth) → IsOneOf births birth → birth.node ≡ node → ⊥)
+    → find (λ (birth : Birth). birth.node == node) births ≡ None
 none_found node [] none = refl
 none_found node (birth ∷ births) none = ⊎_elim
     (λ (here : (birth.node == node) ≡ true). absurd (none birth (inl refl) (eqb-true birth.node node here)))
@@ -125,11 +127,13 @@ module _ (tree : TreeState) (core : ℕ) (dir : NodeId) (name : List ℕ) (child
 
   pub kind_next : is_directory (tree_after_call tree core (call.Make dir name kind)) child.0 ≡ is_directory_kind kind
   kind_next = directory_by_kind next child.0
-      ∙ ap is_directory_kind ((nodes_after tree core effect (verdict tree core c).makes child.0 fits).kind ∙ (ap (λ m. kind_after tree core m child.0) makes ∙ kind_made))
+      ∙ ap is_directory_kind ((nodes_after tree core effect (verdict tree core c).makes child.0 fits).kind
+      ∙ (ap (λ m. kind_after tree core m child.0) makes ∙ kind_made))
 
   count_next : count_of next.rows child.0 ≡ count_of tree.rows child.0 + 1
   count_next = (nodes_after tree core effect (verdict tree core c).makes child.0 fits).links
-      ∙ (ap (λ e. links_after tree e child.0 (count_of tree.rows child.0)) adds ∙ ap (λ b. if b then count_of tree.rows child.0 + 1 else count_of tree.rows child.0) (eq-eqb child.0 child.0 refl))
+      ∙ (ap (λ e. links_after tree e child.0 (count_of tree.rows child.0)) adds
+      ∙ ap (λ b. if b then count_of tree.rows child.0 + 1 else count_of tree.rows child.0) (eq-eqb child.0 child.0 refl))
 
   -- a file has one link more
   pub links_next : kind ≡ File → file_links (tree_after_call tree core (call.Make dir name kind)) child.0 ≡ file_links tree child.0 + 1
@@ -143,7 +147,8 @@ module _ (tree : TreeState) (core : ℕ) (dir : NodeId) (name : List ℕ) (child
   stands_next : kind ≡ Directory → stands_of next child.0 ≡ Some dir.0
   stands_next directory =
       let kind_is : is_directory next child.0 ≡ true = kind_next ∙ ap is_directory_kind directory in
-      ap (λ b. if b then holder_of next child.0 else None) kind_is ∙ holder_is next (calls_keep_sound tree core c is lt).sound child.0 dir.0 name row_next kind_is
+      ap (λ b. if b then holder_of next child.0 else None) kind_is
+      ∙ holder_is next (calls_keep_sound tree core c is lt).sound child.0 dir.0 name row_next kind_is
 
   pub made_next : made_by (tree_after_call tree core (call.Make dir name kind)) core ≡ made_by tree core + 1
   made_next = counts_after tree core effect (verdict tree core c).makes core lt
@@ -158,13 +163,16 @@ module _ (tree : TreeState) (core : ℕ) (dir : NodeId) (name : List ℕ) (child
     pub placed_next : (k : ℕ) (old new : Bucket) → kind ≡ Directory → ShowsBucket tree child.0 k old → IsPlaced (Some dir) old new
         → ShowsBucket (tree_after_call tree core (call.Make dir name kind)) child.0 k new
     placed_next k old new directory shows placed =
-        placed_after tree core c is lt child.0 k (and_first (dir.0 == child.0) (bucket name == k) (not_equal dir.0 child.0 (λ same. apart (sym same)))) (Some dir) old new shows placed (sym (stands_next directory))
+        placed_after tree core c is lt child.0 k (and_first (dir.0 == child.0) (bucket name == k) (not_equal dir.0 child.0 (λ same. apart (sym same))))
+        (Some dir) old new shows placed (sym (stands_next directory))
 
   -- It keeps each cell but the bucket of the name, those of the new node and the own log.
-  pub make_keeps : (nodes : ℕ) (which : CellId) → (cell_place nodes (id.Part (record { 0 = core })) ≡ cell_place nodes which → ⊥) → (cell_place nodes (id.Bucket dir (bucket name)) ≡ cell_place nodes which → ⊥)
+  pub make_keeps : (nodes : ℕ) (which : CellId) → (cell_place nodes (id.Part (record { 0 = core })) ≡ cell_place nodes which → ⊥)
+      → (cell_place nodes (id.Bucket dir (bucket name)) ≡ cell_place nodes which → ⊥)
       → is_new_cell child kind which ≡ false → KeepsCell tree core (call.Make dir name kind) which
   make_keeps nodes id.Lock part there new = inl (ap (λ (v : Verdict). moves_between tree v.effect) does)
-  make_keeps nodes (id.Bucket node k) part there new = inl (both_false (is_in_part node.0 (λ n. bucket n == k) dir.0 name) (is_directory_kind kind && (next_number tree core == node.0))
+  make_keeps nodes (id.Bucket node k) part there new = inl
+      (both_false (is_in_part node.0 (λ n. bucket n == k) dir.0 name) (is_directory_kind kind && (next_number tree core == node.0))
       (outside (dir.0 == node.0) (bucket name == k) refl refl) (ap (λ n. is_directory_kind kind && (n == node.0)) number ∙ old_bucket child node kind k new))
     where
       outside : (a b : Bool) → (dir.0 == node.0) ≡ a → (bucket name == k) ≡ b → (a && b) ≡ false
@@ -177,7 +185,8 @@ module _ (tree : TreeState) (core : ℕ) (dir : NodeId) (name : List ℕ) (child
       (cases_Bool (child.0 == node.0)))
     where
       by : (k : Kind) → kind ≡ k → (child.0 == node.0) ≡ true → not (is_directory next node.0) ≡ false
-      by File is_kind same = absurd (both_ways (child.0 == node.0) (or_first (child.0 == node.0) false (ap (λ k. is_new_cell child k (id.File node)) (sym is_kind) ∙ new)) same)
+      by File is_kind same = absurd (both_ways (child.0 == node.0)
+          (or_first (child.0 == node.0) false (ap (λ k. is_new_cell child k (id.File node)) (sym is_kind) ∙ new)) same)
       by Directory is_kind same = ap not (ap (is_directory next) (sym (eqb-true child.0 node.0 same)) ∙ (kind_next ∙ ap is_directory_kind is_kind))
   make_keeps nodes (id.Pending node) part there new = inl (ap (λ n. n == node.0) number ∙ old_pending child node kind new)
   make_keeps nodes (id.Part owner) part there new = ⊎_elim
@@ -185,36 +194,33 @@ module _ (tree : TreeState) (core : ℕ) (dir : NodeId) (name : List ℕ) (child
       (λ other. inl other)
       (cases_Bool (core == owner.0))
 
--- the directory in which a node was made is that of its row
-pub birthplace_next : (first : TreeState) (calls : List Entry) (entry : Entry) (dir : NodeId) (name : List ℕ) (child : NodeId) (kind : Kind) → IsSoundTree first → IsLegal first calls
-    → entry.core.0 < length (tree_after first calls).made → entry.call ≡ call.Make dir name kind
-    → verdict (tree_after first calls) entry.core.0 (call.Make dir name kind) ≡ creates child dir name kind → birthplace first (calls ++ entry ∷ []) child.0 ≡ Some dir.0
-birthplace_next first calls entry dir name child kind sound legal lt call_is does =
-    ap (option_map (λ (birth : Birth). birth.directory)) (ap (find is_its) (births_of-push first calls entry)
-    ∙ (find-append is_its (births_of first calls) (births_by entry.stamp.0 v.effect v.makes) ∙ ((λ i. option_or (none i) (find is_its (births i))) ∙ found)))
-  where
-    tree : TreeState
-    tree = tree_after first calls
+module _ (first : TreeState) (calls : List Entry) (entry : Entry) (dir : NodeId) (name : List ℕ) (child : NodeId) (kind : Kind) (sound : IsSoundTree first)
+    (legal : IsLegal first calls) (lt : entry.core.0 < length (tree_after first calls).made) (call_is : entry.call ≡ call.Make dir name kind)
+    (does : verdict (tree_after first calls) entry.core.0 (call.Make dir name kind) ≡ creates child dir name kind) where
+  abbrev v : Verdict
+  v = verdict (tree_after first calls) entry.core.0 entry.call
 
-    v : Verdict
-    v = verdict tree entry.core.0 entry.call
+  abbrev is_its : Birth → Bool
+  is_its birth = birth.node == child.0
 
-    is_its : Birth → Bool
-    is_its birth = birth.node == child.0
+  abbrev own : Birth
+  own = record { stamp = entry.stamp.0; directory = dir.0; node = child.0 }
 
-    own : Birth
-    own = record { stamp = entry.stamp.0; directory = dir.0; node = child.0 }
+  does_now : v ≡ creates child dir name kind
+  does_now = ap (verdict (tree_after first calls) entry.core.0) call_is ∙ does
 
-    does_now : v ≡ creates child dir name kind
-    does_now = ap (verdict tree entry.core.0) call_is ∙ does
+  births : births_by entry.stamp.0 v.effect v.makes ≡ own ∷ []
+  births = ap (λ (w : Verdict). births_by entry.stamp.0 w.effect w.makes) does_now
 
-    births : births_by entry.stamp.0 v.effect v.makes ≡ own ∷ []
-    births = ap (λ (w : Verdict). births_by entry.stamp.0 w.effect w.makes) does_now
+  none : find is_its (births_of first calls) ≡ None
+  none = none_found child.0 (births_of first calls) (λ birth one same. no_some (get (tree_after first calls).nodes child.0)
+      (fits_makes (tree_after first calls) entry.core.0 dir name child kind (sound_after first 0 calls sound legal) lt does).fresh
+      ((births_are_new_nodes first calls child.0 sound legal).0 (birth, one, same)).0)
 
-    none : find is_its (births_of first calls) ≡ None
-    none = none_found child.0 (births_of first calls) (λ birth one same. no_some (get tree.nodes child.0)
-        (fits_makes tree entry.core.0 dir name child kind (sound_after first 0 calls sound legal) lt does).fresh
-        ((births_are_new_nodes first calls child.0 sound legal).0 (birth, one, same)).0)
+  found : find is_its (own ∷ []) ≡ Some own
+  found = rw (eq-eqb child.0 child.0 refl) refl
 
-    found : find is_its (own ∷ []) ≡ Some own
-    found = rw (eq-eqb child.0 child.0 refl) refl
+  -- the directory in which a node was made is that of its row
+  pub birthplace_next : birthplace first (calls ++ entry ∷ []) child.0 ≡ Some dir.0
+  birthplace_next = ap (option_map (λ (birth : Birth). birth.directory)) (ap (find is_its) (births_of-push first calls entry)
+      ∙ (find-append is_its (births_of first calls) (births_by entry.stamp.0 v.effect v.makes) ∙ ((λ i. option_or (none i) (find is_its (births i))) ∙ found)))

@@ -16,7 +16,8 @@ use Rattle.mem_values.specs.Stands.{ShowsBucket, if_directory}
 use Rattle.mem_calls.specs.Ends.{IsPlaced}
 use Rattle.mem_calls.proofs.RowsGo.{directories_kept, old_directory}
 
-module _ (tree : TreeState) (core : ℕ) (c : Call) (is : IsSoundTree tree) (lt : core < length tree.made) (node number : ℕ) (apart : touches_part c node (λ n. bucket n == number) ≡ false) where
+module _ (tree : TreeState) (core : ℕ) (c : Call) (is : IsSoundTree tree) (lt : core < length tree.made) (node number : ℕ)
+    (apart : touches_part c node (λ n. bucket n == number) ≡ false) where
   abbrev next : TreeState
   next = tree_after_call tree core c
 
@@ -24,10 +25,12 @@ module _ (tree : TreeState) (core : ℕ) (c : Call) (is : IsSoundTree tree) (lt 
   rows_same = (calls_keep_the_rest tree core c is lt).rows node (λ n. bucket n == number) apart
 
   -- It shows the directory after the call.
-  pub placed_after : (place : Option NodeId) (old new : Bucket) → ShowsBucket tree node number old → IsPlaced place old new → number_of place ≡ stands_of next node → ShowsBucket next node number new
+  pub placed_after : (place : Option NodeId) (old new : Bucket) → ShowsBucket tree node number old → IsPlaced place old new
+      → number_of place ≡ stands_of next node → ShowsBucket next node number new
   placed_after place old new shows placed stands = record {
     rows = placed.rows ∙ (shows.rows ∙ sym rows_same);
     directories = λ n. ap (λ m. get m n) placed.directories ∙ (old_directory tree core c is lt node number old shows n
-        ∙ (sym (directories_kept tree core c is lt node number old shows n (get old.rows n) refl) ∙ ap (λ m. if_directory next (get m n)) (shows.rows ∙ sym rows_same)));
+        ∙ (sym (directories_kept tree core c is lt node number old shows n (get old.rows n) refl)
+        ∙ ap (λ m. if_directory next (get m n)) (shows.rows ∙ sym rows_same)));
     stands = ap number_of placed.stands ∙ stands;
   }

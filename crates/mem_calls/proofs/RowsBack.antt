@@ -10,7 +10,8 @@ use Rattle.mem_calls.proofs.RowsGo.{same_name}
 
 module _ (rows : FinMap name_cmp ℕ) (name : List ℕ) (child : ℕ) where
   pub row_there : IsSome (get (insert rows name child) name)
-  row_there = subst IsSome (sym (get-insert nat_list_cmp_total rows name child name)) (by (eq_by_cmp name_cmp name name) (ap is_eq (tied_itself nat_list_cmp_total name)))
+  row_there = subst IsSome (sym (get-insert nat_list_cmp_total rows name child name))
+      (by (eq_by_cmp name_cmp name name) (ap is_eq (tied_itself nat_list_cmp_total name)))
     where
       by : (same : Bool) → same ≡ true → IsSome (cond same (Some child) (get rows name))
       by true is = refl

@@ -24,7 +24,8 @@ use Rattle.mem_calls.specs.Changes.{IsWithRow}
 use Rattle.mem_calls.proofs.RowsGo.{same_name, old_directory, directories_kept}
 
 module _ (tree : TreeState) (core : ℕ) (c : Call) (is : IsSoundTree tree) (lt : core < length tree.made) (d : ℕ) (name : List ℕ) (child : ℕ) (adds : (verdict tree core c).effect ≡ Adds d name child) (b new : Bucket)
-    (shows : ShowsBucket tree d (bucket name) b) (kind : Kind) (more : IsWithRow name child kind b new) (free : get b.rows name ≡ None) (kind_next : is_directory (tree_after_call tree core c) child ≡ is_directory_kind kind) (stays : touches_standing tree core c d ≡ false) where
+    (shows : ShowsBucket tree d (bucket name) b) (kind : Kind) (more : IsWithRow name child kind b new) (free : get b.rows name ≡ None)
+    (kind_next : is_directory (tree_after_call tree core c) child ≡ is_directory_kind kind) (stays : touches_standing tree core c d ≡ false) where
   abbrev next : TreeState
   next = tree_after_call tree core c
 
@@ -45,21 +46,25 @@ module _ (tree : TreeState) (core : ℕ) (c : Call) (is : IsSoundTree tree) (lt 
   bucket_after = record {
     rows = more.rows ∙ sym rows_next;
     directories = λ n. ap (λ (m : FinMap name_cmp ℕ). get m n) more.directories ∙ (with_name n (is_directory_kind kind)
-        ∙ (each n ∙ ap (if_directory next) (sym (get-insert nat_list_cmp_total b.rows name child n) ∙ ap (λ (m : FinMap name_cmp ℕ). get m n) (sym rows_next))));
+        ∙ (each n ∙ ap (if_directory next)
+        (sym (get-insert nat_list_cmp_total b.rows name child n) ∙ ap (λ (m : FinMap name_cmp ℕ). get m n) (sym rows_next))));
     stands = ap number_of more.stands ∙ (shows.stands ∙ sym (standing_stays tree core c d is lt stays));
   }
     where
       none_there : get b.directories name ≡ None
       none_there = old_directory tree core c is lt d (bucket name) b shows name ∙ ap (if_directory tree) free
 
-      with_name : (n : List ℕ) (d : Bool) → get (if d then insert b.directories name child else b.directories) n ≡ cond (eq_by_cmp name_cmp n name) (if d then Some child else None) (get b.directories n)
+      with_name : (n : List ℕ) (d : Bool)
+          → get (if d then insert b.directories name child else b.directories) n ≡ cond (eq_by_cmp name_cmp n name) (if d then Some child else None)
+          (get b.directories n)
       with_name n true = get-insert nat_list_cmp_total b.directories name child n
       with_name n false = ⊎_elim
           (λ (same : eq_by_cmp name_cmp n name ≡ true). rw same (ap (get b.directories) (same_name n name same) ∙ none_there))
           (λ (other : eq_by_cmp name_cmp n name ≡ false). rw other refl)
           (cases_Bool (eq_by_cmp name_cmp n name))
 
-      each : (n : List ℕ) → cond (eq_by_cmp name_cmp n name) (if is_directory_kind kind then Some child else None) (get b.directories n) ≡ if_directory next (cond (eq_by_cmp name_cmp n name) (Some child) (get b.rows n))
+      each : (n : List ℕ) → cond (eq_by_cmp name_cmp n name) (if is_directory_kind kind then Some child else None) (get b.directories n) ≡ if_directory next
+          (cond (eq_by_cmp name_cmp n name) (Some child) (get b.rows n))
       each n = ⊎_elim
           (λ (same : eq_by_cmp name_cmp n name ≡ true). rw same (ap (λ d. if d then Some child else None) (sym kind_next)))
           (λ (other : eq_by_cmp name_cmp n name ≡ false). rw other (old_directory tree core c is lt d (bucket name) b shows n ∙ sym (directories_kept tree core c is lt d (bucket name) b shows n (get b.rows n) refl)))

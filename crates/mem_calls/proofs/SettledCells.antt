@@ -32,7 +32,8 @@ use Rattle.mem_calls.proofs.Taken.{value_with}
 use Rattle.mem_calls.proofs.Unlinked.{apart_value}
 
 -- what becomes of a value by what becomes of the bucket, the file or the flushed node that it is
-settled_bucket : (dir : NodeId) (x y : Cell) (old new : Bucket) → as_bucket x ≡ Some old → as_bucket y ≡ Some new → IsPlaced (Some dir) old new → IsSettled dir x y
+settled_bucket : (dir : NodeId) (x y : Cell) (old new : Bucket) → as_bucket x ≡ Some old → as_bucket y ≡ Some new → IsPlaced (Some dir) old new
+    → IsSettled dir x y
 settled_bucket dir (cell.Bucket p) (cell.Bucket q) old new one two placed =
     let was : old ≡ p.value = cc (one) in
     let is : new ≡ q.value = cc (two) in
@@ -46,7 +47,8 @@ settled_bucket dir (cell.File p) y old new one two placed = absurd (cc (one))
 settled_bucket dir (cell.Pending p) y old new one two placed = absurd (cc (one))
 settled_bucket dir (cell.Part p) y old new one two placed = absurd (cc (one))
 
-settled_file : (dir : NodeId) (x y : Cell) (old new : FileCell) → as_file x ≡ Some old → as_file y ≡ Some new → new.links ≡ old.links + 1 → new.file ≡ old.file → IsSettled dir x y
+settled_file : (dir : NodeId) (x y : Cell) (old new : FileCell) → as_file x ≡ Some old → as_file y ≡ Some new → new.links ≡ old.links + 1 → new.file ≡ old.file
+    → IsSettled dir x y
 settled_file dir (cell.File p) (cell.File q) old new one two links file =
     let was : old ≡ p.value = cc (one) in
     let is : new ≡ q.value = cc (two) in
@@ -60,7 +62,8 @@ settled_file dir (cell.Bucket p) y old new one two links file = absurd (cc (one)
 settled_file dir (cell.Pending p) y old new one two links file = absurd (cc (one))
 settled_file dir (cell.Part p) y old new one two links file = absurd (cc (one))
 
-settled_pending : (dir : NodeId) (x y : Cell) (old new : Pending) → as_pending x ≡ Some old → as_pending y ≡ Some new → new ≡ record old { made_in = Some dir } → IsSettled dir x y
+settled_pending : (dir : NodeId) (x y : Cell) (old new : Pending) → as_pending x ≡ Some old → as_pending y ≡ Some new → new ≡ record old { made_in = Some dir }
+    → IsSettled dir x y
 settled_pending dir (cell.Pending p) (cell.Pending q) old new one two made =
     let was : old ≡ p.value = cc (one) in
     let is : new ≡ q.value = cc (two) in
@@ -100,7 +103,8 @@ own_or_flushed child Directory (id.Pending node) is = absurd (cc (is))
 
 module _ (nodes : ℕ) (dir : NodeId) (before after : Hand Cell Fact) where
   -- one cell alone
-  settles_one : (test : CellId → Bool) (one : CellId) (old new : Cell) → ((cores : ℕ) → IsCell nodes cores one) → test one ≡ true → ((which : CellId) → test which ≡ true → which ≡ one)
+  settles_one : (test : CellId → Bool) (one : CellId) (old new : Cell) → ((cores : ℕ) → IsCell nodes cores one) → test one ≡ true
+      → ((which : CellId) → test which ≡ true → which ≡ one)
       → value_held nodes before.held one ≡ Some old → Puts nodes one new before after → IsSettled dir old new → Settles nodes test dir before after
   settles_one test one old new is_one passes only was puts is = record {
     frame = ap (λ (h : Hand Cell Fact). record h { held = before.held }) puts;
@@ -114,17 +118,21 @@ module _ (nodes : ℕ) (dir : NodeId) (before after : Hand Cell Fact) where
           subst (λ v. IsSettled dir v new) old_is is,
         );
     rest = λ cores which is_cell fails. ap (λ (h : Hand Cell Fact). value_held nodes h.held which) puts
-        ∙ apart_value nodes before.held one which new (λ at. both_ways (test which) fails (ap test (places_apart nodes cores which one is_cell (is_one cores) (sym at)) ∙ passes));
+        ∙ apart_value nodes before.held one which new
+        (λ at. both_ways (test which) fails (ap test (places_apart nodes cores which one is_cell (is_one cores) (sym at)) ∙ passes));
   }
 
   pub settles_file : (child : NodeId) → child.0 < nodes → RaisesLinks nodes child before after → Settles nodes (is_own_cell child File) dir before after
   settles_file child within raised =
       let there = is_value (value_held nodes before.held (id.File child)) (some_first as_file (value_held nodes before.held (id.File child))
       (some_of (file_held nodes before.held child) raised.change.old raised.change.was)) in
-      settles_one (is_own_cell child File) (id.File child) there.0 raised.change.value (λ cores. within) (eq-eqb child.0 child.0 refl) (file_only child) there.1 raised.change.puts
-      (settled_file dir there.0 raised.change.value raised.change.old raised.change.new (sym (ap (option_and_then as_file) there.1) ∙ raised.change.was) raised.change.is raised.links raised.file)
+      settles_one (is_own_cell child File) (id.File child) there.0 raised.change.value (λ cores. within) (eq-eqb child.0 child.0 refl)
+      (file_only child) there.1 raised.change.puts
+      (settled_file dir there.0 raised.change.value raised.change.old raised.change.new
+      (sym (ap (option_and_then as_file) there.1) ∙ raised.change.was) raised.change.is raised.links raised.file)
 
-  pub settles_pending : (child : NodeId) (old new : Pending) (value : Cell) → child.0 < nodes → pending_held nodes before.held child ≡ Some old → as_pending value ≡ Some new
+  pub settles_pending : (child : NodeId) (old new : Pending) (value : Cell) → child.0 < nodes → pending_held nodes before.held child ≡ Some old
+      → as_pending value ≡ Some new
       → new ≡ record old { made_in = Some dir } → Puts nodes (id.Pending child) value before after → Settles nodes (is_flushed_cell child) dir before after
   settles_pending child old new value within was is made puts =
       let there = is_value (value_held nodes before.held (id.Pending child)) (some_first as_pending (value_held nodes before.held (id.Pending child))
@@ -132,17 +140,23 @@ module _ (nodes : ℕ) (dir : NodeId) (before after : Hand Cell Fact) where
       settles_one (is_flushed_cell child) (id.Pending child) there.0 value (λ cores. within) (eq-eqb child.0 child.0 refl) (flushed_only child) there.1 puts
       (settled_pending dir there.0 value old new (sym (ap (option_and_then as_pending) there.1) ∙ was) is made)
 
-  module _ (child : NodeId) (within : child.0 < nodes) (holds : HoldsBuckets nodes before.held child) (all : PlacesDirectory nodes child 8 (Some dir) before after) where
+  module _ (child : NodeId) (within : child.0 < nodes) (holds : HoldsBuckets nodes before.held child)
+      (all : PlacesDirectory nodes child 8 (Some dir) before after) where
     here : (number : ℕ) (x : Cell) → number < 8 → value_held nodes before.held (id.Bucket child number) ≡ Some x
         → (new : Cell) × (value_held nodes after.held (id.Bucket child number) ≡ Some new) × IsSettled dir x new
     here number x lt found =
         let old = is_value (bucket_held nodes before.held child number) (holds number lt) in
         let new = all.placed number old.0 lt old.1 in
         let there = is_value (value_held nodes after.held (id.Bucket child number)) (some_first as_bucket (value_held nodes after.held (id.Bucket child number))
-        (some_of (bucket_held nodes after.held child number) new.0 new.1)) in
-        (there.0, there.1, settled_bucket dir x there.0 old.0 new.0 (sym (ap (option_and_then as_bucket) found) ∙ old.1) (sym (ap (option_and_then as_bucket) there.1) ∙ new.1) new.2)
+        (some_of (bucket_held nodes after.held child number) new.0 new.1)) in (
+          there.0,
+          there.1,
+          settled_bucket dir x there.0 old.0 new.0 (sym (ap (option_and_then as_bucket) found) ∙ old.1)
+              (sym (ap (option_and_then as_bucket) there.1) ∙ new.1) new.2,
+        )
 
-    one_bucket : (cores : ℕ) (which : CellId) (x : Cell) → IsCell nodes cores which → is_own_cell child Directory which ≡ true → value_held nodes before.held which ≡ Some x
+    one_bucket : (cores : ℕ) (which : CellId) (x : Cell) → IsCell nodes cores which → is_own_cell child Directory which ≡ true
+        → value_held nodes before.held which ≡ Some x
         → (new : Cell) × (value_held nodes after.held which ≡ Some new) × IsSettled dir x new
     one_bucket cores (id.Bucket node number) x is_cell passes found =
         let same : child ≡ node = λ i. record { 0 = eqb-true child.0 node.0 passes i } in
@@ -159,28 +173,31 @@ module _ (nodes : ℕ) (dir : NodeId) (before after : Hand Cell Fact) where
       places = all.places;
       settled = one_bucket;
       rest = λ cores which is_cell fails. all.rest which (λ number lt at. both_ways (is_own_cell child Directory which) fails
-          (ap (is_own_cell child Directory) (places_apart nodes cores which (id.Bucket child number) is_cell (within, lt) (sym at)) ∙ eq-eqb child.0 child.0 refl));
+          (ap (is_own_cell child Directory) (places_apart nodes cores which (id.Bucket child number) is_cell (within, lt) (sym at))
+          ∙ eq-eqb child.0 child.0 refl));
     }
 
--- cells of one sort and then those of another
-pub settles_both : (nodes : ℕ) (one two : CellId → Bool) (dir : NodeId) (before mid after : Hand Cell Fact) → ((which : CellId) → one which ≡ true → two which ≡ false)
-    → Settles nodes one dir before mid → Settles nodes two dir mid after → Settles nodes (λ which. one which || two which) dir before after
-settles_both nodes one two dir before mid after apart first second = record {
-  frame = ap (λ (h : Hand Cell Fact). record h { held = before.held }) second.frame ∙ first.frame;
-  places = second.places ∙ first.places;
-  settled = λ cores which x is_cell passes found. ⊎_elim
-      (λ is. let s = first.settled cores which x is_cell is found in (s.0, second.rest cores which is_cell (apart which is) ∙ s.1, s.2))
-      (λ not. second.settled cores which x is_cell (sym (ap (λ b. b || two which) not) ∙ passes) (first.rest cores which is_cell not ∙ found))
-      (cases_Bool (one which));
-  rest = λ cores which is_cell fails. second.rest cores which is_cell (or_second (one which) (two which) fails) ∙ first.rest cores which is_cell (or_first (one which) (two which) fails);
-}
+module _ (nodes : ℕ) (dir : NodeId) (before mid after : Hand Cell Fact) where
+  -- cells of one sort and then those of another
+  pub settles_both : (one two : CellId → Bool) → ((which : CellId) → one which ≡ true → two which ≡ false) → Settles nodes one dir before mid
+      → Settles nodes two dir mid after → Settles nodes (λ which. one which || two which) dir before after
+  settles_both one two apart first second = record {
+    frame = ap (λ (h : Hand Cell Fact). record h { held = before.held }) second.frame ∙ first.frame;
+    places = second.places ∙ first.places;
+    settled = λ cores which x is_cell passes found. ⊎_elim
+        (λ is. let s = first.settled cores which x is_cell is found in (s.0, second.rest cores which is_cell (apart which is) ∙ s.1, s.2))
+        (λ not. second.settled cores which x is_cell (sym (ap (λ b. b || two which) not) ∙ passes) (first.rest cores which is_cell not ∙ found))
+        (cases_Bool (one which));
+    rest = λ cores which is_cell fails. second.rest cores which is_cell (or_second (one which) (two which) fails)
+        ∙ first.rest cores which is_cell (or_first (one which) (two which) fails);
+  }
 
--- what was flushed of a node is still held when its own cells have changed
-pub flushed_still : (nodes : ℕ) (child : NodeId) (kind : Kind) (dir : NodeId) (before after : Hand Cell Fact) → child.0 < nodes → Settles nodes (is_own_cell child kind) dir before after
-    → IsSome (pending_held nodes before.held child) → IsSome (pending_held nodes after.held child)
-flushed_still nodes child kind dir before after within settles some =
-    subst (λ o. IsSome (option_and_then as_pending o)) (sym (settles.rest 0 (id.Pending child) within (by kind))) some
-  where
-    by : (k : Kind) → is_own_cell child k (id.Pending child) ≡ false
-    by File = refl
-    by Directory = refl
+  -- what was flushed of a node is still held when its own cells have changed
+  pub flushed_still : (child : NodeId) (kind : Kind) → child.0 < nodes → Settles nodes (is_own_cell child kind) dir before mid
+      → IsSome (pending_held nodes before.held child) → IsSome (pending_held nodes mid.held child)
+  flushed_still child kind within settles some =
+      subst (λ o. IsSome (option_and_then as_pending o)) (sym (settles.rest 0 (id.Pending child) within (by kind))) some
+    where
+      by : (k : Kind) → is_own_cell child k (id.Pending child) ≡ false
+      by File = refl
+      by Directory = refl

@@ -20,8 +20,10 @@ use Rattle.mem_calls.specs.Creations.{IsSettled}
 
 module _ (given : ℕ → Option OldKept) (first : TreeState) (log later : List (Event Fact)) (dir child : NodeId) where
   pub bucket_settled : (k : ℕ) (x y : Cell)
-      → ((old new : Bucket) → ShowsBucket (tree_after first (calls_in log)) child.0 k old → IsPlaced (Some dir) old new → ShowsBucket (tree_after first (calls_in later)) child.0 k new)
-      → StandsForCell given first (account_of log) (id.Bucket child k) x → IsSettled dir x y → StandsForCell given first (account_of later) (id.Bucket child k) y
+      → ((old new : Bucket) → ShowsBucket (tree_after first (calls_in log)) child.0 k old → IsPlaced (Some dir) old new
+      → ShowsBucket (tree_after first (calls_in later)) child.0 k new)
+      → StandsForCell given first (account_of log) (id.Bucket child k) x → IsSettled dir x y
+      → StandsForCell given first (account_of later) (id.Bucket child k) y
   bucket_settled k (cell.Bucket p) (cell.Bucket q) home stood settled = home p.value q.value stood settled
   bucket_settled k (cell.Bucket p) (cell.Lock q) home stood settled = absurd settled
   bucket_settled k (cell.Bucket p) (cell.File q) home stood settled = absurd settled
@@ -33,7 +35,8 @@ module _ (given : ℕ → Option OldKept) (first : TreeState) (log later : List 
   bucket_settled k (cell.Part p) y home stood settled = absurd stood
 
   pub file_settled : (x y : Cell)
-      → ((old new : FileCell) → StandsFile first (calls_in log) child.0 old → new.links ≡ old.links + 1 → new.file ≡ old.file → StandsFile first (calls_in later) child.0 new)
+      → ((old new : FileCell) → StandsFile first (calls_in log) child.0 old → new.links ≡ old.links + 1 → new.file ≡ old.file
+      → StandsFile first (calls_in later) child.0 new)
       → StandsForCell given first (account_of log) (id.File child) x → IsSettled dir x y → StandsForCell given first (account_of later) (id.File child) y
   file_settled (cell.File p) (cell.File q) home stood settled = home p.value q.value stood settled.0 settled.1
   file_settled (cell.File p) (cell.Lock q) home stood settled = absurd settled
@@ -46,7 +49,8 @@ module _ (given : ℕ → Option OldKept) (first : TreeState) (log later : List 
   file_settled (cell.Part p) y home stood settled = absurd stood
 
   pub pending_settled : (x y : Cell)
-      → ((old new : Pending) → StandsPending given first (account_of log) child.0 old → new ≡ record old { made_in = Some dir } → StandsPending given first (account_of later) child.0 new)
+      → ((old new : Pending) → StandsPending given first (account_of log) child.0 old → new ≡ record old { made_in = Some dir }
+      → StandsPending given first (account_of later) child.0 new)
       → StandsForCell given first (account_of log) (id.Pending child) x → IsSettled dir x y → StandsForCell given first (account_of later) (id.Pending child) y
   pending_settled (cell.Pending p) (cell.Pending q) home stood settled = home p.value q.value stood settled
   pending_settled (cell.Pending p) (cell.Lock q) home stood settled = absurd settled

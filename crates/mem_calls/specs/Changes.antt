@@ -106,7 +106,8 @@ pub record IsWithRow (name : List ℕ) (child : ℕ) (kind : Kind) (old new : Bu
 
 -- The own log and the bucket of a name are out of their cells: the log has room for one more change of the directory, and the bucket has
 -- the row of a child.
-pub record IsComing (nodes : ℕ) (node : NodeId) (name : List ℕ) (child : ℕ) (kind : Kind) (before : Hand Cell Fact) (coming : Coming) (after : Hand Cell Fact) : Type 0 where
+pub record IsComing (nodes : ℕ) (node : NodeId) (name : List ℕ) (child : ℕ) (kind : Kind) (before : Hand Cell Fact) (coming : Coming)
+    (after : Hand Cell Fact) : Type 0 where
   pub mid : Hand Cell Fact
   pub ready : IsReady nodes node name before coming.ready mid
   pub out : (value : Cell) × Puts nodes (id.Bucket node (bucket name)) value mid after

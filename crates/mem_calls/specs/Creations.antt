@@ -87,4 +87,5 @@ pub record Settles (nodes : ℕ) (test : CellId → Bool) (dir : NodeId) (before
   pub places : places_of after.held ≡ places_of before.held
   pub settled : (cores : ℕ) (which : CellId) (old : Cell) → IsCell nodes cores which → test which ≡ true → value_held nodes before.held which ≡ Some old
       → (new : Cell) × (value_held nodes after.held which ≡ Some new) × IsSettled dir old new
-  pub rest : (cores : ℕ) (which : CellId) → IsCell nodes cores which → test which ≡ false → value_held nodes after.held which ≡ value_held nodes before.held which
+  pub rest : (cores : ℕ) (which : CellId) → IsCell nodes cores which → test which ≡ false
+      → value_held nodes after.held which ≡ value_held nodes before.held which

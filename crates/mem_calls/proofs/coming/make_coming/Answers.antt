@@ -19,13 +19,16 @@ take_bucket-taken-requires g c =
 
 pub with_row-bucket-requires-clause-row : goal.with_row-bucket-requires-clause-row
 with_row-bucket-requires-clause-row g c =
-    let was = subst (λ n. bucket_held c.args.nodes c.make_ready.new.core.held c.args.dir n ≡ Some c.take_bucket-taken.result.value) c.bucket_of-number.ensures c.take_bucket-taken.ensures.bucket in
+    let was = subst (λ n. bucket_held c.args.nodes c.make_ready.new.core.held c.args.dir n
+    ≡ Some c.take_bucket-taken.result.value) c.bucket_of-number.ensures c.take_bucket-taken.ensures.bucket in
     row_free c.args.nodes c.args.core.now c.args.dir c.args.name.now c.requires.free c.requires.part c.in_ok-ready.ready c.make_ready.new.core c.in_ok-ready.ensures c.take_bucket-taken.result.value was
 
 pub with_row-bucket-requires-clause-directory : goal.with_row-bucket-requires-clause-directory
 with_row-bucket-requires-clause-directory g c =
-    let was = subst (λ n. bucket_held c.args.nodes c.make_ready.new.core.held c.args.dir n ≡ Some c.take_bucket-taken.result.value) c.bucket_of-number.ensures c.take_bucket-taken.ensures.bucket in
-    ap (λ (b : Bucket). get b.directories c.args.name.now) (sym (same_bucket c.args.nodes c.args.core.now c.args.dir c.args.name.now c.requires.free c.requires.part c.in_ok-ready.ready
+    let was = subst (λ n. bucket_held c.args.nodes c.make_ready.new.core.held c.args.dir n
+    ≡ Some c.take_bucket-taken.result.value) c.bucket_of-number.ensures c.take_bucket-taken.ensures.bucket in
+    ap (λ (b : Bucket). get b.directories c.args.name.now)
+    (sym (same_bucket c.args.nodes c.args.core.now c.args.dir c.args.name.now c.requires.free c.requires.part c.in_ok-ready.ready
     c.make_ready.new.core c.in_ok-ready.ensures c.take_bucket-taken.result.value was))
     ∙ directory_free g.T.Given.given c.args.shared.now c.args.nodes c.args.core.now c.requires.table c.requires.work c.args.dir c.args.name.now c.requires.free
 
@@ -41,7 +44,8 @@ pub put_part-requires : goal.put_part-requires
 put_part-requires g c =
     let taken = subst (λ n. Puts c.args.nodes (id.Bucket c.args.dir n) c.take_bucket-taken.ensures.held.0 c.make_ready.new.core c.take_bucket-taken.new.core)
     c.bucket_of-number.ensures c.take_bucket-taken.ensures.held.1 in
-    let puts = subst (λ n. Puts c.args.nodes (id.Bucket c.args.dir n) (cell.Bucket c.with_row-bucket.result.0) c.take_bucket-taken.new.core c.put_bucket.new.core)
+    let puts = subst (λ n. Puts c.args.nodes (id.Bucket c.args.dir n)
+    (cell.Bucket c.with_row-bucket.result.0) c.take_bucket-taken.new.core c.put_bucket.new.core)
     c.bucket_of-number.ensures c.put_bucket.ensures in
     part_back c.args.nodes c.args.core.now c.args.dir c.args.name.now c.requires.free c.requires.part c.in_ok-ready.ready c.make_ready.new.core c.in_ok-ready.ensures
     c.take_bucket-taken.new.core c.take_bucket-taken.ensures.held.0 taken (cell.Bucket c.with_row-bucket.result.0) c.put_bucket.new.core puts
@@ -50,14 +54,16 @@ pub let_go-requires-clause-home : goal.let_go-requires-clause-home
 let_go-requires-clause-home g c =
     let taken = subst (λ n. Puts c.args.nodes (id.Bucket c.args.dir n) c.take_bucket-taken.ensures.held.0 c.make_ready.new.core c.take_bucket-taken.new.core)
     c.bucket_of-number.ensures c.take_bucket-taken.ensures.held.1 in
-    let puts = subst (λ n. Puts c.args.nodes (id.Bucket c.args.dir n) (cell.Bucket c.with_row-bucket.result.0) c.take_bucket-taken.new.core c.put_bucket.new.core)
+    let puts = subst (λ n. Puts c.args.nodes (id.Bucket c.args.dir n)
+    (cell.Bucket c.with_row-bucket.result.0) c.take_bucket-taken.new.core c.put_bucket.new.core)
     c.bucket_of-number.ensures c.put_bucket.ensures in
     let back : IsBack c.args.nodes c.args.core.now c.args.dir c.args.name.now c.in_ok-ready.ready c.make_ready.new.core c.put_part.new.core = record {
       out = c.take_bucket-taken.new.core;
       none = c.take_bucket-taken.ensures.held.0;
       taken = taken;
       b = c.take_bucket-taken.result.value;
-      was = subst (λ n. bucket_held c.args.nodes c.make_ready.new.core.held c.args.dir n ≡ Some c.take_bucket-taken.result.value) c.bucket_of-number.ensures c.take_bucket-taken.ensures.bucket;
+      was = subst (λ n. bucket_held c.args.nodes c.make_ready.new.core.held c.args.dir n
+          ≡ Some c.take_bucket-taken.result.value) c.bucket_of-number.ensures c.take_bucket-taken.ensures.bucket;
       vb = cell.Bucket c.with_row-bucket.result.0;
       is_b = ap Some (subst (λ r. OnErr r (c.with_row-bucket.result.0.value ≡ c.take_bucket-taken.result.value)) c.in-Err.is c.with_row-bucket.ensures.err);
       then = c.put_bucket.new.core;
@@ -66,21 +72,24 @@ let_go-requires-clause-home g c =
       is_p = c.put_part.ensures.1;
       puts_p = c.put_part.ensures.2;
     } in
-    known_home g.T.Given.given c.put_part.new.core.view c.put_part.new.core.held (works_again g.T.Given.given c.args.shared.now c.args.nodes c.args.core.now c.requires.table c.requires.work c.args.dir c.args.name.now c.requires.free c.requires.part
+    known_home g.T.Given.given c.put_part.new.core.view c.put_part.new.core.held
+    (works_again g.T.Given.given c.args.shared.now c.args.nodes c.args.core.now c.requires.table c.requires.work c.args.dir c.args.name.now c.requires.free c.requires.part
     c.in_ok-ready.ready c.make_ready.new.core c.in_ok-ready.ensures c.put_part.new.core back).knows
 
 pub returns-in-Err : goal.returns-in-Err
 returns-in-Err g c =
     let taken = subst (λ n. Puts c.args.nodes (id.Bucket c.args.dir n) c.take_bucket-taken.ensures.held.0 c.make_ready.new.core c.take_bucket-taken.new.core)
     c.bucket_of-number.ensures c.take_bucket-taken.ensures.held.1 in
-    let puts = subst (λ n. Puts c.args.nodes (id.Bucket c.args.dir n) (cell.Bucket c.with_row-bucket.result.0) c.take_bucket-taken.new.core c.put_bucket.new.core)
+    let puts = subst (λ n. Puts c.args.nodes (id.Bucket c.args.dir n)
+    (cell.Bucket c.with_row-bucket.result.0) c.take_bucket-taken.new.core c.put_bucket.new.core)
     c.bucket_of-number.ensures c.put_bucket.ensures in
     let back : IsBack c.args.nodes c.args.core.now c.args.dir c.args.name.now c.in_ok-ready.ready c.make_ready.new.core c.put_part.new.core = record {
       out = c.take_bucket-taken.new.core;
       none = c.take_bucket-taken.ensures.held.0;
       taken = taken;
       b = c.take_bucket-taken.result.value;
-      was = subst (λ n. bucket_held c.args.nodes c.make_ready.new.core.held c.args.dir n ≡ Some c.take_bucket-taken.result.value) c.bucket_of-number.ensures c.take_bucket-taken.ensures.bucket;
+      was = subst (λ n. bucket_held c.args.nodes c.make_ready.new.core.held c.args.dir n
+          ≡ Some c.take_bucket-taken.result.value) c.bucket_of-number.ensures c.take_bucket-taken.ensures.bucket;
       vb = cell.Bucket c.with_row-bucket.result.0;
       is_b = ap Some (subst (λ r. OnErr r (c.with_row-bucket.result.0.value ≡ c.take_bucket-taken.result.value)) c.in-Err.is c.with_row-bucket.ensures.err);
       then = c.put_bucket.new.core;
@@ -97,7 +106,8 @@ returns-in-Err g c =
 
 pub returns-in-Ok : goal.returns-in-Ok
 returns-in-Ok g c =
-    let was = subst (λ n. bucket_held c.args.nodes c.make_ready.new.core.held c.args.dir n ≡ Some c.take_bucket-taken.result.value) c.bucket_of-number.ensures c.take_bucket-taken.ensures.bucket in
+    let was = subst (λ n. bucket_held c.args.nodes c.make_ready.new.core.held c.args.dir n
+    ≡ Some c.take_bucket-taken.result.value) c.bucket_of-number.ensures c.take_bucket-taken.ensures.bucket in
     let same = same_bucket c.args.nodes c.args.core.now c.args.dir c.args.name.now c.requires.free c.requires.part c.in_ok-ready.ready c.make_ready.new.core c.in_ok-ready.ensures c.take_bucket-taken.result.value was in
     record {
       mid = c.make_ready.new.core;

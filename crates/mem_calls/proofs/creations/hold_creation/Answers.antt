@@ -6,7 +6,8 @@ use Rattle.mem_calls.proofs.creations.hold_creation.Goals as goal
 pub hold_places-requires-clause-within : goal.hold_places-requires-clause-within
 hold_places-requires-clause-within g c =
     next_below c.args.shared.now c.args.nodes c.requires.table c.args.numbers c.requires.numbers c.number.result.0
-    (subst (λ n. n < length c.args.shared.now.first.made) (sym c.number.ensures) c.read_made-made.ensures.work.core) c.read_made-made.result c.next-next.result c.next-next.ensures
+    (subst (λ n. n < length c.args.shared.now.first.made)
+    (sym c.number.ensures) c.read_made-made.ensures.work.core) c.read_made-made.result c.next-next.result c.next-next.ensures
 
 pub returns-then-part_in-made-clause-held : goal.returns-then-part_in-made-clause-held
 returns-then-part_in-made-clause-held g c =

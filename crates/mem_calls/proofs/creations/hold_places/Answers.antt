@@ -16,6 +16,8 @@ returns-then-dir-nodes-clause-held g c =
 pub returns-then-dir-child-clause-held : goal.returns-then-dir-child-clause-held
 returns-then-dir-child-clause-held g c =
     creation_held c.args.nodes c.hold_own-then-dir-child.new.core c.hold_more-then-dir-child.new.core c.args.dir c.args.name.now c.in-Some.child c.args.kind c.args.next
-    (still_directory c.args.nodes c.hold_directory-2.new.core c.hold_own-then-dir-child.new.core c.args.dir (bucket c.args.name.now) c.hold_own-then-dir-child.ensures.still
+    (still_directory c.args.nodes c.hold_directory-2.new.core c.hold_own-then-dir-child.new.core c.args.dir
+    (bucket c.args.name.now) c.hold_own-then-dir-child.ensures.still
     (subst (λ n. HoldsDirectory c.args.nodes c.hold_directory-2.new.core.held c.args.dir n) c.bucket_of-number.ensures c.hold_directory-2.ensures.directory))
-    c.hold_own-then-dir-child.ensures.own c.hold_more-then-dir-child.ensures.gains (subst (λ o. IfSome o (λ n. n.0 < c.args.nodes)) c.in-Some.is c.requires.within) c.in-Some.is
+    c.hold_own-then-dir-child.ensures.own c.hold_more-then-dir-child.ensures.gains
+    (subst (λ o. IfSome o (λ n. n.0 < c.args.nodes)) c.in-Some.is c.requires.within) c.in-Some.is

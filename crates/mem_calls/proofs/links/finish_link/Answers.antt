@@ -26,7 +26,8 @@ use Rattle.mem_calls.proofs.links.finish_link.Goals as goal
 pub stamp-stamp-requires-clause-may : goal.stamp-stamp-requires-clause-may
 stamp-stamp-requires-clause-may g c =
     let is = c.in_ok-coming.ensures in
-    subst (λ (h : Hand Cell Fact). MayCall (IsLawfulLog g.T.Given.given) (StandsAt g.T.Given.given) h.view (call.Link c.args.file c.args.dir c.args.name) reply.Ok)
+    subst (λ (h : Hand Cell Fact). MayCall (IsLawfulLog g.T.Given.given) (StandsAt g.T.Given.given) h.view
+    (call.Link c.args.file c.args.dir c.args.name) reply.Ok)
     (sym (out_is c.args.nodes c.args.core.now c.args.dir c.args.name c.requires.may.place c.requires.part c.in_ok-coming.coming.ready is.mid is.ready c.make_coming.new.core is.out.0 is.out.1))
     (may_come g.T.Given.given c.args.shared.now c.args.nodes c.args.core.now c.requires.table c.requires.work (call.Link c.args.file c.args.dir c.args.name)
     (done (Adds c.args.dir.0 c.args.name c.args.file.0)) refl c.requires.due
@@ -54,7 +55,8 @@ raise_links-requires-clause-links g c =
 pub with_entry-requires : goal.with_entry-requires
 with_entry-requires g c =
     let r = linking c.requires.table c.requires.work c.requires.may c.requires.part c.requires.due c.in_ok-coming.ensures c.stamp-stamp.ensures in
-    let change = c.added_row-change.ensures ∙ ap (λ n. log_entry c.stamp-stamp.result.0 c.args.dir.0 n c.args.file.0 File Add None [] ∷ []) c.in_ok-coming.ensures.ready.name_is in
+    let change = c.added_row-change.ensures
+    ∙ ap (λ n. log_entry c.stamp-stamp.result.0 c.args.dir.0 n c.args.file.0 File Add None [] ∷ []) c.in_ok-coming.ensures.ready.name_is in
     subst (λ l. HasRoomFor l c.in_ok-coming.coming.ready.part.value) (sym change) (has_room r c.events_are_few.ensures)
 
 pub put_part-requires : goal.put_part-requires
@@ -69,7 +71,8 @@ let_go-requires-clause-home g c =
     let r = linking c.requires.table c.requires.work c.requires.may c.requires.part c.requires.due c.in_ok-coming.ensures c.stamp-stamp.ensures in
     let puts = subst (λ n. Puts c.args.nodes (id.Bucket c.args.dir n) (cell.Bucket c.in_ok-coming.coming.bucket) c.stamp-stamp.new.self c.put_bucket.new.core)
     c.bucket_of-number.ensures c.put_bucket.ensures in
-    let change = c.added_row-change.ensures ∙ ap (λ n. log_entry c.stamp-stamp.result.0 c.args.dir.0 n c.args.file.0 File Add None [] ∷ []) c.in_ok-coming.ensures.ready.name_is in
+    let change = c.added_row-change.ensures
+    ∙ ap (λ n. log_entry c.stamp-stamp.result.0 c.args.dir.0 n c.args.file.0 File Add None [] ∷ []) c.in_ok-coming.ensures.ready.name_is in
     let added = subst (λ l. IsAddedTo c.in_ok-coming.coming.ready.part.value.log l c.with_entry.result.value.log) change c.with_entry.ensures.log in
     goes_home r (cell.Bucket c.in_ok-coming.coming.bucket) c.put_bucket.new.core puts c.raise_links.new.core c.raise_links.ensures refl c.with_entry.result.value
     c.put_part.ensures.0 c.put_part.ensures.1 added c.with_entry.ensures.made c.put_part.new.core c.put_part.ensures.2
@@ -79,7 +82,8 @@ returns g c =
     let r = linking c.requires.table c.requires.work c.requires.may c.requires.part c.requires.due c.in_ok-coming.ensures c.stamp-stamp.ensures in
     let puts = subst (λ n. Puts c.args.nodes (id.Bucket c.args.dir n) (cell.Bucket c.in_ok-coming.coming.bucket) c.stamp-stamp.new.self c.put_bucket.new.core)
     c.bucket_of-number.ensures c.put_bucket.ensures in
-    let change = c.added_row-change.ensures ∙ ap (λ n. log_entry c.stamp-stamp.result.0 c.args.dir.0 n c.args.file.0 File Add None [] ∷ []) c.in_ok-coming.ensures.ready.name_is in
+    let change = c.added_row-change.ensures
+    ∙ ap (λ n. log_entry c.stamp-stamp.result.0 c.args.dir.0 n c.args.file.0 File Add None [] ∷ []) c.in_ok-coming.ensures.ready.name_is in
     let added = subst (λ l. IsAddedTo c.in_ok-coming.coming.ready.part.value.log l c.with_entry.result.value.log) change c.with_entry.ensures.log in
     answers r (cell.Bucket c.in_ok-coming.coming.bucket) c.put_bucket.new.core puts c.raise_links.new.core c.raise_links.ensures refl c.with_entry.result.value
     c.put_part.ensures.0 c.put_part.ensures.1 added c.with_entry.ensures.made c.put_part.new.core c.put_part.ensures.2

@@ -54,7 +54,8 @@ returns-clause-may c = λ none. record {
   place = record {
     within = c.directory_fault_in-2.ensures.within c.in_default-directory_fault_in.is;
     bucket_of = c.bucket_in-bucket.result.now;
-    bucket_is = subst (λ n. bucket_held c.args.nodes c.args.core.now.held c.args.dir n ≡ Some c.bucket_in-bucket.result.now) c.bucket_of-number.ensures c.bucket_in-bucket.ensures;
+    bucket_is = subst (λ n. bucket_held c.args.nodes c.args.core.now.held c.args.dir n
+        ≡ Some c.bucket_in-bucket.result.now) c.bucket_of-number.ensures c.bucket_in-bucket.ensures;
     free = none_of (get c.bucket_in-bucket.result.now.rows c.args.name.now) (same_some c.get.result _ c.get.ensures ∙ sym c.if-is_some.ensures);
   };
   file_of = c.file_in.result.now;

@@ -18,13 +18,15 @@ use Rattle.mem_calls.specs.Changes.{Puts}
 use Rattle.mem_calls.specs.Creations.{creates}
 use Rattle.mem_calls.proofs.Stamped.{may_come}
 use Rattle.mem_calls.proofs.Comings.{out_is}
-use Rattle.mem_calls.proofs.Created.{creation, keeps, bucket_out, has_room, few_made, new_there, links_few, part_there, goes_home, answers}
+use Rattle.mem_calls.proofs.Creation.{creation, keeps}
+use Rattle.mem_calls.proofs.Created.{bucket_out, has_room, few_made, new_there, links_few, part_there, goes_home, answers}
 use Rattle.mem_calls.proofs.making.finish_make.Goals as goal
 
 pub stamp-stamp-requires-clause-may : goal.stamp-stamp-requires-clause-may
 stamp-stamp-requires-clause-may g c =
     let is = c.in_ok-coming.ensures in
-    subst (λ (h : Hand Cell Fact). MayCall (IsLawfulLog g.T.Given.given) (StandsAt g.T.Given.given) h.view (call.Make c.args.dir c.args.name c.args.child.1) (reply.Node c.args.child.0 c.args.child.1))
+    subst (λ (h : Hand Cell Fact). MayCall (IsLawfulLog g.T.Given.given) (StandsAt g.T.Given.given) h.view (call.Make c.args.dir c.args.name c.args.child.1)
+    (reply.Node c.args.child.0 c.args.child.1))
     (sym (out_is c.args.nodes c.args.core.now c.args.dir c.args.name c.requires.may.place c.requires.part c.in_ok-coming.coming.ready is.mid is.ready c.make_coming.new.core is.out.0 is.out.1))
     (may_come g.T.Given.given c.args.shared.now c.args.nodes c.args.core.now c.requires.table c.requires.work (call.Make c.args.dir c.args.name c.args.child.1)
     (creates c.args.child.0 c.args.dir c.args.name c.args.child.1) refl c.requires.due

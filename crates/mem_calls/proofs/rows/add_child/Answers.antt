@@ -9,5 +9,6 @@ remove-requires c =
 
 pub returns-in-Err-clause-err : goal.returns-in-Err-clause-err
 returns-in-Err-clause-err c =
-    let back = c.remove.ensures ∙ (ap (λ m. remove m c.args.name.now) c.in_ok-add_row.ensures.ok ∙ undone c.args.bucket.now.rows c.args.name.now c.args.child.0 c.requires.row) in
+    let back = c.remove.ensures ∙ (ap (λ m. remove m c.args.name.now) c.in_ok-add_row.ensures.ok
+    ∙ undone c.args.bucket.now.rows c.args.name.now c.args.child.0 c.requires.row) in
     λ i. record { rows = back i; directories = c.in-Err.ensures.err i; stands = c.args.bucket.now.stands }

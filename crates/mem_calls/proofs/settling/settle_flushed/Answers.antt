@@ -12,7 +12,9 @@ put-requires c = put_there c.args.nodes c.args.core.now c.take_pending.new.core 
     (some_first as_pending (value_held c.args.nodes c.args.core.now.held (id.Pending c.args.child)) c.requires.held) c.take_pending.ensures.held.1
 
 pub returns : goal.returns
-returns c = settles_pending c.args.nodes c.args.dir c.args.core.now c.put.new.core c.args.child c.take_pending.result.value c.made_in-pending.result.value (cell.Pending c.made_in-pending.result)
+returns c = settles_pending c.args.nodes c.args.dir c.args.core.now c.put.new.core c.args.child c.take_pending.result.value c.made_in-pending.result.value
+    (cell.Pending c.made_in-pending.result)
     c.requires.within c.take_pending.ensures.pending refl c.made_in-pending.ensures
-    (put_twice c.args.nodes c.args.core.now c.take_pending.new.core c.put.new.core (id.Pending c.args.child) c.take_pending.ensures.held.0 (cell.Pending c.made_in-pending.result)
+    (put_twice c.args.nodes c.args.core.now c.take_pending.new.core c.put.new.core (id.Pending c.args.child) c.take_pending.ensures.held.0
+    (cell.Pending c.made_in-pending.result)
     c.take_pending.ensures.held.1 c.put.ensures)
