@@ -61,16 +61,18 @@ pub record MayMake (nodes : ℕ) (hand : Hand Cell Fact) (dir : NodeId) (name : 
   pub apart : child.0 ≢ dir.0
   pub few : (part : PartCell) → part_held nodes hand.held hand.view.core ≡ Some part → part.made < 4294967295
 
--- whether a creation changes a cell: the file or the buckets of the node that it makes, and what was flushed of that
+-- whether a cell is the file of a node, or one of its buckets
 abbrev pub is_own_cell : NodeId → Kind → CellId → Bool
 is_own_cell child Directory (id.Bucket node number) = child.0 == node.0
 is_own_cell child File (id.File node) = child.0 == node.0
 is_own_cell child kind _ = false
 
+-- whether a cell tells what was flushed of a node
 abbrev pub is_flushed_cell : NodeId → CellId → Bool
 is_flushed_cell child (id.Pending node) = child.0 == node.0
 is_flushed_cell child _ = false
 
+-- whether a creation changes a cell: one of these of the node that it makes
 abbrev pub is_new_cell : NodeId → Kind → CellId → Bool
 is_new_cell child kind which = is_own_cell child kind which || is_flushed_cell child which
 
