@@ -49,7 +49,7 @@ use Rattle.mem_calls.specs.Outcome.{IsAnswered}
 use Rattle.mem_calls.specs.Parts.{HasRoomFor}
 use Rattle.mem_calls.specs.Sums.{HoldsBuckets}
 use Rattle.mem_calls.specs.Changes.{IsWithoutRow, RemovesRow, IsReady}
-use Rattle.mem_calls.specs.Ends.{NamesDirectory, IsNowhere, EndsStanding}
+use Rattle.mem_calls.specs.Ends.{NamesDirectory, IsPlaced, PlacesDirectory}
 use Rattle.mem_calls.specs.declared.ready.Ready.{Ready}
 use Rattle.mem_calls.proofs.PartKept.{same_part_stands, room_for_one}
 use Rattle.mem_calls.proofs.Nothing.{some_first}
@@ -240,7 +240,8 @@ module _ (given : ℕ → Option OldKept) (t : TableState) (nodes : ℕ) (before
       (stays S before.view.core dir name child (changed.sound given t nodes before c v number mid turn) (changed.core_known given t nodes before c v number mid turn) removes row.0 row.1 apart)))
 
   -- and of the directory's own
-  own_home : (k : ℕ) (value : Cell) (old new : Bucket) → k < 8 → bucket_held nodes before.held child k ≡ Some old → as_bucket value ≡ Some new → IsNowhere old new → StandsForCell given before.view.first (account_of after_log) (id.Bucket child k) value
+  own_home : (k : ℕ) (value : Cell) (old new : Bucket) → k < 8 → bucket_held nodes before.held child k ≡ Some old → as_bucket value ≡ Some new
+      → IsPlaced None old new → StandsForCell given before.view.first (account_of after_log) (id.Bucket child k) value
   own_home k value old new lt was is nowhere = value_of_bucket given before.view.first after_log child k value new is
       (subst (λ x. Rattle.mem_values.specs.Stands.ShowsBucket x child.0 k new) (sym (changed.next_is given t nodes before c v number mid turn))
       (nowhere_after S before.view.core dir name child (changed.sound given t nodes before c v number mid turn) (changed.core_known given t nodes before c v number mid turn) removes row.0 row.1 apart k old new
@@ -275,7 +276,7 @@ module _ (given : ℕ → Option OldKept) (t : TableState) (nodes : ℕ) (before
     pub buckets_there : HoldsBuckets nodes two.held child
     buckets_there k lt = subst IsSome (sym (bucket_kept k lt)) (r.buckets k lt)
 
-    module _ (three : Hand Cell Fact) (ends : EndsStanding nodes child 8 two three) where
+    module _ (three : Hand Cell Fact) (ends : PlacesDirectory nodes child 8 None two three) where
       three_is : three ≡ record two { held = three.held }
       three_is = ap (λ (h : Hand Cell Fact). record h { held = three.held }) ends.frame
 
@@ -311,7 +312,7 @@ module _ (given : ℕ → Option OldKept) (t : TableState) (nodes : ℕ) (before
         ended_home : (k : ℕ) (x : Cell) → k < 8 → value_held nodes three.held (id.Bucket child k) ≡ Some x → StandsForCell given before.view.first (account_of after_log) (id.Bucket child k) x
         ended_home k x lt found =
             let old = is_value (bucket_held nodes before.held child k) (r.buckets k lt) in
-            let new = ends.ended k old.0 lt (bucket_kept k lt ∙ old.1) in
+            let new = ends.placed k old.0 lt (bucket_kept k lt ∙ old.1) in
             own_home k x old.0 new.0 lt old.1 (sym (ap (option_and_then as_bucket) found) ∙ new.1) new.2
 
         other_home : (which : CellId) (x : Cell) → IsCell nodes (length t.first.made) which → (cell_place nodes mine ≡ cell_place nodes which → ⊥) → ((k : ℕ) → k < 8 → cell_place nodes (id.Bucket child k) ≡ cell_place nodes which → ⊥)

@@ -7,11 +7,12 @@ use Rattle.stamp_table.specs.Hand.{Hand}
 use Rattle.mem_values.specs.declared.cell.Cell.{Cell}
 use Rattle.mem_values.specs.declared.cell.Cell.TheVariants as cell
 use Rattle.mem_values.specs.declared.cell.FileCell.{FileCell}
+use Rattle.mem_values.specs.declared.cell.Pending.{Pending}
 use Rattle.mem_values.specs.declared.bucket.Bucket.{Bucket}
 use Rattle.mem_values.specs.declared.cell_id.CellId.{CellId}
 use Rattle.mem_values.specs.declared.cell_id.CellId.TheVariants as id
 use Rattle.mem_values.specs.declared.fact.Fact.{Fact}
-use Rattle.mem_calls.specs.Held.{value_held, as_bucket, as_file, bucket_held, file_held, is_standing, is_linked, HoldsDirectory, HoldsFile}
+use Rattle.mem_calls.specs.Held.{value_held, as_bucket, as_file, as_pending, bucket_held, file_held, pending_held, is_standing, is_linked, HoldsDirectory, HoldsFile}
 use Rattle.mem_calls.specs.Working.{IsOfKind, StillHolds, Gains}
 
 pub is_value : {X : Type 0} (o : Option X) → IsSome o → (x : X) × (o ≡ Some x)
@@ -22,7 +23,7 @@ pub some_of : {X : Type 0} (o : Option X) (x : X) → o ≡ Some x → IsSome o
 some_of None x is = absurd (cc (is))
 some_of (Some y) x is = refl
 
--- a value of a kind is a bucket, a file, or a log
+-- a value of a kind is a bucket, a file, or a flushed node
 pub bucket_kind : (node : NodeId) (number : ℕ) (value : Cell) → IsOfKind (id.Bucket node number) value → IsSome (as_bucket value)
 bucket_kind node number (cell.Bucket bucket) kind = refl
 bucket_kind node number (cell.Lock lock) kind = absurd kind
@@ -37,12 +38,23 @@ file_kind node (cell.Bucket bucket) kind = absurd kind
 file_kind node (cell.Pending pending) kind = absurd kind
 file_kind node (cell.Part part) kind = absurd kind
 
+pub pending_kind : (node : NodeId) (value : Cell) → IsOfKind (id.Pending node) value → IsSome (as_pending value)
+pending_kind node (cell.Pending pending) kind = refl
+pending_kind node (cell.Lock lock) kind = absurd kind
+pending_kind node (cell.Bucket bucket) kind = absurd kind
+pending_kind node (cell.File file) kind = absurd kind
+pending_kind node (cell.Part part) kind = absurd kind
+
 some_then : {X Y : Type 0} (f : X → Option Y) (o : Option X) (x : X) → o ≡ Some x → IsSome (f x) → IsSome (option_and_then f o)
 some_then f o x is some = subst (λ p. IsSome (option_and_then f p)) (sym is) some
 
 module _ (nodes : ℕ) (before after : Hand Cell Fact) where
   pub holds_file : (node : NodeId) → Gains nodes (id.File node) before after → IsSome (file_held nodes after.held node)
   holds_file node gains = some_then as_file (value_held nodes after.held (id.File node)) gains.there.0 gains.there.1 (file_kind node gains.there.0 gains.there.2)
+
+  pub holds_pending : (node : NodeId) → Gains nodes (id.Pending node) before after → IsSome (pending_held nodes after.held node)
+  holds_pending node gains = some_then as_pending (value_held nodes after.held (id.Pending node)) gains.there.0 gains.there.1
+      (pending_kind node gains.there.0 gains.there.2)
 
   pub holds_bucket : (node : NodeId) (number : ℕ) → Gains nodes (id.Bucket node number) before after → IsSome (bucket_held nodes after.held node number)
   holds_bucket node number gains = some_then as_bucket (value_held nodes after.held (id.Bucket node number)) gains.there.0 gains.there.1 (bucket_kind node number gains.there.0 gains.there.2)
@@ -55,6 +67,10 @@ module _ (nodes : ℕ) (before after : Hand Cell Fact) where
 
   pub still_file : (node : NodeId) (f : FileCell) → StillHolds nodes before after → file_held nodes before.held node ≡ Some f → file_held nodes after.held node ≡ Some f
   still_file node f still is = still_then as_file (id.File node) f still is
+
+  pub still_pending : (node : NodeId) (p : Pending) → StillHolds nodes before after → pending_held nodes before.held node ≡ Some p
+      → pending_held nodes after.held node ≡ Some p
+  still_pending node p still is = still_then as_pending (id.Pending node) p still is
 
   pub still_directory : (node : NodeId) (number : ℕ) → StillHolds nodes before after → HoldsDirectory nodes before.held node number → HoldsDirectory nodes after.held node number
   still_directory node number still holds = record {

@@ -46,7 +46,8 @@ with_swap p q v w (c ∷ cells) apart = ⊎_elim
     (cases_Bool (is_at p c)))
     (cases_Bool (is_at q c))
 
-bucket_of_value : (given : ℕ → Option OldKept) (first : TreeState) (log : List (Event Fact)) (node : NodeId) (number : ℕ) (value : Cell) (b : Bucket) → as_bucket value ≡ Some b → StandsForCell given first (account_of log) (id.Bucket node number) value
+pub bucket_of_value : (given : ℕ → Option OldKept) (first : TreeState) (log : List (Event Fact)) (node : NodeId) (number : ℕ) (value : Cell) (b : Bucket)
+    → as_bucket value ≡ Some b → StandsForCell given first (account_of log) (id.Bucket node number) value
     → ShowsBucket (tree_after first (calls_in log)) node.0 number b
 bucket_of_value given first log node number (cell.Bucket box) b is stood = let same : box.value ≡ b = cc (is) in subst (ShowsBucket (tree_after first (calls_in log)) node.0 number) same stood
 bucket_of_value given first log node number (cell.File box) b is stood = absurd stood

@@ -54,17 +54,17 @@ use Rattle.mem_calls.specs.Table.{IsFileTable}
 use Rattle.mem_calls.specs.Working.{IsWorking}
 use Rattle.mem_calls.specs.Outcome.{IsAnswered}
 use Rattle.mem_calls.specs.Parts.{HasRoomFor}
-use Rattle.mem_calls.specs.declared.ready.Ready.{Ready}
-use Rattle.mem_calls.specs.Changes.{Puts, IsWithFile, MayLink, RaisesLinks, IsReady}
+use Rattle.mem_calls.specs.declared.coming.Coming.{Coming}
+use Rattle.mem_calls.specs.Changes.{Puts, IsWithRow, MayLink, RaisesLinks, IsComing}
 use Rattle.mem_calls.proofs.Shown.{name_shows, bucket_small}
 use Rattle.mem_calls.proofs.RowsGo.{directory_kept}
 use Rattle.mem_calls.proofs.RowsCome.{bucket_after}
+use Rattle.mem_calls.proofs.Comings.{part_above, out_is, at_there, part_out}
 use Rattle.mem_calls.proofs.Edited.{same_place, held_there}
 use Rattle.mem_calls.proofs.Faults.{linked_alive, linked_file}
 use Rattle.mem_calls.proofs.PartKept.{same_part_stands, room_for_one}
 use Rattle.mem_calls.proofs.Nothing.{some_first}
 use Rattle.mem_calls.proofs.HeldKinds.{some_of}
-use Rattle.mem_calls.proofs.Taken.{value_with}
 use Rattle.mem_calls.proofs.Finished.{of_changed}
 use Rattle.mem_calls.proofs.Unlinked.{file_of_value, value_of_file, value_of_bucket, apart_value}
 use Rattle.mem_calls.proofs.Stamped as stamped
@@ -100,32 +100,65 @@ link_keeps nodes tree core file dir name (id.Part owner) does part not_file here
     (λ other. inl other)
     (cases_Bool (core == owner.0))
 
-module _ (given : ℕ → Option OldKept) (t : TableState) (nodes : ℕ) (before : Hand Cell Fact) (table : IsFileTable t nodes) (work : IsWorking given t before) (file dir : NodeId) (name : List ℕ)
-    (may : MayLink nodes before.held file dir name) (part : IsSome (part_held nodes before.held before.view.core))
+-- A file that gets a further row, from the moment on at which that is stamped.
+pub record Linking (given : ℕ → Option OldKept) (t : TableState) (nodes : ℕ) (before : Hand Cell Fact) (file dir : NodeId) (name : List ℕ)
+    (coming : Coming) (out : Hand Cell Fact) (number : ℕ) (mid : Hand Cell Fact) : Type 0 where
+  pub table : IsFileTable t nodes
+  pub work : IsWorking given t before
+  pub may : MayLink nodes before.held file dir name
+  pub part : IsSome (part_held nodes before.held before.view.core)
+  pub due : InEach before (λ tree. verdict tree before.view.core (call.Link file dir name) ≡ done (Adds dir.0 name file.0))
+  pub is : IsComing nodes dir name file.0 File before coming out
+  pub drawn : Stamps (IsLawfulLog given) (StandsAt given) (call.Link file dir name) reply.Ok out number mid
+
+pub linking : {given : ℕ → Option OldKept} {t : TableState} {nodes : ℕ} {before : Hand Cell Fact} {file dir : NodeId} {name : List ℕ} {coming : Coming}
+    {out : Hand Cell Fact} {number : ℕ}
+    {mid : Hand Cell Fact} → IsFileTable t nodes → IsWorking given t before → MayLink nodes before.held file dir name
+    → IsSome (part_held nodes before.held before.view.core)
+    → InEach before (λ tree. verdict tree before.view.core (call.Link file dir name) ≡ done (Adds dir.0 name file.0))
+    → IsComing nodes dir name file.0 File before coming out
+    → Stamps (IsLawfulLog given) (StandsAt given) (call.Link file dir name) reply.Ok out number mid
+    → Linking given t nodes before file dir name coming out number mid
+linking table work may part due is drawn = record { table = table; work = work; may = may; part = part; due = due; is = is; drawn = drawn }
+
+module _ (given : ℕ → Option OldKept) (t : TableState) (nodes : ℕ) (before : Hand Cell Fact) (table : IsFileTable t nodes) (work : IsWorking given t before)
+    (file dir : NodeId)
+    (name : List ℕ) (may : MayLink nodes before.held file dir name) (part : IsSome (part_held nodes before.held before.view.core))
     (due : InEach before (λ tree. verdict tree before.view.core (call.Link file dir name) ≡ done (Adds dir.0 name file.0))) where
+  abbrev own_log : CellId
+  own_log = id.Part (record { 0 = before.view.core })
+
+  abbrev row_place : CellId
+  row_place = id.Bucket dir (bucket name)
+
+  pub keeps : InEach before (λ tree. stamped.KeepsOrHolds given t nodes before table work tree (call.Link file dir name))
+  keeps tree meets which is_cell = ⊎_elim
+      (λ same. inr (held_there nodes before.held own_log which same (some_first as_part (value_held nodes before.held own_log) part)))
+      (λ not_part. ⊎_elim
+      (λ same. inr (held_there nodes before.held (id.File file) which same (some_first as_file (value_held nodes before.held (id.File file))
+      (some_of (file_held nodes before.held file) may.file_of may.file_is))))
+      (λ not_file. ⊎_elim
+      (λ same. inr (held_there nodes before.held row_place which same (some_first as_bucket (value_held nodes before.held row_place)
+      (some_of (bucket_held nodes before.held dir (bucket name)) may.place.bucket_of may.place.bucket_is))))
+      (λ not_bucket. inl (link_keeps nodes tree before.view.core file dir name which (due tree meets) not_part not_file not_bucket))
+      (same_place nodes row_place which))
+      (same_place nodes (id.File file) which))
+      (same_place nodes own_log which)
+
+module _ {given : ℕ → Option OldKept} {t : TableState} {nodes : ℕ} {before : Hand Cell Fact} {file dir : NodeId} {name : List ℕ} {coming : Coming}
+    {out : Hand Cell Fact} {number : ℕ}
+    {mid : Hand Cell Fact} (r : Linking given t nodes before file dir name coming out number mid) where
   abbrev mine : CellId
   mine = id.Part (record { 0 = before.view.core })
 
   abbrev at : CellId
   at = id.Bucket dir (bucket name)
 
-  pub keeps : InEach before (λ tree. stamped.KeepsOrHolds given t nodes before table work tree (call.Link file dir name))
-  keeps tree meets which is_cell = ⊎_elim
-      (λ same. inr (held_there nodes before.held mine which same (some_first as_part (value_held nodes before.held mine) part)))
-      (λ not_part. ⊎_elim
-      (λ same. inr (held_there nodes before.held (id.File file) which same (some_first as_file (value_held nodes before.held (id.File file)) (some_of (file_held nodes before.held file) may.file_of may.file_is))))
-      (λ not_file. ⊎_elim
-      (λ same. inr (held_there nodes before.held at which same (some_first as_bucket (value_held nodes before.held at) (some_of (bucket_held nodes before.held dir (bucket name)) may.bucket_of may.bucket_is))))
-      (λ not_bucket. inl (link_keeps nodes tree before.view.core file dir name which (due tree meets) not_part not_file not_bucket))
-      (same_place nodes at which))
-      (same_place nodes (id.File file) which))
-      (same_place nodes mine which)
-
-  pub part_above : (number : ℕ) → number < 8 → cell_place nodes mine ≡ cell_place nodes (id.Bucket dir number) → ⊥
-  part_above number lt same = let node = may.within in omega (arith, node, lt, same)
+  above_bucket : cell_place nodes mine ≡ cell_place nodes at → ⊥
+  above_bucket = part_above nodes before dir name r.may.place r.part (bucket name) (bucket_small name)
 
   part_above_file : cell_place nodes mine ≡ cell_place nodes (id.File file) → ⊥
-  part_above_file same = let node = may.file_within in omega (arith, node, same)
+  part_above_file same = let node = r.may.file_within in omega (arith, node, same)
 
   bucket_apart : cell_place nodes at ≡ cell_place nodes (id.File file) → ⊥
   bucket_apart same = apart (bucket name) (bucket_small name) same
@@ -133,208 +166,232 @@ module _ (given : ℕ → Option OldKept) (t : TableState) (nodes : ℕ) (before
       apart : (b : ℕ) → b < 8 → 16 + 9 * dir.0 + b ≡ 24 + 9 * file.0 → ⊥
       apart b lt same = omega (arith, lt, same)
 
-  -- once the own log is out the bucket is held as before
-  module _ (ready : Ready) (out : Hand Cell Fact) (is_ready : IsReady nodes dir name before ready out) where
-    out_same : bucket_held nodes out.held dir (bucket name) ≡ bucket_held nodes before.held dir (bucket name)
-    out_same = ap (λ (h : Hand Cell Fact). bucket_held nodes h.held dir (bucket name)) is_ready.out.1 ∙ ap (option_and_then as_bucket) (apart_value nodes before.held mine at is_ready.out.0 (part_above (bucket name) (bucket_small name)))
+  -- what is out of its cells
+  abbrev none_b : Cell
+  none_b = r.is.out.0
 
-    pub bucket_there : IsSome (bucket_held nodes out.held dir (bucket name))
-    bucket_there = some_of (bucket_held nodes out.held dir (bucket name)) may.bucket_of (out_same ∙ may.bucket_is)
+  abbrev none_p : Cell
+  none_p = r.is.ready.out.0
 
-    pub same_bucket : (b : Bucket) → bucket_held nodes out.held dir (bucket name) ≡ Some b → may.bucket_of ≡ b
-    same_bucket b is = cc (sym may.bucket_is ∙ (sym out_same ∙ is))
+  abbrev out_held : List (HeldCell Cell)
+  out_held = with_value (cell_place nodes at) none_b (with_value (cell_place nodes mine) none_p before.held)
 
-    pub row_free : (b : Bucket) → bucket_held nodes out.held dir (bucket name) ≡ Some b → get b.rows name ≡ None
-    row_free b is = ap (λ (x : Bucket). get x.rows name) (sym (same_bucket b is)) ∙ may.free
+  out_same : out ≡ record before { held = out_held }
+  out_same = out_is nodes before dir name r.may.place r.part coming.ready r.is.mid r.is.ready out none_b r.is.out.1
 
-    module _ (two : Hand Cell Fact) (none : Cell) (out_two : Puts nodes (id.Bucket dir (bucket name)) none out two) where
-      abbrev two_held : List (HeldCell Cell)
-      two_held = with_value (cell_place nodes at) none (with_value (cell_place nodes mine) is_ready.out.0 before.held)
+  abbrev c : Call
+  c = call.Link file dir name
 
-      pub two_is : two ≡ record before { held = with_value (cell_place nodes (id.Bucket dir (bucket name))) none (with_value (cell_place nodes (id.Part (record { 0 = before.view.core }))) is_ready.out.0 before.held) }
-      two_is = out_two ∙ ap (λ (h : Hand Cell Fact). record h { held = with_value (cell_place nodes at) none h.held }) is_ready.out.1
+  abbrev v : Verdict
+  v = done (Adds dir.0 name file.0)
 
-      pub at_there : (h : Hand Cell Fact) → h.held ≡ two.held → IsSome (value_held nodes h.held (id.Bucket dir (bucket name)))
-      at_there h same = some_of (value_held nodes h.held at) none (ap (λ l. value_held nodes l at) (same ∙ ap (λ (x : Hand Cell Fact). x.held) two_is)
-          ∙ value_with nodes at none (with_value (cell_place nodes mine) is_ready.out.0 before.held) (subst (λ (x : Hand Cell Fact). IsSome (value_held nodes x.held at)) is_ready.out.1 (some_first as_bucket (value_held nodes out.held at) bucket_there)))
+  abbrev turn : Turn given t nodes before c v number mid
+  turn = record { table = r.table; work = r.work; not = refl; due = r.due; held = out_held; out = out; out_is = out_same; drawn = r.drawn }
 
-      -- where the bucket is put back the own log's cell is still held
-      pub part_back : (vb : Cell) (put : Hand Cell Fact) → Puts nodes (id.Bucket dir (bucket name)) vb two put → IsSome (value_held nodes put.held (id.Part (record { 0 = put.view.core })))
-      part_back vb put puts =
-          let core : put.view.core ≡ before.view.core = ap (λ (h : Hand Cell Fact). h.view.core) puts ∙ ap (λ (h : Hand Cell Fact). h.view.core) two_is in
-          subst (λ (n : ℕ). IsSome (value_held nodes put.held (id.Part (record { 0 = n })))) (sym core) (some_of (value_held nodes put.held mine) is_ready.out.0
-          (ap (λ l. value_held nodes l mine) (ap (λ (h : Hand Cell Fact). h.held) puts ∙ ap (λ (h : Hand Cell Fact). with_value (cell_place nodes at) vb h.held) two_is)
-          ∙ (apart_value nodes two_held at mine vb (λ same. part_above (bucket name) (bucket_small name) (sym same))
-          ∙ (apart_value nodes (with_value (cell_place nodes mine) is_ready.out.0 before.held) at mine none (λ same. part_above (bucket name) (bucket_small name) (sym same))
-          ∙ value_with nodes mine is_ready.out.0 before.held (some_first as_part (value_held nodes before.held mine) part)))))
+  abbrev S : TreeState
+  S = changed.S given t nodes before c v number mid turn
 
-      module _ (number : ℕ) (mid : Hand Cell Fact) (drawn : Stamps (IsLawfulLog given) (StandsAt given) (call.Link file dir name) reply.Ok two number mid) where
-        abbrev c : Call
-        c = call.Link file dir name
+  abbrev next : TreeState
+  next = changed.next given t nodes before c v number mid turn
 
-        abbrev v : Verdict
-        v = done (Adds dir.0 name file.0)
+  abbrev log : List (Event Fact)
+  log = changed.log given t nodes before c v number mid turn
 
-        abbrev turn : Turn given t nodes before (call.Link file dir name) (done (Adds dir.0 name file.0)) number mid
-        turn = record { table = table; work = work; not = refl; due = due; held = two_held; out = two; out_is = two_is; drawn = drawn }
+  abbrev entry : Entry
+  entry = changed.entry given t nodes before c v number mid turn
 
-        abbrev S : TreeState
-        S = changed.S given t nodes before c v number mid turn
+  abbrev after_log : List (Event Fact)
+  after_log = log ++ Called entry ∷ []
 
-        abbrev next : TreeState
-        next = changed.next given t nodes before c v number mid turn
+  sound : IsSoundTree S
+  sound = changed.sound given t nodes before c v number mid turn
 
-        abbrev log : List (Event Fact)
-        log = changed.log given t nodes before c v number mid turn
+  core_known : before.view.core < length S.made
+  core_known = changed.core_known given t nodes before c v number mid turn
 
-        abbrev entry : Entry
-        entry = changed.entry given t nodes before c v number mid turn
+  mid_held : mid.held ≡ out_held
+  mid_held = changed.mid_held given t nodes before c v number mid turn
 
-        sound : IsSoundTree S
-        sound = changed.sound given t nodes before c v number mid turn
+  pub bucket_out : IsSome (value_held nodes mid.held (id.Bucket dir (bucket name)))
+  bucket_out = at_there nodes before dir name r.may.place r.part coming.ready r.is.mid r.is.ready out none_b r.is.out.1 mid
+      (ap (λ (h : Hand Cell Fact). h.held) r.drawn.frame)
 
-        core_known : before.view.core < length S.made
-        core_known = changed.core_known given t nodes before c v number mid turn
+  -- the bucket of the name, which is the one that was made ready
+  row : IsWithRow name file.0 File r.may.place.bucket_of coming.bucket.value
+  row = let same : r.is.old ≡ r.may.place.bucket_of = cc (sym r.is.was ∙ r.may.place.bucket_is) in
+      subst (λ b. IsWithRow name file.0 File b coming.bucket.value) same r.is.row
 
-        mid_held : mid.held ≡ two_held
-        mid_held = changed.mid_held given t nodes before c v number mid turn
+  adds : (verdict S before.view.core c).effect ≡ Adds dir.0 name file.0
+  adds = ap (λ (w : Verdict). w.effect) (changed.verdict_is given t nodes before c v number mid turn)
 
-        pub mid_two : mid.held ≡ two.held
-        mid_two = ap (λ (h : Hand Cell Fact). h.held) drawn.frame
+  file_stood : StandsFile before.view.first (calls_in log) file.0 r.may.file_of
+  file_stood = option_and_then_some as_file (value_held nodes before.held (id.File file)) r.may.file_of r.may.file_is
+      (λ x found kind. file_of_value given before.view.first log file x r.may.file_of kind
+      (changed.stood given t nodes before c v number mid turn (id.File file) x r.may.file_within found))
 
-        adds : (verdict S before.view.core c).effect ≡ Adds dir.0 name file.0
-        adds = ap (λ (w : Verdict). w.effect) (changed.verdict_is given t nodes before c v number mid turn)
+  some : 0 < file_links S file.0
+  some = let e = file_stood.links in let lt = r.may.linked in omega (arith, e, lt)
 
-        file_stood : StandsFile before.view.first (calls_in log) file.0 may.file_of
-        file_stood = option_and_then_some as_file (value_held nodes before.held (id.File file)) may.file_of may.file_is
-            (λ x found kind. file_of_value given before.view.first log file x may.file_of kind (changed.stood given t nodes before c v number mid turn (id.File file) x may.file_within found))
+  is_file : is_directory S file.0 ≡ false
+  is_file = linked_file S sound file.0 some
 
-        some : 0 < file_links S file.0
-        some = let e = file_stood.links in let lt = may.linked in omega (arith, e, lt)
+  counted : r.may.file_of.links ≡ count_of S.rows file.0
+  counted = file_stood.links ∙ ap (λ b. if b then 0 else count_of S.rows file.0) is_file
 
-        is_file : is_directory S file.0 ≡ false
-        is_file = linked_file S sound file.0 some
+  file_next : is_directory next file.0 ≡ false
+  file_next = directory_kept S before.view.core c sound core_known file.0 (sound_file S sound.sound file.0 (linked_alive S sound file.0 some) is_file) ∙ is_file
 
-        counted : may.file_of.links ≡ count_of S.rows file.0
-        counted = file_stood.links ∙ ap (λ b. if b then 0 else count_of S.rows file.0) is_file
+  bucket_home : (value : Cell) → as_bucket value ≡ Some coming.bucket.value → StandsForCell given before.view.first (account_of after_log) at value
+  bucket_home value is = value_of_bucket given before.view.first after_log dir (bucket name) value coming.bucket.value is
+      (subst (λ x. ShowsBucket x dir.0 (bucket name) coming.bucket.value) (sym (changed.next_is given t nodes before c v number mid turn))
+      (bucket_after S before.view.core c sound core_known dir.0 name file.0 adds r.may.place.bucket_of coming.bucket.value
+      (name_shows before nodes (stamped.counted given t nodes before r.table r.work) S (changed.meets given t nodes before c v number mid turn) dir name
+      (bucket name)
+      r.may.place.bucket_of r.may.place.within refl r.may.place.bucket_is)
+      File row r.may.place.free file_next refl))
 
-        file_next : is_directory next file.0 ≡ false
-        file_next = directory_kept S before.view.core c sound core_known file.0 (sound_file S sound.sound file.0 (linked_alive S sound file.0 some) is_file) ∙ is_file
+  file_home : (new : FileCell) (value : Cell) → as_file value ≡ Some new → new.links ≡ r.may.file_of.links + 1 → new.file ≡ r.may.file_of.file
+      → StandsForCell given before.view.first (account_of after_log) (id.File file) value
+  file_home new value is links same = value_of_file given before.view.first after_log file value new is (record {
+    links = links_next ∙ ap (λ x. file_links x file.0) (sym (changed.next_is given t nodes before c v number mid turn));
+    bytes = ap (λ f. f.bytes) same ∙ (file_stood.bytes
+        ∙ (sym ((calls_keep_the_rest S before.view.core c sound core_known).bytes file.0 refl)
+        ∙ ap (λ x. bytes_of x file.0) (sym (changed.next_is given t nodes before c v number mid turn))));
+    marks = λ block. ap (λ f. Rattle.mem_files.specs.File.mark_of f block) same ∙ (file_stood.marks block
+        ∙ (sym (last_touch-push before.view.first (calls_in log) entry file.0 block
+        (λ edit is_edit. let never : Adds dir.0 name file.0 ≡ Edits file.0 edit = sym adds ∙ is_edit in cc))
+        ∙ ap (λ l. last_touch before.view.first None l file.0 block) (sym (calls_snoc log entry))));
+  })
+    where
+      here : (file.0 == file.0) ≡ true
+      here = eq-eqb file.0 file.0 refl
 
-        bucket_home : (value : Cell) (new : Bucket) → as_bucket value ≡ Some new → IsWithFile name file.0 may.bucket_of new → StandsForCell given before.view.first (account_of (log ++ Called entry ∷ [])) at value
-        bucket_home value new is more = value_of_bucket given before.view.first (log ++ Called entry ∷ []) dir (bucket name) value new is
-            (subst (λ x. ShowsBucket x dir.0 (bucket name) new) (sym (changed.next_is given t nodes before c v number mid turn))
-            (bucket_after S before.view.core c sound core_known dir.0 name file.0 adds may.bucket_of new
-            (name_shows before nodes (stamped.counted given t nodes before table work) S (changed.meets given t nodes before c v number mid turn) dir name (bucket name) may.bucket_of may.within refl may.bucket_is) more may.free file_next refl))
+      count_next : count_of next.rows file.0 ≡ count_of S.rows file.0 + 1
+      count_next =
+          (nodes_after S before.view.core (verdict S before.view.core c).effect (verdict S before.view.core c).makes file.0
+          (changed.fits given t nodes before c v number mid turn)).links
+          ∙ (ap (λ e. links_after S e file.0 (count_of S.rows file.0)) adds ∙ ap (λ b. if b then count_of S.rows file.0 + 1 else count_of S.rows file.0) here)
 
-        file_home : (new : FileCell) (value : Cell) → as_file value ≡ Some new → new.links ≡ may.file_of.links + 1 → new.file ≡ may.file_of.file → StandsForCell given before.view.first (account_of (log ++ Called entry ∷ [])) (id.File file) value
-        file_home new value is links same = value_of_file given before.view.first (log ++ Called entry ∷ []) file value new is (record {
-          links = links_next ∙ ap (λ x. file_links x file.0) (sym (changed.next_is given t nodes before c v number mid turn));
-          bytes = ap (λ f. f.bytes) same ∙ (file_stood.bytes ∙ (sym ((calls_keep_the_rest S before.view.core c sound core_known).bytes file.0 refl) ∙ ap (λ x. bytes_of x file.0) (sym (changed.next_is given t nodes before c v number mid turn))));
-          marks = λ block. ap (λ f. Rattle.mem_files.specs.File.mark_of f block) same ∙ (file_stood.marks block
-              ∙ (sym (last_touch-push before.view.first (calls_in log) entry file.0 block (λ edit is_edit. let never : Adds dir.0 name file.0 ≡ Edits file.0 edit = sym adds ∙ is_edit in cc))
-              ∙ ap (λ l. last_touch before.view.first None l file.0 block) (sym (calls_snoc log entry))));
-        })
-          where
-            here : (file.0 == file.0) ≡ true
-            here = eq-eqb file.0 file.0 refl
+      links_next : new.links ≡ file_links next file.0
+      links_next =
+          (let e = counted in let count = count_next in let one : new.links ≡ count_of next.rows file.0 = omega (arith, e, links, count) in one)
+          ∙ sym (ap (λ b. if b then 0 else count_of next.rows file.0) file_next)
 
-            count_next : count_of next.rows file.0 ≡ count_of S.rows file.0 + 1
-            count_next = (nodes_after S before.view.core (verdict S before.view.core c).effect (verdict S before.view.core c).makes file.0 (changed.fits given t nodes before c v number mid turn)).links
-                ∙ (ap (λ e. links_after S e file.0 (count_of S.rows file.0)) adds ∙ ap (λ b. if b then count_of S.rows file.0 + 1 else count_of S.rows file.0) here)
+  logs : entry_logged S entry ≡ log_entry number dir.0 name file.0 File Add None [] ∷ []
+  logs = ap (λ (w : Verdict). logged_by S before.view.core number w.effect w.makes) (changed.verdict_is given t nodes before c v number mid turn)
+      ∙ ap (λ k. log_entry number dir.0 name file.0 k Add None [] ∷ [])
+      (sym (kind_again (kind_of S file.0)) ∙ ap kind_if (sym (directory_by_kind S file.0) ∙ is_file))
 
-            links_next : new.links ≡ file_links next file.0
-            links_next = (let e = counted in let count = count_next in let one : new.links ≡ count_of next.rows file.0 = omega (arith, e, links, count) in one)
-                ∙ sym (ap (λ b. if b then 0 else count_of next.rows file.0) file_next)
+  made_next : made_by S before.view.core ≡ made_by next before.view.core
+  made_next = sym ((calls_keep_the_rest S before.view.core c sound core_known).own refl)
 
-        logs : entry_logged S entry ≡ log_entry number dir.0 name file.0 File Add None [] ∷ []
-        logs = ap (λ (w : Verdict). logged_by S before.view.core number w.effect w.makes) (changed.verdict_is given t nodes before c v number mid turn)
-            ∙ ap (λ k. log_entry number dir.0 name file.0 k Add None [] ∷ []) (sym (kind_again (kind_of S file.0)) ∙ ap kind_if (sym (directory_by_kind S file.0) ∙ is_file))
+  part_stands : StandsPart before.view.first (account_of log) before.view.core coming.ready.part.value
+  part_stands = same_part_stands given before.view.first
+      (account_of log) before.view.core r.is.ready.part coming.ready.part.value r.is.ready.same r.is.ready.made
+      (changed.part_stood given t nodes before c v number mid turn r.is.ready.part r.is.ready.was)
 
-        made_next : made_by S before.view.core ≡ made_by next before.view.core
-        made_next = sym ((calls_keep_the_rest S before.view.core c sound core_known).own refl)
+  pub has_room : length before.view.mine ≤ 2 ^ 50 → HasRoomFor (log_entry number dir.0 name file.0 File Add None [] ∷ []) coming.ready.part.value
+  has_room few = room_for_one before.view.first (account_of log) before.view.core coming.ready.part.value
+      (log_entry number dir.0 name file.0 File Add None []) part_stands
+      (changed.legal_log given t nodes before c v number mid turn) (changed.number_is given t nodes before c v number mid turn) r.is.ready.room
+      (let e = r.is.ready.same.entries in let lt = changed.few_entries given t nodes before c v number mid turn r.is.ready.part r.is.ready.was few in
+      omega (arith, e, lt))
 
-        part_stands : StandsPart before.view.first (account_of log) before.view.core ready.part.value
-        part_stands = same_part_stands given before.view.first (account_of log) before.view.core is_ready.part ready.part.value is_ready.same is_ready.made (changed.part_stood given t nodes before c v number mid turn is_ready.part is_ready.was)
+  module _ (vb : Cell) (three : Hand Cell Fact) (puts_b : Puts nodes (id.Bucket dir (bucket name)) vb mid three) where
+    three_held : three.held ≡ with_value (cell_place nodes at) vb out_held
+    three_held = ap (λ (h : Hand Cell Fact). h.held) puts_b ∙ ap (with_value (cell_place nodes at) vb) mid_held
 
-        pub has_room : length before.view.mine ≤ 2 ^ 50 → HasRoomFor (log_entry number dir.0 name file.0 File Add None [] ∷ []) ready.part.value
-        has_room few = room_for_one before.view.first (account_of log) before.view.core ready.part.value (log_entry number dir.0 name file.0 File Add None []) part_stands (changed.legal_log given t nodes before c v number mid turn)
-            (changed.number_is given t nodes before c v number mid turn) is_ready.room
-            (let e = is_ready.same.entries in let lt = changed.few_entries given t nodes before c v number mid turn is_ready.part is_ready.was few in omega (arith, e, lt))
+    file_same : file_held nodes three.held file ≡ file_held nodes before.held file
+    file_same = ap (λ l. file_held nodes l file) three_held ∙ ap (option_and_then as_file) (apart_value nodes out_held at (id.File file) vb bucket_apart
+        ∙ (apart_value nodes (with_value (cell_place nodes mine) none_p before.held) at (id.File file) none_b bucket_apart
+        ∙ apart_value nodes before.held mine (id.File file) none_p part_above_file))
 
-        module _ (vb : Cell) (three : Hand Cell Fact) (puts_b : Puts nodes (id.Bucket dir (bucket name)) vb mid three) where
-          three_held : three.held ≡ with_value (cell_place nodes at) vb two_held
-          three_held = ap (λ (h : Hand Cell Fact). h.held) puts_b ∙ ap (with_value (cell_place nodes at) vb) mid_held
+    pub file_there : IsSome (file_held nodes three.held file)
+    file_there = some_of (file_held nodes three.held file) r.may.file_of (file_same ∙ r.may.file_is)
 
-          file_same : file_held nodes three.held file ≡ file_held nodes before.held file
-          file_same = ap (λ l. file_held nodes l file) three_held ∙ ap (option_and_then as_file) (apart_value nodes two_held at (id.File file) vb bucket_apart
-              ∙ (apart_value nodes (with_value (cell_place nodes mine) is_ready.out.0 before.held) at (id.File file) none bucket_apart ∙ apart_value nodes before.held mine (id.File file) is_ready.out.0 part_above_file))
+    same_file : (f : FileCell) → file_held nodes three.held file ≡ Some f → r.may.file_of ≡ f
+    same_file f is = cc (sym r.may.file_is ∙ (sym file_same ∙ is))
 
-          pub file_there : IsSome (file_held nodes three.held file)
-          file_there = some_of (file_held nodes three.held file) may.file_of (file_same ∙ may.file_is)
+    pub links_few : (f : FileCell) → file_held nodes three.held file ≡ Some f → f.links < 65535
+    links_few f is = subst (λ (x : FileCell). x.links < 65535) (same_file f is) r.may.few
 
-          same_file : (f : FileCell) → file_held nodes three.held file ≡ Some f → may.file_of ≡ f
-          same_file f is = cc (sym may.file_is ∙ (sym file_same ∙ is))
+    module _ (four : Hand Cell Fact) (raised : RaisesLinks nodes file three four) where
+      four_held : four.held ≡ with_value (cell_place nodes (id.File file)) raised.change.value (with_value (cell_place nodes at) vb out_held)
+      four_held = ap (λ (h : Hand Cell Fact). h.held) raised.change.puts ∙ ap (with_value (cell_place nodes (id.File file)) raised.change.value) three_held
 
-          pub links_few : (f : FileCell) → file_held nodes three.held file ≡ Some f → f.links < 65535
-          links_few f is = subst (λ (x : FileCell). x.links < 65535) (same_file f is) may.few
+      pub core_four : four.view.core ≡ before.view.core
+      core_four = ap (λ (h : Hand Cell Fact). h.view.core) raised.change.puts
+          ∙ (ap (λ (h : Hand Cell Fact). h.view.core) puts_b ∙ changed.core_mid given t nodes before c v number mid turn)
 
-          module _ (four : Hand Cell Fact) (raised : RaisesLinks nodes file three four) where
-            four_held : four.held ≡ with_value (cell_place nodes (id.File file)) raised.change.value (with_value (cell_place nodes at) vb two_held)
-            four_held = ap (λ (h : Hand Cell Fact). h.held) raised.change.puts ∙ ap (with_value (cell_place nodes (id.File file)) raised.change.value) three_held
+      mine_there : value_held nodes four.held mine ≡ Some none_p
+      mine_there = ap (λ l. value_held nodes l mine) four_held
+          ∙ (apart_value nodes (with_value (cell_place nodes at) vb out_held) (id.File file) mine raised.change.value (λ same. part_above_file (sym same))
+          ∙ (apart_value nodes out_held at mine vb (λ same. above_bucket (sym same))
+          ∙ part_out nodes before dir name r.may.place r.part coming.ready r.is.mid r.is.ready out none_b r.is.out.1))
 
-            pub core_four : four.view.core ≡ before.view.core
-            core_four = ap (λ (h : Hand Cell Fact). h.view.core) raised.change.puts ∙ (ap (λ (h : Hand Cell Fact). h.view.core) puts_b ∙ changed.core_mid given t nodes before c v number mid turn)
+      pub part_there : IsSome (value_held nodes four.held (id.Part (record { 0 = four.view.core })))
+      part_there = subst (λ (n : ℕ). IsSome (value_held nodes four.held (id.Part (record { 0 = n })))) (sym core_four)
+          (some_of (value_held nodes four.held mine) none_p mine_there)
 
-            pub part_there : IsSome (value_held nodes four.held (id.Part (record { 0 = before.view.core })))
-            part_there = some_of (value_held nodes four.held mine) is_ready.out.0
-                (ap (λ l. value_held nodes l mine) four_held ∙ (apart_value nodes (with_value (cell_place nodes at) vb two_held) (id.File file) mine raised.change.value (λ same. part_above_file (sym same))
-                ∙ (apart_value nodes two_held at mine vb (λ same. part_above (bucket name) (bucket_small name) (sym same))
-                ∙ (apart_value nodes (with_value (cell_place nodes mine) is_ready.out.0 before.held) at mine none (λ same. part_above (bucket name) (bucket_small name) (sym same))
-                ∙ value_with nodes mine is_ready.out.0 before.held (some_first as_part (value_held nodes before.held mine) part)))))
+      module _ (is_b : as_bucket vb ≡ Some coming.bucket.value) (after : PartCell) (vp : Cell) (is_p : as_part vp ≡ Some after)
+          (added : IsAddedTo coming.ready.part.value.log (log_entry number dir.0 name file.0 File Add None [] ∷ []) after.log)
+          (made : after.made ≡ coming.ready.part.value.made)
+          (final : Hand Cell Fact) (puts_p : Puts nodes (id.Part (record { 0 = four.view.core })) vp four final) where
+        abbrev new_held : List (HeldCell Cell)
+        new_held = with_value (cell_place nodes mine) vp
+            (with_value (cell_place nodes (id.File file)) raised.change.value (with_value (cell_place nodes at) vb out_held))
 
-            module _ (new : Bucket) (is_b : as_bucket vb ≡ Some new) (more : IsWithFile name file.0 may.bucket_of new) (after : PartCell) (vp : Cell) (is_p : as_part vp ≡ Some after)
-                (added : IsAddedTo ready.part.value.log (log_entry number dir.0 name file.0 File Add None [] ∷ []) after.log) (made : after.made ≡ ready.part.value.made) (final : Hand Cell Fact)
-                (puts : final ≡ record four { held = with_value (cell_place nodes (id.Part (record { 0 = before.view.core }))) vp four.held }) where
-              abbrev new_held : List (HeldCell Cell)
-              new_held = with_value (cell_place nodes mine) vp (with_value (cell_place nodes (id.File file)) raised.change.value (with_value (cell_place nodes at) vb two_held))
+        puts : final ≡ record four { held = with_value (cell_place nodes mine) vp four.held }
+        puts = puts_p ∙ ap (λ (n : ℕ). record four { held = with_value (cell_place nodes (id.Part (record { 0 = n }))) vp four.held }) core_four
 
-              final_is : final ≡ record mid { held = new_held }
-              final_is = puts ∙ ((λ i. record (raised.change.puts i) { held = with_value (cell_place nodes mine) vp (four_held i) })
-                  ∙ ap (λ (h : Hand Cell Fact). record h { held = new_held }) puts_b)
+        final_is : final ≡ record mid { held = new_held }
+        final_is = puts ∙ ((λ i. record (raised.change.puts i) { held = with_value (cell_place nodes mine) vp (four_held i) })
+            ∙ ap (λ (h : Hand Cell Fact). record h { held = new_held }) puts_b)
 
-              cells : places_of new_held ≡ places_of before.held
-              cells = same_places (cell_place nodes mine) _ vp ∙ (same_places (cell_place nodes (id.File file)) _ raised.change.value ∙ (same_places (cell_place nodes at) _ vb ∙ (same_places (cell_place nodes at) _ none ∙ same_places (cell_place nodes mine) before.held is_ready.out.0)))
+        cells : places_of new_held ≡ places_of before.held
+        cells = same_places (cell_place nodes mine) _ vp ∙ (same_places (cell_place nodes (id.File file)) _ raised.change.value
+            ∙ (same_places (cell_place nodes at) _ vb ∙ (same_places (cell_place nodes at) _ none_b ∙ same_places (cell_place nodes mine) before.held none_p)))
 
-              stood_by : (which other : CellId) (x y : Cell) → which ≡ other → x ≡ y → StandsForCell given before.view.first (account_of (log ++ Called entry ∷ [])) other y → StandsForCell given before.view.first (account_of (log ++ Called entry ∷ [])) which x
-              stood_by which other x y one two stands_other = subst (λ (z : CellId × Cell). StandsForCell given before.view.first (account_of (log ++ Called entry ∷ [])) z.0 z.1) (λ i. (sym one i, sym two i)) stands_other
+        stood_by : (which other : CellId) (x y : Cell) → which ≡ other → x ≡ y → StandsForCell given before.view.first (account_of after_log) other y
+            → StandsForCell given before.view.first (account_of after_log) which x
+        stood_by which other x y one two stands_other =
+            subst (λ (z : CellId × Cell). StandsForCell given before.view.first (account_of after_log) z.0 z.1) (λ i. (sym one i, sym two i)) stands_other
 
-              raised_links : raised.change.new.links ≡ may.file_of.links + 1
-              raised_links = raised.links ∙ ap (λ (f : FileCell). f.links + 1) (sym (same_file raised.change.old raised.change.was))
+        raised_links : raised.change.new.links ≡ r.may.file_of.links + 1
+        raised_links = raised.links ∙ ap (λ (f : FileCell). f.links + 1) (sym (same_file raised.change.old raised.change.was))
 
-              raised_file : raised.change.new.file ≡ may.file_of.file
-              raised_file = raised.file ∙ ap (λ (f : FileCell). f.file) (sym (same_file raised.change.old raised.change.was))
+        raised_file : raised.change.new.file ≡ r.may.file_of.file
+        raised_file = raised.file ∙ ap (λ (f : FileCell). f.file) (sym (same_file raised.change.old raised.change.was))
 
-              each : (which : CellId) (x : Cell) → IsCell nodes (length t.first.made) which → value_held nodes new_held which ≡ Some x → StandsForCell given before.view.first (account_of (log ++ Called entry ∷ [])) which x
-              each which x is_cell found = elim (of_changed nodes (length t.first.made) which mine x vp _ is_cell work.core found) [
-                | inl one ↦ stood_by which mine x vp one.0 one.1 (changed.part_home given t nodes before c v number mid turn ready.part.value after vp part_stands is_p (subst (λ l. IsAddedTo ready.part.value.log l after.log) (sym logs) added) (made ∙ (part_stands.made ∙ made_next)))
-                | inr not_own ↦ elim (of_changed nodes (length t.first.made) which (id.File file) x raised.change.value _ is_cell may.file_within not_own.1) [
-                  | inl two ↦ stood_by which (id.File file) x raised.change.value two.0 two.1 (file_home raised.change.new raised.change.value raised.change.is raised_links raised_file)
-                  | inr not_file ↦ elim (of_changed nodes (length t.first.made) which at x vb _ is_cell (may.within, bucket_small name) not_file.1) [
-                    | inl three_is ↦ stood_by which at x vb three_is.0 three_is.1 (bucket_home vb new is_b more)
-                    | inr not_bucket ↦ elim (of_changed nodes (length t.first.made) which at x none _ is_cell (may.within, bucket_small name) not_bucket.1) [
-                      | inl again ↦ absurd (not_bucket.0 (ap (cell_place nodes) (sym again.0)))
-                      | inr not_again ↦ elim (of_changed nodes (length t.first.made) which mine x is_ready.out.0 _ is_cell work.core not_again.1) [
-                        | inl own_again ↦ absurd (not_own.0 (ap (cell_place nodes) (sym own_again.0)))
-                        | inr last ↦ changed.kept given t nodes before c v number mid turn which x is_cell last.1 (link_keeps nodes S before.view.core file dir name which (changed.verdict_is given t nodes before c v number mid turn) not_own.0 not_file.0 not_bucket.0)
-                      ]
-                    ]
-                  ]
+        part_goes : StandsForCell given before.view.first (account_of after_log) mine vp
+        part_goes = changed.part_home given t nodes before c v number mid turn coming.ready.part.value after vp part_stands is_p
+            (subst (λ l. IsAddedTo coming.ready.part.value.log l after.log) (sym logs) added) (made ∙ (part_stands.made ∙ made_next))
+
+        each : (which : CellId) (x : Cell) → IsCell nodes (length t.first.made) which → value_held nodes new_held which ≡ Some x
+            → StandsForCell given before.view.first (account_of after_log) which x
+        each which x is_cell found = elim (of_changed nodes (length t.first.made) which mine x vp _ is_cell r.work.core found) [
+          | inl one ↦ stood_by which mine x vp one.0 one.1 part_goes
+          | inr not_own ↦ elim (of_changed nodes (length t.first.made) which (id.File file) x raised.change.value _ is_cell r.may.file_within not_own.1) [
+            | inl two ↦ stood_by which (id.File file) x raised.change.value two.0 two.1
+                (file_home raised.change.new raised.change.value raised.change.is raised_links raised_file)
+            | inr not_file ↦ elim (of_changed nodes (length t.first.made) which at x vb _ is_cell (r.may.place.within, bucket_small name) not_file.1) [
+              | inl three_is ↦ stood_by which at x vb three_is.0 three_is.1 (bucket_home vb is_b)
+              | inr not_bucket ↦ elim (of_changed nodes (length t.first.made) which at x none_b _ is_cell (r.may.place.within, bucket_small name) not_bucket.1) [
+                | inl again ↦ absurd (not_bucket.0 (ap (cell_place nodes) (sym again.0)))
+                | inr not_again ↦ elim (of_changed nodes (length t.first.made) which mine x none_p _ is_cell r.work.core not_again.1) [
+                  | inl own_again ↦ absurd (not_own.0 (ap (cell_place nodes) (sym own_again.0)))
+                  | inr last ↦ changed.kept given t nodes before c v number mid turn which x is_cell last.1
+                      (link_keeps nodes S before.view.core file dir name which
+                      (changed.verdict_is given t nodes before c v number mid turn) not_own.0 not_file.0 not_bucket.0)
                 ]
               ]
+            ]
+          ]
+        ]
 
-              pub goes_home : EachFrom 0 (Stands (IsLawfulLog given) (StandsAt given) final.view) final.held
-              goes_home = changed.goes_home given t nodes before c v number mid turn final new_held final_is cells each
+        pub goes_home : EachFrom 0 (Stands (IsLawfulLog given) (StandsAt given) final.view) final.held
+        goes_home = changed.goes_home given t nodes before c v number mid turn final new_held final_is cells each
 
-              pub answers : (last : Hand Cell Fact) → LetsGo final last → last.held ≡ left_below 0 final.held → last.view.held ≡ reverse (places_of last.held) → IsAnswered t (call.Link file dir name) reply.Ok before last
-              answers last lets left at_places = changed.ended given t nodes before c v number mid turn final new_held final_is cells last lets left at_places
+        pub answers : (last : Hand Cell Fact) → LetsGo final last → last.held ≡ left_below 0 final.held → last.view.held ≡ reverse (places_of last.held)
+            → IsAnswered t (call.Link file dir name) reply.Ok before last
+        answers last lets left at_places = changed.ended given t nodes before c v number mid turn final new_held final_is cells last lets left at_places

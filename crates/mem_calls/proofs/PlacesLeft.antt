@@ -1,4 +1,4 @@
--- Buckets by which a directory stands nowhere, one after the other.
+-- Buckets by which a directory stands elsewhere, one after the other.
 use Rattle.std.proofs.Common.{◌≡◌, ◌<◌, ◌≤◌, ◌+◌, ◌*◌, ℕ, List, Option, Some, None, IsSome, refl, sym, ap, subst, ◌∙◌, arith, ⊎_elim, nat_eq, true, false, ◌==◌}
 use borrow.Author.Tests.{eqb-true}
 use Rattle.std.specs.Option.{option_and_then}
@@ -15,13 +15,14 @@ use Rattle.mem_values.specs.declared.cell_id.CellId.TheVariants as id
 use Rattle.mem_values.specs.declared.fact.Fact.{Fact}
 use Rattle.mem_values.specs.Places.{cell_place}
 use Rattle.mem_calls.specs.Held.{value_held, as_bucket, bucket_held}
-use Rattle.mem_calls.specs.Ends.{IsNowhere, LeavesPlace, EndsStanding}
+use Rattle.mem_calls.specs.Ends.{IsPlaced, PlacesBucket, PlacesDirectory}
 use Rattle.mem_calls.proofs.Nothing.{some_first}
 use Rattle.mem_calls.proofs.HeldKinds.{some_of}
 use Rattle.mem_calls.proofs.Taken.{value_with}
 use Rattle.mem_calls.proofs.Unlinked.{apart_value}
 
-module _ (nodes : ℕ) (node : NodeId) (count : ℕ) (before now : Hand Cell Fact) (done : EndsStanding nodes node count before now) where
+module _ (nodes : ℕ) (node : NodeId) (count : ℕ) (place : Option NodeId) (before now : Hand Cell Fact)
+    (done : PlacesDirectory nodes node count place before now) where
   -- a bucket whose turn has not come is as it was
   same_next : bucket_held nodes now.held node count ≡ bucket_held nodes before.held node count
   same_next = ap (option_and_then as_bucket) (done.rest (id.Bucket node count) (λ k lt same. let at : 16 + 9 * node.0 + k ≡ 16 + 9 * node.0 + count = same in omega (arith, lt, at)))
@@ -29,13 +30,15 @@ module _ (nodes : ℕ) (node : NodeId) (count : ℕ) (before now : Hand Cell Fac
   pub still_there : IsSome (bucket_held nodes before.held node count) → IsSome (bucket_held nodes now.held node count)
   still_there some = subst IsSome (sym same_next) some
 
-  pub one_more : (after : Hand Cell Fact) → count < 8 → LeavesPlace nodes node count now after → EndsStanding nodes node (count + 1) before after
+  pub one_more : (after : Hand Cell Fact) → count < 8 → PlacesBucket nodes node count place now after
+      → PlacesDirectory nodes node (count + 1) place before after
   one_more after eight leaves = record {
     frame = ap (λ (h : Hand Cell Fact). record h { held = before.held }) leaves.change.puts ∙ done.frame;
     places = ap (λ (h : Hand Cell Fact). places_of h.held) leaves.change.puts ∙ (same_places (cell_place nodes (id.Bucket node count)) now.held leaves.change.value ∙ done.places);
-    ended = λ k old lt was. ⊎_elim
+    placed = λ k old lt was. ⊎_elim
         (λ (here : (count == k) ≡ true). this k old (eqb-true count k here) was)
-        (λ (other : (count == k) ≡ false). let new = done.ended k old (below_other k lt other) was in (new.0, ap (option_and_then as_bucket) (apart_now (id.Bucket node k) (λ same. not_here k same other)) ∙ new.1, new.2))
+        (λ (other : (count == k) ≡ false). let new = done.placed k old (below_other k lt other) was in
+        (new.0, ap (option_and_then as_bucket) (apart_now (id.Bucket node k) (λ same. not_here k same other)) ∙ new.1, new.2))
         (cases_Bool (count == k));
     rest = λ which apart. apart_now which (apart count (omega arith)) ∙ done.rest which (λ k lt. apart k (omega (arith, lt)));
   }
@@ -57,16 +60,17 @@ module _ (nodes : ℕ) (node : NodeId) (count : ℕ) (before now : Hand Cell Fac
           ∙ (ap (option_and_then as_bucket) (value_with nodes (id.Bucket node count) leaves.change.value now.held (some_first as_bucket (value_held nodes now.held (id.Bucket node count)) (some_of (bucket_held nodes now.held node count) leaves.change.old leaves.change.was)))
           ∙ leaves.change.is)
 
-      this : (k : ℕ) (old : Bucket) → count ≡ k → bucket_held nodes before.held node k ≡ Some old → (new : Bucket) × (bucket_held nodes after.held node k ≡ Some new) × IsNowhere old new
+      this : (k : ℕ) (old : Bucket) → count ≡ k → bucket_held nodes before.held node k ≡ Some old → (new : Bucket)
+          × (bucket_held nodes after.held node k ≡ Some new) × IsPlaced place old new
       this k old here was =
           let same : leaves.change.old ≡ old = cc (sym leaves.change.was ∙ (same_next ∙ (ap (bucket_held nodes before.held node) here ∙ was))) in
-          (leaves.change.new, ap (bucket_held nodes after.held node) (sym here) ∙ found_new, subst (λ b. IsNowhere b leaves.change.new) same leaves.nowhere)
+          (leaves.change.new, ap (bucket_held nodes after.held node) (sym here) ∙ found_new, subst (λ b. IsPlaced place b leaves.change.new) same leaves.placed)
 
 -- before the first bucket nothing has changed
-pub at_first : (nodes : ℕ) (node : NodeId) (hand : Hand Cell Fact) → EndsStanding nodes node 0 hand hand
-at_first nodes node hand = record {
+pub at_first : (nodes : ℕ) (node : NodeId) (place : Option NodeId) (hand : Hand Cell Fact) → PlacesDirectory nodes node 0 place hand hand
+at_first nodes node place hand = record {
   frame = refl;
   places = refl;
-  ended = λ k old lt was. absurd (omega (arith, lt));
+  placed = λ k old lt was. absurd (omega (arith, lt));
   rest = λ which apart. refl;
 }

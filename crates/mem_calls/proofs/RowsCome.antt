@@ -1,4 +1,4 @@
--- The bucket of a row of a file that comes, once it came.
+-- The bucket of a row that comes, once it came.
 use Rattle.std.proofs.Common.{◌≡◌, ◌<◌, ℕ, Bool, true, false, cond, ◌&&◌, ◌==◌, List, length, Some, None, refl, sym, ap, ◌∙◌, eq-eqb, ⊎_elim}
 use Rattle.std.specs.Prelude.{if◌then◌else◌}
 use Rattle.std.specs.Ordering.{eq_by_cmp}
@@ -6,9 +6,10 @@ use Rattle.std.specs.Cmp.Lexicographic.{nat_list_cmp_total}
 use Rattle.std.proofs.lemmas.Bool.{cases_Bool}
 use Rattle.std.specs.FinMap.{FinMap, get, insert, get-insert}
 use Rattle.sfs_base.specs.Name.{bucket}
+use Rattle.sfs_base.specs.declared.numbers.Kind.{Kind}
 use Rattle.sfs_tree.specs.Order.{name_cmp}
 use Rattle.sfs_tree.specs.NameRow.{number_of}
-use Rattle.sfs_tree.specs.Tree.{TreeState, is_directory, bucket_rows}
+use Rattle.sfs_tree.specs.Tree.{TreeState, is_directory, is_directory_kind, bucket_rows}
 use Rattle.sfs_tree.specs.declared.call.Call.{Call}
 use Rattle.sfs_tree.specs.Effect.{Adds}
 use Rattle.sfs_tree.specs.Parts.{is_in_part, part_after}
@@ -19,11 +20,12 @@ use Rattle.mem_values.specs.declared.bucket.Bucket.{Bucket}
 use Rattle.mem_values.specs.Stands.{ShowsBucket, if_directory}
 use Rattle.mem_values.specs.Touches.{touches_standing}
 use Rattle.mem_values.proofs.Standing.{standing_stays}
-use Rattle.mem_calls.specs.Changes.{IsWithFile}
+use Rattle.mem_calls.specs.Changes.{IsWithRow}
 use Rattle.mem_calls.proofs.RowsGo.{same_name, old_directory, directories_kept}
 
 module _ (tree : TreeState) (core : ℕ) (c : Call) (is : IsSoundTree tree) (lt : core < length tree.made) (d : ℕ) (name : List ℕ) (child : ℕ) (adds : (verdict tree core c).effect ≡ Adds d name child) (b new : Bucket)
-    (shows : ShowsBucket tree d (bucket name) b) (more : IsWithFile name child b new) (free : get b.rows name ≡ None) (file : is_directory (tree_after_call tree core c) child ≡ false) (stays : touches_standing tree core c d ≡ false) where
+    (shows : ShowsBucket tree d (bucket name) b) (kind : Kind) (more : IsWithRow name child kind b new) (free : get b.rows name ≡ None)
+    (kind_next : is_directory (tree_after_call tree core c) child ≡ is_directory_kind kind) (stays : touches_standing tree core c d ≡ false) where
   abbrev next : TreeState
   next = tree_after_call tree core c
 
@@ -43,15 +45,27 @@ module _ (tree : TreeState) (core : ℕ) (c : Call) (is : IsSoundTree tree) (lt 
   pub bucket_after : ShowsBucket next d (bucket name) new
   bucket_after = record {
     rows = more.rows ∙ sym rows_next;
-    directories = λ n. ap (λ (m : FinMap name_cmp ℕ). get m n) more.directories ∙ (each n ∙ ap (if_directory next) (sym (get-insert nat_list_cmp_total b.rows name child n) ∙ ap (λ (m : FinMap name_cmp ℕ). get m n) (sym rows_next)));
+    directories = λ n. ap (λ (m : FinMap name_cmp ℕ). get m n) more.directories ∙ (with_name n (is_directory_kind kind)
+        ∙ (each n ∙ ap (if_directory next)
+        (sym (get-insert nat_list_cmp_total b.rows name child n) ∙ ap (λ (m : FinMap name_cmp ℕ). get m n) (sym rows_next))));
     stands = ap number_of more.stands ∙ (shows.stands ∙ sym (standing_stays tree core c d is lt stays));
   }
     where
       none_there : get b.directories name ≡ None
       none_there = old_directory tree core c is lt d (bucket name) b shows name ∙ ap (if_directory tree) free
 
-      each : (n : List ℕ) → get b.directories n ≡ if_directory next (cond (eq_by_cmp name_cmp n name) (Some child) (get b.rows n))
+      with_name : (n : List ℕ) (d : Bool)
+          → get (if d then insert b.directories name child else b.directories) n ≡ cond (eq_by_cmp name_cmp n name) (if d then Some child else None)
+          (get b.directories n)
+      with_name n true = get-insert nat_list_cmp_total b.directories name child n
+      with_name n false = ⊎_elim
+          (λ (same : eq_by_cmp name_cmp n name ≡ true). rw same (ap (get b.directories) (same_name n name same) ∙ none_there))
+          (λ (other : eq_by_cmp name_cmp n name ≡ false). rw other refl)
+          (cases_Bool (eq_by_cmp name_cmp n name))
+
+      each : (n : List ℕ) → cond (eq_by_cmp name_cmp n name) (if is_directory_kind kind then Some child else None) (get b.directories n) ≡ if_directory next
+          (cond (eq_by_cmp name_cmp n name) (Some child) (get b.rows n))
       each n = ⊎_elim
-          (λ (same : eq_by_cmp name_cmp n name ≡ true). rw same (ap (get b.directories) (same_name n name same) ∙ (none_there ∙ sym (ap (λ x. if x then Some child else None) file))))
+          (λ (same : eq_by_cmp name_cmp n name ≡ true). rw same (ap (λ d. if d then Some child else None) (sym kind_next)))
           (λ (other : eq_by_cmp name_cmp n name ≡ false). rw other (old_directory tree core c is lt d (bucket name) b shows n ∙ sym (directories_kept tree core c is lt d (bucket name) b shows n (get b.rows n) refl)))
           (cases_Bool (eq_by_cmp name_cmp n name))

@@ -8,20 +8,19 @@ use Rattle.sfs_base.specs.Name.{bucket}
 use Rattle.sfs_base.specs.declared.numbers.NodeId.{NodeId}
 use Rattle.sfs_tree.specs.declared.call.Call.{Call}
 use Rattle.sfs_tree.specs.declared.call.Call.TheVariants as call
-use Rattle.sfs_tree.specs.NameRow.{number_of}
-use Rattle.sfs_tree.specs.Tree.{TreeState, row_of, is_directory, holder_of, bucket_rows}
+use Rattle.sfs_tree.specs.Tree.{TreeState, row_of, is_directory, holder_of}
 use Rattle.sfs_tree.specs.Effect.{Removes, rows_after}
 use Rattle.sfs_tree.specs.Parts.{is_in_part, is_this}
 use Rattle.sfs_tree.specs.Lock.{stands_of}
 use Rattle.sfs_tree.specs.Laws.{IsSoundTree}
 use Rattle.sfs_tree.specs.Verdict.{verdict, tree_after_call}
 use Rattle.sfs_tree.proofs.RowFacts.{holder_found, removed_cases}
-use Rattle.sfs_tree.proofs.KeepsRest.{calls_keep_the_rest}
 use Rattle.mem_values.specs.declared.bucket.Bucket.{Bucket}
-use Rattle.mem_values.specs.Stands.{ShowsBucket, if_directory}
+use Rattle.mem_values.specs.Stands.{ShowsBucket}
 use Rattle.mem_values.specs.Touches.{touches_standing}
-use Rattle.mem_calls.specs.Ends.{IsNowhere}
-use Rattle.mem_calls.proofs.RowsGo.{directory_kept, directories_kept, old_directory}
+use Rattle.mem_calls.specs.Ends.{IsPlaced}
+use Rattle.mem_calls.proofs.RowsGo.{directory_kept}
+use Rattle.mem_calls.proofs.Placed.{placed_after}
 
 pub not_equal : (a b : ℕ) → a ≢ b → (a == b) ≡ false
 not_equal a b apart = ⊎_elim (λ same. absurd (apart (eqb-true a b same))) (λ other. other) (cases_Bool (a == b))
@@ -54,18 +53,10 @@ module _ (tree : TreeState) (core : ℕ) (dir : NodeId) (name : List ℕ) (child
     pub stays : touches_standing tree core c dir.0 ≡ false
     stays = ap (is_this dir.0) row ∙ not_equal child.0 dir.0 apart
 
-    module _ (number : ℕ) (old new : Bucket) (shows : ShowsBucket tree child.0 number old) (nowhere : IsNowhere old new) where
+    module _ (number : ℕ) (old new : Bucket) (shows : ShowsBucket tree child.0 number old) (nowhere : IsPlaced None old new) where
       outside : is_in_part child.0 (λ n. bucket n == number) dir.0 name ≡ false
       outside = ap (λ b. b && (bucket name == number)) (not_equal dir.0 child.0 (λ same. apart (sym same)))
 
-      rows_same : bucket_rows child.0 number next.rows ≡ bucket_rows child.0 number tree.rows
-      rows_same = (calls_keep_the_rest tree core c is lt).rows child.0 (λ n. bucket n == number) outside
-
       -- It shows the directory after the call.
       pub nowhere_after : ShowsBucket next child.0 number new
-      nowhere_after = record {
-        rows = nowhere.rows ∙ (shows.rows ∙ sym rows_same);
-        directories = λ n. ap (λ m. get m n) nowhere.directories ∙ (old_directory tree core c is lt child.0 number old shows n ∙ (sym (directories_kept tree core c is lt child.0 number old shows n (get old.rows n) refl)
-            ∙ ap (λ m. if_directory next (get m n)) (shows.rows ∙ sym rows_same)));
-        stands = ap number_of nowhere.stands ∙ sym stands_none;
-      }
+      nowhere_after = placed_after tree core c is lt child.0 number outside None old new shows nowhere (sym stands_none)

@@ -2,6 +2,8 @@
 use Rattle.std.specs.Prelude.{◌≡◌, ℕ, ◌+◌, ◌*◌, ◌<◌, ◌≤◌, true, false, List, [], length, IsSome, Some, None, is_some, if◌then◌else◌}
 use Rattle.std.specs.FinMap.{get, insert, remove}
 use Rattle.sfs_base.specs.declared.numbers.NodeId.{NodeId}
+use Rattle.sfs_base.specs.declared.numbers.Kind.{Kind}
+use Rattle.sfs_tree.specs.Tree.{is_directory_kind}
 use Rattle.mem_cells.specs.Part.{IsSamePart, room_kept}
 use Rattle.stamp_table.specs.declared.held.HeldCell.{HeldCell}
 use Rattle.stamp_table.specs.Hand.{Hand}
@@ -20,6 +22,7 @@ use Rattle.mem_values.specs.declared.fact.Fact.{Fact}
 use Rattle.mem_values.specs.Places.{cell_place}
 use Rattle.mem_calls.specs.Held.{as_bucket, as_file, bucket_held, file_held, part_held, is_standing, HoldsDirectory, HoldsFile}
 use Rattle.mem_calls.specs.declared.ready.Ready.{Ready}
+use Rattle.mem_calls.specs.declared.coming.Coming.{Coming}
 
 -- a core holds another value of a cell, and nothing else changes
 abbrev pub Puts : ℕ → CellId → Cell → Hand Cell Fact → Hand Cell Fact → Type 0
@@ -88,11 +91,29 @@ pub record IsReady (nodes : ℕ) (node : NodeId) (name : List ℕ) (before : Han
   pub room : 1 ≤ room_kept ready.part.value.log node.0
   pub out : (value : Cell) × Puts nodes (id.Part (record { 0 = before.view.core })) value before after
 
--- A bucket with a row more, that of a file.
-pub record IsWithFile (name : List ℕ) (child : ℕ) (old new : Bucket) : Type 0 where
+-- The place of a name is held, and has no row.
+pub record IsFree (nodes : ℕ) (held : List (HeldCell Cell)) (node : NodeId) (name : List ℕ) : Type 0 where
+  pub within : node.0 < nodes
+  pub bucket_of : Bucket
+  pub bucket_is : bucket_held nodes held node (bucket name) ≡ Some bucket_of
+  pub free : get bucket_of.rows name ≡ None
+
+-- A bucket with a row more, whose child is of this kind.
+pub record IsWithRow (name : List ℕ) (child : ℕ) (kind : Kind) (old new : Bucket) : Type 0 where
   pub rows : new.rows ≡ insert old.rows name child
-  pub directories : new.directories ≡ old.directories
+  pub directories : new.directories ≡ (if is_directory_kind kind then insert old.directories name child else old.directories)
   pub stands : new.stands ≡ old.stands
+
+-- The own log and the bucket of a name are out of their cells: the log has room for one more change of the directory, and the bucket has
+-- the row of a child.
+pub record IsComing (nodes : ℕ) (node : NodeId) (name : List ℕ) (child : ℕ) (kind : Kind) (before : Hand Cell Fact) (coming : Coming)
+    (after : Hand Cell Fact) : Type 0 where
+  pub mid : Hand Cell Fact
+  pub ready : IsReady nodes node name before coming.ready mid
+  pub out : (value : Cell) × Puts nodes (id.Bucket node (bucket name)) value mid after
+  pub old : Bucket
+  pub was : bucket_held nodes before.held node (bucket name) ≡ Some old
+  pub row : IsWithRow name child kind old coming.bucket.value
 
 -- a file that is held has one name more
 pub record RaisesLinks (nodes : ℕ) (node : NodeId) (before after : Hand Cell Fact) : Type 0 where
@@ -100,13 +121,10 @@ pub record RaisesLinks (nodes : ℕ) (node : NodeId) (before after : Hand Cell F
   pub links : change.new.links ≡ change.old.links + 1
   pub file : change.new.file ≡ change.old.file
 
--- A file that is held has names, and may have one more; a bucket that is held has no row of a name.
+-- A file that is held has names, and may have one more; the place of a name is free.
 pub record MayLink (nodes : ℕ) (held : List (HeldCell Cell)) (file node : NodeId) (name : List ℕ) : Type 0 where
   pub file_within : file.0 < nodes
-  pub within : node.0 < nodes
-  pub bucket_of : Bucket
-  pub bucket_is : bucket_held nodes held node (bucket name) ≡ Some bucket_of
-  pub free : get bucket_of.rows name ≡ None
+  pub place : IsFree nodes held node name
   pub file_of : FileCell
   pub file_is : file_held nodes held file ≡ Some file_of
   pub linked : 0 < file_of.links

@@ -1,5 +1,5 @@
--- A directory that ends: its row goes, and it stands nowhere.
-use Rattle.std.specs.Prelude.{◌≡◌, ℕ, ◌+◌, ◌*◌, ◌<◌, ◌≤◌, true, List, length, Some, None}
+-- Where directories stand, and a directory that ends: its row goes, and it stands nowhere.
+use Rattle.std.specs.Prelude.{◌≡◌, ℕ, ◌+◌, ◌*◌, ◌<◌, ◌≤◌, true, List, length, Option, Some}
 use Rattle.std.specs.FinMap.{get}
 use Rattle.sfs_base.specs.Name.{bucket}
 use Rattle.sfs_base.specs.declared.numbers.NodeId.{NodeId}
@@ -36,22 +36,22 @@ pub record HoldsEnding (nodes : ℕ) (node : NodeId) (name : List ℕ) (hand : H
   pub below : LiesAbove (32 + 10 * nodes) hand.view.held
   pub few : length hand.held ≤ 10
 
--- A bucket of a directory that stands nowhere, with the same rows.
-pub record IsNowhere (old new : Bucket) : Type 0 where
+-- A bucket of a directory that stands here, with the same rows.
+pub record IsPlaced (place : Option NodeId) (old new : Bucket) : Type 0 where
   pub rows : new.rows ≡ old.rows
   pub directories : new.directories ≡ old.directories
-  pub stands : new.stands ≡ None
+  pub stands : new.stands ≡ place
 
--- by a bucket that is held its directory stands nowhere
-pub record LeavesPlace (nodes : ℕ) (node : NodeId) (number : ℕ) (before after : Hand Cell Fact) : Type 0 where
+-- by a bucket that is held its directory stands here
+pub record PlacesBucket (nodes : ℕ) (node : NodeId) (number : ℕ) (place : Option NodeId) (before after : Hand Cell Fact) : Type 0 where
   pub change : ChangesBucket nodes node number before after
-  pub nowhere : IsNowhere change.old change.new
+  pub placed : IsPlaced place change.old change.new
 
--- By so many buckets that are held a directory stands nowhere, and nothing else changes.
-pub record EndsStanding (nodes : ℕ) (node : NodeId) (count : ℕ) (before after : Hand Cell Fact) : Type 0 where
+-- By so many buckets that are held a directory stands here, and nothing else changes.
+pub record PlacesDirectory (nodes : ℕ) (node : NodeId) (count : ℕ) (place : Option NodeId) (before after : Hand Cell Fact) : Type 0 where
   pub frame : record after { held = before.held } ≡ before
   pub places : places_of after.held ≡ places_of before.held
-  pub ended : (number : ℕ) (old : Bucket) → number < count → bucket_held nodes before.held node number ≡ Some old
-      → (new : Bucket) × (bucket_held nodes after.held node number ≡ Some new) × IsNowhere old new
+  pub placed : (number : ℕ) (old : Bucket) → number < count → bucket_held nodes before.held node number ≡ Some old
+      → (new : Bucket) × (bucket_held nodes after.held node number ≡ Some new) × IsPlaced place old new
   pub rest : (which : CellId) → ((number : ℕ) → number < count → cell_place nodes (id.Bucket node number) ≡ cell_place nodes which → ⊥)
       → value_held nodes after.held which ≡ value_held nodes before.held which

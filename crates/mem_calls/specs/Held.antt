@@ -11,6 +11,7 @@ use Rattle.mem_values.specs.declared.cell.Cell.{Cell}
 use Rattle.mem_values.specs.declared.cell.Cell.TheVariants as cell
 use Rattle.mem_values.specs.declared.cell.FileCell.{FileCell}
 use Rattle.mem_values.specs.declared.cell.PartCell.{PartCell}
+use Rattle.mem_values.specs.declared.cell.Pending.{Pending}
 use Rattle.mem_values.specs.declared.bucket.Bucket.{Bucket}
 use Rattle.mem_values.specs.declared.cell_id.CellId.{CellId}
 use Rattle.mem_values.specs.declared.cell_id.CellId.TheVariants as id
@@ -22,7 +23,7 @@ use Rattle.mem_values.specs.Laws.{MayMeet}
 abbrev pub value_held : ℕ → List (HeldCell Cell) → CellId → Option Cell
 value_held nodes held which = option_map (λ h. h.value) (cell_at (cell_place nodes which) held)
 
--- the bucket, the file and the log that a value is
+-- the bucket, the file, the log and the flushed node that a value is
 abbrev pub as_bucket : Cell → Option Bucket
 as_bucket (cell.Bucket bucket) = Some bucket.value
 as_bucket _ = None
@@ -35,7 +36,11 @@ abbrev pub as_part : Cell → Option PartCell
 as_part (cell.Part part) = Some part.value
 as_part _ = None
 
--- a bucket of a directory that is held, and a file, and the log of a core
+abbrev pub as_pending : Cell → Option Pending
+as_pending (cell.Pending pending) = Some pending.value
+as_pending _ = None
+
+-- a bucket of a directory that is held, and a file, and the log of a core, and what was flushed of a node
 abbrev pub bucket_held : ℕ → List (HeldCell Cell) → NodeId → ℕ → Option Bucket
 bucket_held nodes held node number = option_and_then as_bucket (value_held nodes held (id.Bucket node number))
 
@@ -44,6 +49,9 @@ file_held nodes held node = option_and_then as_file (value_held nodes held (id.F
 
 abbrev pub part_held : ℕ → List (HeldCell Cell) → ℕ → Option PartCell
 part_held nodes held core = option_and_then as_part (value_held nodes held (id.Part (record { 0 = core })))
+
+abbrev pub pending_held : ℕ → List (HeldCell Cell) → NodeId → Option Pending
+pending_held nodes held node = option_and_then as_pending (value_held nodes held (id.Pending node))
 
 -- whether a directory stands by a bucket of it: it is the root, or stands in another one
 abbrev pub is_standing : NodeId → Bucket → Bool

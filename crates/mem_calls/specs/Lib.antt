@@ -1,4 +1,6 @@
+pub mod Calls
 pub mod Changes
+pub mod Creations
 pub mod Edits
 pub mod Ends
 pub mod Held

@@ -2,8 +2,10 @@
 use Rattle.std.specs.Prelude.{◌≡◌, ℕ, ◌+◌, ◌*◌, length}
 use Rattle.sfs_tree.specs.Sound.{IsWithinLimits}
 use Rattle.sfs_tree.specs.Laws.{IsSoundTree}
+use Rattle.sfs_tree.specs.Tree.{TreeState}
 use Rattle.stamp_table.specs.Table.{TableState}
 use Rattle.mem_values.specs.Places.{node_count}
+use Rattle.mem_calls.specs.declared.numbers.Numbers.{Numbers}
 
 -- how many places the cells of so many nodes and cores take
 abbrev pub place_count : ℕ → ℕ → ℕ
@@ -15,3 +17,8 @@ pub record IsFileTable (t : TableState) (nodes : ℕ) : Type 0 where
   pub within : IsWithinLimits t.first
   pub counted : nodes ≡ node_count t.first
   pub slots : t.table.slots ≡ place_count nodes (length t.first.made)
+
+-- A tree's cores number by these the nodes that they make.
+pub record AreNumbersOf (first : TreeState) (numbers : Numbers) : Type 0 where
+  pub first_is : numbers.first ≡ first.first
+  pub share_is : numbers.share ≡ first.share

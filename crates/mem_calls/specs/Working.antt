@@ -1,7 +1,8 @@
 -- A core in the middle of a call.
-use Rattle.std.specs.Prelude.{◌≡◌, ℕ, ◌+◌, ◌<◌, [], ◌∷◌, ◌++◌, List, Option, Some, None, length, reverse}
+use Rattle.std.specs.Prelude.{◌≡◌, ℕ, ◌+◌, ◌*◌, ◌<◌, true, [], ◌∷◌, ◌++◌, List, Option, Some, None, length, reverse}
 use mathlib.Core.List.{IsPrefix}
 use Rattle.disk_change.specs.OldKept.{OldKept}
+use Rattle.sfs_base.specs.declared.numbers.NodeId.{NodeId}
 use Rattle.sfs_tree.specs.Tree.{TreeState}
 use Rattle.sfs_tree.specs.History.{tree_after, IsLegal}
 use Rattle.stamp_table.specs.Events.{calls_in}
@@ -16,7 +17,7 @@ use Rattle.mem_values.specs.declared.cell_id.CellId.TheVariants as id
 use Rattle.mem_values.specs.declared.fact.Fact.{Fact}
 use Rattle.mem_values.specs.Places.{cell_place}
 use Rattle.mem_values.specs.Laws.{KnowsCells, MayMeet}
-use Rattle.mem_calls.specs.Held.{value_held, CanMeet}
+use Rattle.mem_calls.specs.Held.{value_held, stands_held, CanMeet}
 
 -- A core of a table that has no fsync without an answer; the values of the cells that it holds stand for what it has seen.
 pub record IsWorking (given : ℕ → Option OldKept) (t : TableState) (hand : Hand Cell Fact) : Type 0 where
@@ -60,3 +61,8 @@ pub record Gains (nodes : ℕ) (which : CellId) (before after : Hand Cell Fact) 
   pub there : (value : Cell) × (value_held nodes after.held which ≡ Some value) × IsOfKind which value
   pub legal : IsLegal after.view.first (calls_in after.view.seen)
   pub seen_met : MayMeet after.view after.held (tree_after after.view.first (calls_in after.view.seen))
+
+-- A bucket of a node is held: there is a tree that the core may meet, and where the node stands by the bucket no other cell was taken.
+pub record TookBucket (nodes : ℕ) (node : NodeId) (number : ℕ) (before after : Hand Cell Fact) : Type 0 where
+  pub met : CanMeet after
+  pub top : stands_held nodes after.held node number ≡ true → after.view.held ≡ cell_place nodes (id.Bucket node number) ∷ before.view.held

@@ -21,7 +21,7 @@ use crate::holding::{
 };
 use crate::ready::make_ready;
 use crate::rows::{remove_row, removed_row};
-use crate::standing::end_standing;
+use crate::standing::place_directory;
 use crate::status::directory_counts;
 use crate::taking::{put_part, with_entry};
 use mem_values::{CellId, FileCore, FileShared, Given};
@@ -171,7 +171,7 @@ fn finish_rmdir<T: Given>(
     let ready = make_ready(alloc, shared, core, nodes, dir, &name)?;
     let stamp = core.stamp(shared, Call::Rmdir { dir, name }, Reply::Ok);
     remove_row(core, nodes, dir, number, &ready.name);
-    end_standing(core, nodes, child);
+    place_directory(core, nodes, child, None);
     let change = removed_row(
         alloc,
         ready.changes,

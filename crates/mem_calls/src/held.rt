@@ -2,9 +2,9 @@
 ghost use Rattle.std.specs.Prelude.{◌≡◌, ◌<◌, true, None, Some, IsSome};
 ghost use Rattle.mem_values.specs.Places.{node_count};
 ghost use Rattle.sfs_tree.specs.Verdict.{directory_fault, file_fault};
-ghost use Rattle.mem_calls.specs.Held.{bucket_held, file_held, is_standing, stands_held, linked_held, HoldsDirectory, HoldsFile, InEach};
+ghost use Rattle.mem_calls.specs.Held.{bucket_held, file_held, part_held, is_standing, stands_held, linked_held, HoldsDirectory, HoldsFile, HoldsPart, InEach};
 
-use mem_values::{Bucket, Cell, CellId, FileCell, FileCore};
+use mem_values::{Bucket, Cell, CellId, FileCell, FileCore, PartCell};
 use sfs_base::NodeId;
 use sfs_tree::Code;
 
@@ -32,6 +32,18 @@ pub fn file_in<'a>(core: &'a FileCore, nodes: u32, node: NodeId) -> &'a FileCell
     let place = CellId::File { node }.place(nodes);
     match core.cell(place) {
         Cell::File { file } => file,
+        _ => unreachable!(),
+    }
+}
+
+/// The own log, which is held.
+pub(crate) fn part_in(core: &FileCore, nodes: u32) -> &PartCell
+    requires { HoldsPart nodes core.now }
+    ensures { part_held nodes core.now.held core.now.view.core ≡ Some result.now }
+{
+    let own = core.number();
+    match core.cell(CellId::Part { core: own }.place(nodes)) {
+        Cell::Part { part } => part,
         _ => unreachable!(),
     }
 }

@@ -1,12 +1,11 @@
 // Cells that a core holds for a call, places ascending, its own log last.
-ghost use Rattle.std.specs.Prelude.{◌≡◌, ◌+◌, ◌*◌, ◌<◌, ◌≤◌, true, [], ◌∷◌, length, IsSome};
+ghost use Rattle.std.specs.Prelude.{◌≡◌, ◌+◌, ◌*◌, ◌<◌, ◌≤◌, [], length, IsSome};
 ghost use Rattle.stamp_table.specs.Ascending.{LiesAbove};
 ghost use Rattle.mem_values.specs.Places.{cell_place, IsCell};
-ghost use Rattle.mem_values.specs.declared.cell_id.CellId.TheVariants as id;
 ghost use Rattle.mem_calls.specs.Table.{IsFileTable};
-ghost use Rattle.mem_calls.specs.Held.{bucket_held, stands_held, HoldsDirectory, HoldsFile, HoldsPart, CanMeet};
+ghost use Rattle.mem_calls.specs.Held.{bucket_held, HoldsDirectory, HoldsFile, HoldsPart, CanMeet};
 ghost use Rattle.mem_calls.specs.Sums.{HoldsBuckets, HoldsNode};
-ghost use Rattle.mem_calls.specs.Working.{IsWorking, WorksOn, Gains, StillHolds};
+ghost use Rattle.mem_calls.specs.Working.{IsWorking, WorksOn, Gains, StillHolds, TookBucket};
 
 use crate::held::{bucket_in, file_in, is_standing};
 use mem_values::{CellId, FileCore, FileShared, Given};
@@ -53,9 +52,7 @@ pub fn hold_directory<R: Wait, T: Given>(
     ensures work { IsWorking T.given shared.now core.new }
     ensures on { WorksOn core.old core.new }
     ensures directory { HoldsDirectory nodes core.new.held node number }
-    ensures met { node.0 < nodes → CanMeet core.new }
-    ensures top { node.0 < nodes → stands_held nodes core.new.held node number ≡ true
-        → core.new.view.held ≡ cell_place nodes (id.Bucket node number) ∷ core.old.view.held }
+    ensures bucket { node.0 < nodes → TookBucket nodes node number core.old core.new }
     ensures below { LiesAbove (32 + 10 * nodes) core.new.view.held }
     ensures near { LiesAbove (25 + 9 * node.0) core.new.view.held }
     ensures still { StillHolds nodes core.old core.new }

@@ -1,6 +1,9 @@
 //! Calls of the file tree on the shared table, side by side.
 #![tactic(auto)]
 
+mod calls;
+mod coming;
+mod creations;
 mod edit;
 mod edits;
 mod emptied;
@@ -10,15 +13,20 @@ mod holding;
 mod links;
 mod lists;
 mod lookup;
+mod making;
+mod numbers;
 mod reads;
 mod ready;
 mod removals;
 mod rows;
+mod settling;
 mod short;
 mod standing;
 mod status;
 mod taking;
 
+pub use calls::call;
+pub use creations::make;
 pub use edits::{trunc, write};
 pub use emptied::rmdir;
 pub use finish::finish as answer_call;
@@ -27,6 +35,7 @@ pub use holding::{CALL_CELLS, hold_directory, hold_more, hold_part};
 pub use links::link;
 pub use lists::list;
 pub use lookup::look;
+pub use numbers::Numbers;
 pub use reads::read;
 pub use removals::unlink;
 pub use short::Short;

@@ -13,14 +13,14 @@ ghost use Rattle.mem_calls.specs.Working.{IsWorking, WorksOn};
 ghost use Rattle.mem_calls.specs.Changes.{MayLink, HoldsLink, link_code};
 ghost use Rattle.mem_calls.specs.Outcome.{IsAnswered, IsRefused, ComesTo};
 
+use crate::coming::make_coming;
 use crate::finish::finish;
 use crate::held::{bucket_in, directory_fault_in, file_fault_in, file_in};
-use crate::holding::{CALL_CELLS, hold_directory, hold_file, hold_more, hold_part, let_all_go};
-use crate::ready::make_ready;
-use crate::rows::{added_row, raise_links, with_file};
-use crate::taking::{put_bucket, put_part, take_bucket, with_entry};
+use crate::holding::{CALL_CELLS, hold_directory, hold_file, hold_more, hold_part};
+use crate::rows::{added_row, raise_links};
+use crate::taking::{put_bucket, put_part, with_entry};
 use mem_values::{CellId, FileCore, FileShared, Given};
-use sfs_base::{Gate, Name, NoMemory, NodeId, bucket_of};
+use sfs_base::{Gate, Kind, Name, NoMemory, NodeId, bucket_of};
 use sfs_tree::{Call, Code, Reply};
 use std::alloc::Global;
 use std::sync::Wait;
@@ -28,26 +28,8 @@ use std::sync::Wait;
 // From how many links on a file can't have a further one.
 const MOST_LINKS: u32 = 65_535;
 
-// How many rows a bucket has at most.
-const BUCKET_ROWS: usize = 4096;
-
-// The name once more. Where it is refused memory the call is given up.
-fn copy_name<T: Given>(
-    shared: &FileShared<T>,
-    core: &mut FileCore,
-    name: &Name,
-) -> Result<Name, NoMemory>
-    requires { IsWorking T.given shared.now core.old }
-    ensures { MatchResult result (λ copy. (copy ≡ name.now) × (core.new ≡ core.old)) (λ _. IsRefused shared.now core.old core.new) }
-{
-    match name.copy() {
-        Ok(copy) => Ok(copy),
-        Err(fault) => {
-            let_all_go(shared, core);
-            Err(fault)
-        }
-    }
-}
+/// How many rows a bucket has at most.
+pub(crate) const BUCKET_ROWS: usize = 4096;
 
 // Gives a file a further row that nothing refuses but want of memory.
 fn finish_link<T: Given>(
@@ -70,19 +52,13 @@ fn finish_link<T: Given>(
 {
     core.events_are_few();
     let number = bucket_of(&name);
-    let row = copy_name(shared, core, &name)?;
-    let ready = make_ready(alloc, shared, core, nodes, dir, &name)?;
-    let (bucket, outcome) = with_file(take_bucket(core, nodes, dir, number), row, file);
-    if let Err(fault) = outcome {
-        put_bucket(core, nodes, dir, number, bucket);
-        put_part(core, nodes, ready.part);
-        core.let_go(shared, 0);
-        return Err(fault);
-    }
+    let child = (file, Kind::File);
+    let coming = make_coming(alloc, shared, core, nodes, dir, &name, child)?;
     let stamp = core.stamp(shared, Call::Link { file, dir, name }, Reply::Ok);
-    put_bucket(core, nodes, dir, number, bucket);
+    put_bucket(core, nodes, dir, number, coming.bucket);
     raise_links(core, nodes, file);
-    let change = added_row(alloc, ready.changes, stamp, dir, ready.name, file);
+    let ready = coming.ready;
+    let change = added_row(alloc, ready.changes, stamp, dir, ready.name, child);
     put_part(core, nodes, with_entry(ready.part, change));
     core.let_go(shared, 0);
     Ok(())

@@ -1,18 +1,17 @@
 // Rows that come and go, without memory, behind the stamp.
 ghost use Rattle.std.specs.Prelude.{◌≡◌, ◌+◌, ◌<◌, ℕ, [], ◌∷◌, Some, None, IsSome, OnOk, OnErr};
-ghost use Rattle.std.specs.FinMap.{get};
-ghost use Rattle.sfs_base.specs.declared.numbers.Kind.TheVariants.{File};
+ghost use Rattle.std.specs.FinMap.{get, insert};
 ghost use Rattle.sfs_tree.specs.Logged.{log_entry};
 ghost use Rattle.sfs_tree.specs.declared.changes.Act.TheVariants.{Add as Adding, Remove as Removing};
 ghost use Rattle.mem_values.specs.declared.bucket.Bucket.{Bucket as BucketValue};
 ghost use Rattle.mem_values.specs.declared.cell.FileCell.{FileCell as FileValue};
 ghost use Rattle.mem_calls.specs.Held.{bucket_held, file_held};
-ghost use Rattle.mem_calls.specs.Changes.{IsWithoutRow, RemovesRow, LowersLinks, IsWithFile, RaisesLinks};
+ghost use Rattle.mem_calls.specs.Changes.{IsWithoutRow, RemovesRow, LowersLinks, IsWithRow, RaisesLinks};
 
 use crate::taking::{put, take_bucket, take_file};
 use mem_values::{Bucket, Cell, CellId, FileCell, FileCore};
 use sfs_base::{Kind, Name, NoMemory, NodeId, Stamp};
-use sfs_tree::{Act, Ancestors, Change, Changes};
+use sfs_tree::{Act, Ancestors, Change, Changes, NameMap};
 use std::alloc::Global;
 
 // The bucket without the row of this name.
@@ -90,18 +89,47 @@ pub(crate) fn removed_row(
     changes
 }
 
-/// The bucket with a row more, that of a file. Where it is refused memory the bucket is as it was.
-pub(crate) fn with_file(
+// Gives a name its row.
+fn add_row(rows: &mut NameMap, name: &Name, child: NodeId) -> Result<(), NoMemory>
+    requires { get rows.old name.now ≡ None }
+    ensures ok { OnOk result (rows.new ≡ insert rows.old name.now child.0) }
+    ensures err { OnErr result (rows.new ≡ rows.old) }
+{
+    let name = name.copy()?;
+    rows.insert(name, child)
+}
+
+// Gives a name of a bucket its row.
+fn add_child(bucket: &mut Bucket, name: &Name, child: NodeId, kind: Kind) -> Result<(), NoMemory>
+    requires row { get bucket.old.rows name.now ≡ None }
+    requires directory { get bucket.old.directories name.now ≡ None }
+    ensures ok { OnOk result (IsWithRow name.now child.0 kind bucket.old bucket.new) }
+    ensures err { OnErr result (bucket.new ≡ bucket.old) }
+{
+    add_row(&mut bucket.rows, name, child)?;
+    if kind == Kind::Directory {
+        if let Err(fault) = add_row(&mut bucket.directories, name, child) {
+            bucket.rows.remove(name);
+            return Err(fault);
+        }
+    }
+    Ok(())
+}
+
+/// The bucket with a row more. Where it is refused memory the bucket is as it was.
+pub(crate) fn with_row(
     bucket: Box<Bucket>,
-    name: Name,
+    name: &Name,
     child: NodeId,
+    kind: Kind,
 ) -> (Box<Bucket>, Result<(), NoMemory>)
-    requires { get bucket.value.rows name ≡ None }
-    ensures ok { OnOk result.1 (IsWithFile name child.0 bucket.value result.0.value) }
+    requires row { get bucket.value.rows name.now ≡ None }
+    requires directory { get bucket.value.directories name.now ≡ None }
+    ensures ok { OnOk result.1 (IsWithRow name.now child.0 kind bucket.value result.0.value) }
     ensures err { OnErr result.1 (result.0.value ≡ bucket.value) }
 {
     let mut bucket = bucket;
-    let outcome = bucket.rows.insert(name, child);
+    let outcome = add_child(&mut bucket, name, child, kind);
     (bucket, outcome)
 }
 
@@ -126,26 +154,26 @@ pub(crate) fn raise_links(core: &mut FileCore, nodes: u32, node: NodeId)
     put(core, nodes, CellId::File { node }, Cell::File { file });
 }
 
-/// The change of a file's row that comes, in room that was made.
+/// The change of a row that comes, in room that was made.
 pub(crate) fn added_row(
     alloc: Global,
     changes: Changes,
     stamp: Stamp,
     dir: NodeId,
     name: Name,
-    child: NodeId,
+    child: (NodeId, Kind),
 ) -> Changes
     requires none { changes.items ≡ [] }
     requires room { 0 < changes.spare }
-    ensures { result.items ≡ log_entry stamp.0 dir.0 name child.0 File Adding None [] ∷ [] }
+    ensures { result.items ≡ log_entry stamp.0 dir.0 name child.0.0 child.1 Adding None [] ∷ [] }
 {
     let mut changes = changes;
     changes.push(Change {
         stamp,
         dir,
         name,
-        child,
-        kind: Kind::File,
+        child: child.0,
+        kind: child.1,
         act: Act::Add,
         other: None,
         above: Ancestors::none(alloc),

@@ -2,36 +2,36 @@
 ghost use Rattle.std.specs.Prelude.{IsSome};
 ghost use Rattle.mem_calls.specs.Held.{bucket_held};
 ghost use Rattle.mem_calls.specs.Sums.{HoldsBuckets};
-ghost use Rattle.mem_calls.specs.Ends.{IsNowhere, LeavesPlace, EndsStanding};
+ghost use Rattle.mem_calls.specs.Ends.{IsPlaced, PlacesBucket, PlacesDirectory};
 
 use crate::taking::{put_bucket, take_bucket};
 use mem_values::{Bucket, FileCore};
 use sfs_base::NodeId;
 
-// The bucket of a directory that stands nowhere.
-fn nowhere(bucket: Box<Bucket>) -> Box<Bucket>
-    ensures { IsNowhere bucket.value result.value }
+// The bucket of a directory that stands here.
+fn placed(bucket: Box<Bucket>, place: Option<NodeId>) -> Box<Bucket>
+    ensures { IsPlaced place bucket.value result.value }
 {
     let mut bucket = bucket;
-    bucket.stands = None;
+    bucket.stands = place;
     bucket
 }
 
-// By one bucket a directory stands nowhere.
-fn leave_place(core: &mut FileCore, nodes: u32, node: NodeId, number: u8)
+// By one bucket a directory stands here.
+fn place_bucket(core: &mut FileCore, nodes: u32, node: NodeId, number: u8, place: Option<NodeId>)
     requires { IsSome (bucket_held nodes core.old.held node number) }
-    ensures { LeavesPlace nodes node number core.old core.new }
+    ensures { PlacesBucket nodes node number place core.old core.new }
 {
-    let bucket = nowhere(take_bucket(core, nodes, node, number));
+    let bucket = placed(take_bucket(core, nodes, node, number), place);
     put_bucket(core, nodes, node, number, bucket);
 }
 
-/// By all buckets of a directory, which are held, it stands nowhere.
-pub(crate) fn end_standing(core: &mut FileCore, nodes: u32, node: NodeId)
+/// By all buckets of a directory, which are held, it stands here, or nowhere.
+pub(crate) fn place_directory(core: &mut FileCore, nodes: u32, node: NodeId, place: Option<NodeId>)
     requires { HoldsBuckets nodes core.old.held node }
-    ensures { EndsStanding nodes node 8 core.old core.new }
+    ensures { PlacesDirectory nodes node 8 place core.old core.new }
 {
     for number in 0..8u8 {
-        leave_place(core, nodes, node, number);
+        place_bucket(core, nodes, node, number, place);
     }
 }

@@ -1,14 +1,16 @@
 // Values that are taken out of their cells and put back, without memory.
-ghost use Rattle.std.specs.Prelude.{◌≡◌, Some, IsSome};
+ghost use Rattle.std.specs.Prelude.{◌≡◌, ◌+◌, ◌<◌, Some, IsSome};
 ghost use Rattle.mem_cells.specs.Part.{IsAddedTo};
 ghost use Rattle.mem_values.specs.declared.cell_id.CellId.TheVariants as id;
 ghost use Rattle.mem_values.specs.declared.cell.Cell.{Cell as CellValue};
 ghost use Rattle.mem_values.specs.declared.cell.Cell.TheVariants as cell;
-ghost use Rattle.mem_calls.specs.Held.{value_held, as_part, bucket_held, file_held, part_held, HoldsPart};
+ghost use Rattle.mem_calls.specs.Held.{value_held, as_part, bucket_held, file_held, part_held, pending_held, HoldsPart};
 ghost use Rattle.mem_calls.specs.Changes.{Puts};
 ghost use Rattle.mem_calls.specs.Parts.{HasRoomFor, MayTake, TakesEntry};
 
-use mem_values::{Bucket, Cell, CellId, FileCell, FileCore, PartCell, TreeLock, replace_value};
+use mem_values::{
+    Bucket, Cell, CellId, FileCell, FileCore, PartCell, Pending, TreeLock, replace_value,
+};
 use sfs_base::NodeId;
 use sfs_tree::Changes;
 
@@ -53,6 +55,17 @@ pub fn with_entry(part: Box<PartCell>, changes: Changes) -> Box<PartCell>
     part
 }
 
+/// The log of a core that has made one node more.
+pub(crate) fn with_node(part: Box<PartCell>) -> Box<PartCell>
+    requires { part.value.made < 4294967295 }
+    ensures log { result.value.log ≡ part.value.log }
+    ensures made { result.value.made ≡ part.value.made + 1 }
+{
+    let mut part = part;
+    part.made += 1;
+    part
+}
+
 /// Puts the changes of the core's entry into its own log, and counts it.
 pub fn add_entry(core: &mut FileCore, nodes: u32, changes: Changes)
     requires part { HoldsPart nodes core.old }
@@ -74,6 +87,18 @@ pub fn take_file(core: &mut FileCore, nodes: u32, node: NodeId) -> Box<FileCell>
 {
     match replace_value(core, nodes, CellId::File { node }, no_value()) {
         Cell::File { file } => file,
+        _ => unreachable!(),
+    }
+}
+
+/// Takes what was flushed of a node out of its cell.
+pub(crate) fn take_pending(core: &mut FileCore, nodes: u32, node: NodeId) -> Box<Pending>
+    requires { IsSome (pending_held nodes core.old.held node) }
+    ensures pending { pending_held nodes core.old.held node ≡ Some result.value }
+    ensures held { (value : CellValue) × Puts nodes (id.Pending node) value core.old core.new }
+{
+    match replace_value(core, nodes, CellId::Pending { node }, no_value()) {
+        Cell::Pending { pending } => pending,
         _ => unreachable!(),
     }
 }

@@ -58,8 +58,8 @@ remove_row-requires-clause-row g c = λ b is.
     } in
     subst (λ n. IsSome (get b.rows n)) (sym c.in_ok-ready.ensures.name_is) (row_there g.T.Given.given c.args.shared.now c.args.nodes c.args.core.now c.args.dir c.args.name c.args.child c.in_ok-ready.ready c.make_ready.new.core c.stamp-stamp.result.0 c.stamp-stamp.new.self r b (ap (λ n. bucket_held c.args.nodes c.stamp-stamp.new.self.held c.args.dir n) (sym c.bucket_of-number.ensures) ∙ is))
 
-pub end_standing-requires : goal.end_standing-requires
-end_standing-requires g c =
+pub place_directory-requires : goal.place_directory-requires
+place_directory-requires g c =
     let r : Removal g.T.Given.given c.args.shared.now c.args.nodes c.args.core.now c.args.dir c.args.name c.args.child c.in_ok-ready.ready c.make_ready.new.core c.stamp-stamp.result.0 c.stamp-stamp.new.self = record {
       table = c.requires.table;
       work = c.requires.work;
@@ -104,7 +104,8 @@ put_part-requires g c =
       drawn = c.stamp-stamp.ensures;
     } in
     let gone = subst (λ n. RemovesRow c.args.nodes c.args.dir n c.args.name c.stamp-stamp.new.self c.remove_row.new.core) c.bucket_of-number.ensures (subst (λ n. RemovesRow c.args.nodes c.args.dir c.bucket_of-number.result n c.stamp-stamp.new.self c.remove_row.new.core) c.in_ok-ready.ensures.name_is c.remove_row.ensures) in
-    subst (λ (n : ℕ). IsSome (value_held c.args.nodes c.end_standing.new.core.held (id.Part (record { 0 = n })))) (sym (core_three g.T.Given.given c.args.shared.now c.args.nodes c.args.core.now c.args.dir c.args.name c.args.child c.in_ok-ready.ready c.make_ready.new.core c.stamp-stamp.result.0 c.stamp-stamp.new.self r c.remove_row.new.core gone c.end_standing.new.core c.end_standing.ensures)) (part_there g.T.Given.given c.args.shared.now c.args.nodes c.args.core.now c.args.dir c.args.name c.args.child c.in_ok-ready.ready c.make_ready.new.core c.stamp-stamp.result.0 c.stamp-stamp.new.self r c.remove_row.new.core gone c.end_standing.new.core c.end_standing.ensures)
+    subst (λ (n : ℕ). IsSome (value_held c.args.nodes c.place_directory.new.core.held (id.Part (record { 0 = n }))))
+    (sym (core_three g.T.Given.given c.args.shared.now c.args.nodes c.args.core.now c.args.dir c.args.name c.args.child c.in_ok-ready.ready c.make_ready.new.core c.stamp-stamp.result.0 c.stamp-stamp.new.self r c.remove_row.new.core gone c.place_directory.new.core c.place_directory.ensures)) (part_there g.T.Given.given c.args.shared.now c.args.nodes c.args.core.now c.args.dir c.args.name c.args.child c.in_ok-ready.ready c.make_ready.new.core c.stamp-stamp.result.0 c.stamp-stamp.new.self r c.remove_row.new.core gone c.place_directory.new.core c.place_directory.ensures)
 
 pub let_go-requires-clause-home : goal.let_go-requires-clause-home
 let_go-requires-clause-home g c =
@@ -122,8 +123,11 @@ let_go-requires-clause-home g c =
     let gone = subst (λ n. RemovesRow c.args.nodes c.args.dir n c.args.name c.stamp-stamp.new.self c.remove_row.new.core) c.bucket_of-number.ensures (subst (λ n. RemovesRow c.args.nodes c.args.dir c.bucket_of-number.result n c.stamp-stamp.new.self c.remove_row.new.core) c.in_ok-ready.ensures.name_is c.remove_row.ensures) in
     let change = c.removed_row-change.ensures ∙ ap (λ n. log_entry c.stamp-stamp.result.0 c.args.dir.0 n c.args.child.0 Directory Remove None [] ∷ []) c.in_ok-ready.ensures.name_is in
     let added = subst (λ l. IsAddedTo c.in_ok-ready.ready.part.value.log l c.with_entry.result.value.log) change c.with_entry.ensures.log in
-    let puts = c.put_part.ensures.2 ∙ ap (λ (n : ℕ). record c.end_standing.new.core { held = with_value (32 + 10 * c.args.nodes + 16 * n) c.put_part.ensures.0 c.end_standing.new.core.held }) (core_three g.T.Given.given c.args.shared.now c.args.nodes c.args.core.now c.args.dir c.args.name c.args.child c.in_ok-ready.ready c.make_ready.new.core c.stamp-stamp.result.0 c.stamp-stamp.new.self r c.remove_row.new.core gone c.end_standing.new.core c.end_standing.ensures) in
-    goes_home g.T.Given.given c.args.shared.now c.args.nodes c.args.core.now c.args.dir c.args.name c.args.child c.in_ok-ready.ready c.make_ready.new.core c.stamp-stamp.result.0 c.stamp-stamp.new.self r c.remove_row.new.core gone c.end_standing.new.core c.end_standing.ensures c.with_entry.result.value c.put_part.ensures.0 c.put_part.ensures.1 added c.with_entry.ensures.made c.put_part.new.core puts
+    let puts = c.put_part.ensures.2
+    ∙ ap (λ (n : ℕ). record c.place_directory.new.core
+    { held = with_value (32 + 10 * c.args.nodes + 16 * n) c.put_part.ensures.0 c.place_directory.new.core.held })
+    (core_three g.T.Given.given c.args.shared.now c.args.nodes c.args.core.now c.args.dir c.args.name c.args.child c.in_ok-ready.ready c.make_ready.new.core c.stamp-stamp.result.0 c.stamp-stamp.new.self r c.remove_row.new.core gone c.place_directory.new.core c.place_directory.ensures) in
+    goes_home g.T.Given.given c.args.shared.now c.args.nodes c.args.core.now c.args.dir c.args.name c.args.child c.in_ok-ready.ready c.make_ready.new.core c.stamp-stamp.result.0 c.stamp-stamp.new.self r c.remove_row.new.core gone c.place_directory.new.core c.place_directory.ensures c.with_entry.result.value c.put_part.ensures.0 c.put_part.ensures.1 added c.with_entry.ensures.made c.put_part.new.core puts
 
 pub returns : goal.returns
 returns g c =
@@ -141,5 +145,8 @@ returns g c =
     let gone = subst (λ n. RemovesRow c.args.nodes c.args.dir n c.args.name c.stamp-stamp.new.self c.remove_row.new.core) c.bucket_of-number.ensures (subst (λ n. RemovesRow c.args.nodes c.args.dir c.bucket_of-number.result n c.stamp-stamp.new.self c.remove_row.new.core) c.in_ok-ready.ensures.name_is c.remove_row.ensures) in
     let change = c.removed_row-change.ensures ∙ ap (λ n. log_entry c.stamp-stamp.result.0 c.args.dir.0 n c.args.child.0 Directory Remove None [] ∷ []) c.in_ok-ready.ensures.name_is in
     let added = subst (λ l. IsAddedTo c.in_ok-ready.ready.part.value.log l c.with_entry.result.value.log) change c.with_entry.ensures.log in
-    let puts = c.put_part.ensures.2 ∙ ap (λ (n : ℕ). record c.end_standing.new.core { held = with_value (32 + 10 * c.args.nodes + 16 * n) c.put_part.ensures.0 c.end_standing.new.core.held }) (core_three g.T.Given.given c.args.shared.now c.args.nodes c.args.core.now c.args.dir c.args.name c.args.child c.in_ok-ready.ready c.make_ready.new.core c.stamp-stamp.result.0 c.stamp-stamp.new.self r c.remove_row.new.core gone c.end_standing.new.core c.end_standing.ensures) in
-    answers g.T.Given.given c.args.shared.now c.args.nodes c.args.core.now c.args.dir c.args.name c.args.child c.in_ok-ready.ready c.make_ready.new.core c.stamp-stamp.result.0 c.stamp-stamp.new.self r c.remove_row.new.core gone c.end_standing.new.core c.end_standing.ensures c.with_entry.result.value c.put_part.ensures.0 c.put_part.ensures.1 added c.with_entry.ensures.made c.put_part.new.core puts c.let_go.new.self c.let_go.ensures.lets_go c.let_go.ensures.left c.let_go.ensures.places
+    let puts = c.put_part.ensures.2
+    ∙ ap (λ (n : ℕ). record c.place_directory.new.core
+    { held = with_value (32 + 10 * c.args.nodes + 16 * n) c.put_part.ensures.0 c.place_directory.new.core.held })
+    (core_three g.T.Given.given c.args.shared.now c.args.nodes c.args.core.now c.args.dir c.args.name c.args.child c.in_ok-ready.ready c.make_ready.new.core c.stamp-stamp.result.0 c.stamp-stamp.new.self r c.remove_row.new.core gone c.place_directory.new.core c.place_directory.ensures) in
+    answers g.T.Given.given c.args.shared.now c.args.nodes c.args.core.now c.args.dir c.args.name c.args.child c.in_ok-ready.ready c.make_ready.new.core c.stamp-stamp.result.0 c.stamp-stamp.new.self r c.remove_row.new.core gone c.place_directory.new.core c.place_directory.ensures c.with_entry.result.value c.put_part.ensures.0 c.put_part.ensures.1 added c.with_entry.ensures.made c.put_part.new.core puts c.let_go.new.self c.let_go.ensures.lets_go c.let_go.ensures.left c.let_go.ensures.places

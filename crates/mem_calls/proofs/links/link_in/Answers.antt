@@ -51,10 +51,13 @@ returns-clause-due c = λ tree meets.
 pub returns-clause-may : goal.returns-clause-may
 returns-clause-may c = λ none. record {
   file_within = c.file_fault_in.ensures.within c.in_default.is;
-  within = c.directory_fault_in-2.ensures.within c.in_default-directory_fault_in.is;
-  bucket_of = c.bucket_in-bucket.result.now;
-  bucket_is = subst (λ n. bucket_held c.args.nodes c.args.core.now.held c.args.dir n ≡ Some c.bucket_in-bucket.result.now) c.bucket_of-number.ensures c.bucket_in-bucket.ensures;
-  free = none_of (get c.bucket_in-bucket.result.now.rows c.args.name.now) (same_some c.get.result _ c.get.ensures ∙ sym c.if-is_some.ensures);
+  place = record {
+    within = c.directory_fault_in-2.ensures.within c.in_default-directory_fault_in.is;
+    bucket_of = c.bucket_in-bucket.result.now;
+    bucket_is = subst (λ n. bucket_held c.args.nodes c.args.core.now.held c.args.dir n
+        ≡ Some c.bucket_in-bucket.result.now) c.bucket_of-number.ensures c.bucket_in-bucket.ensures;
+    free = none_of (get c.bucket_in-bucket.result.now.rows c.args.name.now) (same_some c.get.result _ c.get.ensures ∙ sym c.if-is_some.ensures);
+  };
   file_of = c.file_in.result.now;
   file_is = c.file_in.ensures;
   linked = linked_of (file_held c.args.nodes c.args.core.now.held c.args.file) c.file_in.result.now c.file_in.ensures (c.file_fault_in.ensures.linked c.in_default.is);

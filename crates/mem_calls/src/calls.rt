@@ -1,0 +1,85 @@
+// One function for the calls.
+ghost use Rattle.std.specs.Prelude.{◌<◌, ◌≤◌};
+ghost use Rattle.sfs_tree.specs.Step.{IsReadable};
+ghost use Rattle.stamp_table.specs.Table.{IsBetweenCalls};
+ghost use Rattle.mem_calls.specs.Table.{IsFileTable, AreNumbersOf};
+ghost use Rattle.mem_calls.specs.Calls.{IsPlain, IsPlainChange};
+ghost use Rattle.mem_calls.specs.Outcome.{ComesTo};
+
+use crate::holding::CALL_CELLS;
+use crate::numbers::Numbers;
+use crate::{link, list, look, make, read, rmdir, stat, trunc, unlink, write};
+use mem_values::{FileCore, FileShared, Given};
+use sfs_base::{Gate, NoMemory};
+use sfs_tree::{Call, Reply};
+use std::alloc::Global;
+use std::sync::Wait;
+
+/// Makes a call that is neither a rename nor an fsync. It may wait. Only want of memory refuses it.
+pub fn call<R: Wait, T: Given, G: Gate>(
+    rt: &R,
+    alloc: Global,
+    shared: &FileShared<T>,
+    core: &mut FileCore,
+    nodes: u32,
+    numbers: Numbers,
+    call: Call,
+    gate: &G,
+) -> Result<Reply, NoMemory>
+    requires table { IsFileTable shared.now nodes }
+    requires core { IsBetweenCalls shared.now core.old }
+    requires numbers { AreNumbersOf shared.now.first numbers }
+    requires spare { 0 < core.old.spare }
+    requires room { CALL_CELLS ≤ core.old.room }
+    requires readable { IsReadable call }
+    requires plain { IsPlain call }
+    ensures { ComesTo shared.now call core.old core.new result }
+{
+    match call {
+        Call::Look { dir, name } => Ok(look(rt, alloc, shared, core, nodes, dir, name, gate)),
+        Call::Read { file, at, count } => {
+            read(rt, alloc, shared, core, nodes, file, at, count, gate)
+        }
+        Call::Stat { node } => Ok(stat(rt, alloc, shared, core, nodes, node, gate)),
+        Call::List { dir } => list(rt, alloc, shared, core, nodes, dir, gate),
+        call => change(rt, alloc, shared, core, nodes, numbers, call, gate),
+    }
+}
+
+// Makes a call that may change the tree.
+fn change<R: Wait, T: Given, G: Gate>(
+    rt: &R,
+    alloc: Global,
+    shared: &FileShared<T>,
+    core: &mut FileCore,
+    nodes: u32,
+    numbers: Numbers,
+    call: Call,
+    gate: &G,
+) -> Result<Reply, NoMemory>
+    requires table { IsFileTable shared.now nodes }
+    requires core { IsBetweenCalls shared.now core.old }
+    requires numbers { AreNumbersOf shared.now.first numbers }
+    requires spare { 0 < core.old.spare }
+    requires room { CALL_CELLS ≤ core.old.room }
+    requires change { IsPlainChange call }
+    ensures { ComesTo shared.now call core.old core.new result }
+{
+    match call {
+        Call::Make { dir, name, kind } => {
+            make(
+                rt, alloc, shared, core, nodes, numbers, dir, name, kind, gate,
+            )
+        }
+        Call::Link { file, dir, name } => {
+            link(rt, alloc, shared, core, nodes, file, dir, name, gate)
+        }
+        Call::Unlink { dir, name } => unlink(rt, alloc, shared, core, nodes, dir, name, gate),
+        Call::Rmdir { dir, name } => rmdir(rt, alloc, shared, core, nodes, dir, name, gate),
+        Call::Write { file, at, bytes } => {
+            write(rt, alloc, shared, core, nodes, file, at, bytes, gate)
+        }
+        Call::Trunc { file, size } => trunc(rt, alloc, shared, core, nodes, file, size, gate),
+        _ => unreachable!(),
+    }
+}
