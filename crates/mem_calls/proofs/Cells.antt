@@ -34,19 +34,23 @@ module _ {C : Type 0} where
   none_at : (place : ℕ) (cells : List (HeldCell C)) → (Has (places_of cells) place → ⊥) → cell_at place cells ≡ None
   none_at place [] not = refl
   none_at place (c ∷ cells) not =
-      ⊎_elim (λ here. absurd (not (inl (eqb-true c.place place here)))) (λ other. rw other (none_at place cells (λ h. not (inr h)))) (cases_Bool (is_at place c))
+      ⊎_elim (λ here. absurd (not (inl (eqb-true c.place place here)))) (λ other. rw other (none_at place cells (λ h. not (inr h))))
+      (cases_Bool (is_at place c))
 
-  pub last_at : (place : ℕ) (cells : List (HeldCell C)) (value : C) → (Has (places_of cells) place → ⊥) → cell_at place (cells ++ record { place = place; value = value } ∷ []) ≡ Some (record { place = place; value = value })
+  pub last_at : (place : ℕ) (cells : List (HeldCell C)) (value : C) → (Has (places_of cells) place → ⊥)
+      → cell_at place (cells ++ record { place = place; value = value } ∷ []) ≡ Some (record { place = place; value = value })
   last_at place cells value not =
       let last : HeldCell C = record { place = place; value = value } in
       let here : is_at place last ≡ true = eq-eqb place place refl in
-      find-append (is_at place) cells (last ∷ []) ∙ (ap (λ o. option_or o (cell_at place (last ∷ []))) (none_at place cells not) ∙ ap (λ b. if b then Some last else None) here)
+      find-append (is_at place) cells (last ∷ [])
+      ∙ (ap (λ o. option_or o (cell_at place (last ∷ []))) (none_at place cells not) ∙ ap (λ b. if b then Some last else None) here)
 
   -- what is found has the place, and is one of the cells
   pub found_place : (place : ℕ) (cells : List (HeldCell C)) (h : HeldCell C) → cell_at place cells ≡ Some h → h.place ≡ place
   found_place place [] h is = absurd (cc (is))
   found_place place (c ∷ cells) h is = ⊎_elim
-      (λ here. let same : c ≡ h = cc (subst (λ b. (if b then Some c else cell_at place cells) ≡ Some h) here is) in ap (λ (x : HeldCell C). x.place) (sym same) ∙ eqb-true c.place place here)
+      (λ here. let same : c ≡ h = cc (subst (λ b. (if b then Some c else cell_at place cells) ≡ Some h) here is) in ap (λ (x : HeldCell C). x.place) (sym same)
+      ∙ eqb-true c.place place here)
       (λ other. found_place place cells h (subst (λ b. (if b then Some c else cell_at place cells) ≡ Some h) other is))
       (cases_Bool (is_at place c))
 
@@ -58,23 +62,27 @@ module _ {C : Type 0} where
       (cases_Bool (is_at place c))
 
   -- a cell with another value
-  pub with_same : (place : ℕ) (value : C) (cells : List (HeldCell C)) (h : HeldCell C) → cell_at place cells ≡ Some h → cell_at place (with_value place value cells) ≡ Some (record { place = place; value = value })
+  pub with_same : (place : ℕ) (value : C) (cells : List (HeldCell C)) (h : HeldCell C) → cell_at place cells ≡ Some h
+      → cell_at place (with_value place value cells) ≡ Some (record { place = place; value = value })
   with_same place value [] h is = absurd (cc (is))
   with_same place value (c ∷ cells) h is = ⊎_elim
       (λ here. rw here (rw here (ap (λ (p : ℕ). Some (record { place = p; value = value })) (eqb-true c.place place here))))
       (λ other. rw other (rw other (with_same place value cells h (subst (λ b. (if b then Some c else cell_at place cells) ≡ Some h) other is))))
       (cases_Bool (is_at place c))
 
-  pub with_other : (place : ℕ) (value : C) (cells : List (HeldCell C)) (other : ℕ) → (place ≡ other → ⊥) → cell_at other (with_value place value cells) ≡ cell_at other cells
+  pub with_other : (place : ℕ) (value : C) (cells : List (HeldCell C)) (other : ℕ) → (place ≡ other → ⊥)
+      → cell_at other (with_value place value cells) ≡ cell_at other cells
   with_other place value [] other apart = refl
   with_other place value (c ∷ cells) other apart = ⊎_elim
       (λ here.
-      let not : is_at other c ≡ false = ⊎_elim (λ yes. absurd (apart (sym (eqb-true c.place place here) ∙ eqb-true c.place other yes))) (λ no. no) (cases_Bool (is_at other c)) in
+      let not : is_at other c ≡ false = ⊎_elim (λ yes. absurd (apart (sym (eqb-true c.place place here) ∙ eqb-true c.place other yes))) (λ no. no)
+      (cases_Bool (is_at other c)) in
       rw here (rw not refl))
       (λ else_where. rw else_where (ap (λ o. if is_at other c then Some c else o) (with_other place value cells other apart)))
       (cases_Bool (is_at place c))
 
-  pub with_twice : (place : ℕ) (value before : C) (cells : List (HeldCell C)) → with_value place value (with_value place before cells) ≡ with_value place value cells
+  pub with_twice : (place : ℕ) (value before : C) (cells : List (HeldCell C))
+      → with_value place value (with_value place before cells) ≡ with_value place value cells
   with_twice place value before [] = refl
   with_twice place value before (c ∷ cells) = ⊎_elim
       (λ here. rw here (rw here refl))
@@ -129,11 +137,13 @@ module _ {C : Type 0} (P : HeldCell C → Type 0) where
         (λ le. found c.place c (ap (λ b. if b then Some c else cell_at c.place cells) here)),
         each_rising cells rises.1 (λ place h is. found place h
             (⊎_elim
-            (λ same. absurd (not_below c.place (places_of cells) rises.0 (subst (Has (places_of cells)) (sym (eqb-true c.place place same)) (found_has place cells h is))))
+            (λ same. absurd (not_below c.place (places_of cells) rises.0
+            (subst (Has (places_of cells)) (sym (eqb-true c.place place same)) (found_has place cells h is))))
             (λ other. ap (λ b. if b then Some c else cell_at place cells) other ∙ is)
             (cases_Bool (is_at place c)))),
       )
 
   -- a fact of each cell that is found is one of all, where no place stands twice
-  pub each_of_found : (cells : List (HeldCell C)) → Falls (reverse (places_of cells)) → ((place : ℕ) (h : HeldCell C) → cell_at place cells ≡ Some h → P h) → EachFrom 0 P cells
+  pub each_of_found : (cells : List (HeldCell C)) → Falls (reverse (places_of cells)) → ((place : ℕ) (h : HeldCell C) → cell_at place cells ≡ Some h → P h)
+      → EachFrom 0 P cells
   each_of_found cells falls found = each_rising cells (falls_rises (places_of cells) falls) found

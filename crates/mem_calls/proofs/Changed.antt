@@ -42,7 +42,8 @@ use Rattle.mem_calls.proofs.Finished as finished
 use Rattle.mem_calls.proofs.Stamped as stamped
 
 -- A core that makes a call in the middle of which it has taken values out of its cells, drawn its stamp, and changes what it holds.
-pub record Turn (given : ℕ → Option OldKept) (t : TableState) (nodes : ℕ) (before : Hand Cell Fact) (c : Call) (v : Verdict) (number : ℕ) (mid : Hand Cell Fact) : Type 0 where
+pub record Turn (given : ℕ → Option OldKept) (t : TableState) (nodes : ℕ) (before : Hand Cell Fact) (c : Call) (v : Verdict) (number : ℕ)
+    (mid : Hand Cell Fact) : Type 0 where
   pub table : IsFileTable t nodes
   pub work : IsWorking given t before
   pub not : asks_fsync c ≡ false
@@ -52,7 +53,8 @@ pub record Turn (given : ℕ → Option OldKept) (t : TableState) (nodes : ℕ) 
   pub out_is : out ≡ record before { held = held }
   pub drawn : Stamps (IsLawfulLog given) (StandsAt given) c v.reply out number mid
 
-module _ (given : ℕ → Option OldKept) (t : TableState) (nodes : ℕ) (before : Hand Cell Fact) (c : Call) (v : Verdict) (number : ℕ) (mid : Hand Cell Fact) (turn : Turn given t nodes before c v number mid) where
+module _ (given : ℕ → Option OldKept) (t : TableState) (nodes : ℕ) (before : Hand Cell Fact) (c : Call) (v : Verdict) (number : ℕ) (mid : Hand Cell Fact)
+    (turn : Turn given t nodes before c v number mid) where
   abbrev mid0 : Hand Cell Fact
   mid0 = record mid { held = before.held }
 
@@ -101,10 +103,12 @@ module _ (given : ℕ → Option OldKept) (t : TableState) (nodes : ℕ) (before
   pub number_is : number ≡ length (calls_in log)
   number_is = stamped.number_is given t nodes before turn.table turn.work c v.reply number mid0 stamps
 
-  pub stood : (which : CellId) (value : Cell) → IsCell nodes (length t.first.made) which → value_held nodes before.held which ≡ Some value → StandsForCell given before.view.first (account_of log) which value
+  pub stood : (which : CellId) (value : Cell) → IsCell nodes (length t.first.made) which → value_held nodes before.held which ≡ Some value
+      → StandsForCell given before.view.first (account_of log) which value
   stood which value is_cell is = stamped.stood given t nodes before turn.table turn.work c v.reply number mid0 stamps which value is_cell is
 
-  pub kept : (which : CellId) (value : Cell) → IsCell nodes (length t.first.made) which → value_held nodes before.held which ≡ Some value → KeepsCell S before.view.core c which
+  pub kept : (which : CellId) (value : Cell) → IsCell nodes (length t.first.made) which → value_held nodes before.held which ≡ Some value
+      → KeepsCell S before.view.core c which
       → StandsForCell given before.view.first (account_of (log ++ Called entry ∷ [])) which value
   kept which value is_cell is keeps = stamped.kept given t nodes before turn.table turn.work c v.reply number mid0 stamps which value is_cell is keeps
 
@@ -115,20 +119,26 @@ module _ (given : ℕ → Option OldKept) (t : TableState) (nodes : ℕ) (before
   few_entries p is few = finished.few_entries given t nodes before turn.table turn.work c v.reply number mid0 stamps p is few
 
   -- the own log goes home with what the entry logs
-  pub part_home : (p after : PartCell) (value : Cell) → StandsPart before.view.first (account_of log) before.view.core p → as_part value ≡ Some after → IsAddedTo p.log (entry_logged S entry) after.log
-      → after.made ≡ made_by next before.view.core → StandsForCell given before.view.first (account_of (log ++ Called entry ∷ [])) (id.Part (record { 0 = before.view.core })) value
+  pub part_home : (p after : PartCell) (value : Cell) → StandsPart before.view.first (account_of log) before.view.core p → as_part value ≡ Some after
+      → IsAddedTo p.log (entry_logged S entry) after.log
+      → after.made ≡ made_by next before.view.core
+      → StandsForCell given before.view.first (account_of (log ++ Called entry ∷ [])) (id.Part (record { 0 = before.view.core })) value
   part_home p after value stands is added made = value_of_part given before.view.first (account_of (log ++ Called entry ∷ [])) before.view.core value after is
-      (parts_take_entries given before.view.first log entry p after (stamped.legal_next given t nodes before turn.table turn.work c v.reply number mid0 stamps) (stamped.lawful_log given t nodes before turn.table turn.work c v.reply number mid0 stamps) stands added
+      (parts_take_entries given before.view.first log entry p after (stamped.legal_next given t nodes before turn.table turn.work c v.reply number mid0 stamps)
+      (stamped.lawful_log given t nodes before turn.table turn.work c v.reply number mid0 stamps) stands added
       (made ∙ ap (λ (x : TreeState). made_by x before.view.core) (sym next_is)))
 
-  module _ (final : Hand Cell Fact) (held : List (HeldCell Cell)) (final_is : final ≡ record mid { held = held }) (places : places_of held ≡ places_of before.held) where
+  module _ (final : Hand Cell Fact) (held : List (HeldCell Cell)) (final_is : final ≡ record mid { held = held })
+      (places : places_of held ≡ places_of before.held) where
     final_held : final.held ≡ held
     final_held = ap (λ (h : Hand Cell Fact). h.held) final_is
 
-    pub goes_home : ((which : CellId) (value : Cell) → IsCell nodes (length t.first.made) which → value_held nodes held which ≡ Some value → StandsForCell given before.view.first (account_of (log ++ Called entry ∷ [])) which value)
+    pub goes_home : ((which : CellId) (value : Cell) → IsCell nodes (length t.first.made) which → value_held nodes held which ≡ Some value
+        → StandsForCell given before.view.first (account_of (log ++ Called entry ∷ [])) which value)
         → EachFrom 0 (Stands (IsLawfulLog given) (StandsAt given) final.view) final.held
     goes_home each = stamped.home given t nodes before turn.table turn.work c v.reply number mid0 stamps final (ap (λ (h : Hand Cell Fact). h.view) final_is)
-        (finished.view_held_mid given t nodes before turn.table turn.work c v.reply number mid0 stamps) (ap (λ (l : List (HeldCell Cell)). places_of l) final_held ∙ places)
+        (finished.view_held_mid given t nodes before turn.table turn.work c v.reply number mid0 stamps)
+        (ap (λ (l : List (HeldCell Cell)). places_of l) final_held ∙ places)
         (λ which value is_cell is. each which value is_cell (ap (λ l. value_held nodes l which) (sym final_held) ∙ is))
 
     many : length final.held ≡ length before.held
@@ -138,6 +148,7 @@ module _ (given : ℕ → Option OldKept) (t : TableState) (nodes : ℕ) (before
         let two = Rattle.std.proofs.lemmas.List.length-map before.held (λ (h : HeldCell Cell). h.place) in
         omega (arith, same, one, two)
 
-    pub ended : (last : Hand Cell Fact) → LetsGo final last → last.held ≡ left_below 0 final.held → last.view.held ≡ reverse (places_of last.held) → IsAnswered t c v.reply before last
+    pub ended : (last : Hand Cell Fact) → LetsGo final last → last.held ≡ left_below 0 final.held → last.view.held ≡ reverse (places_of last.held)
+        → IsAnswered t c v.reply before last
     ended last lets left at = finished.ends given t nodes before turn.table turn.work c v.reply number mid0 stamps v final last turn.due refl turn.not
         (ap (λ (h : Hand Cell Fact). record h { held = before.held }) final_is) many lets left at

@@ -14,9 +14,9 @@ use Rattle.mem_values.specs.Places.{cell_place}
 use Rattle.mem_calls.specs.Table.{IsFileTable}
 use Rattle.mem_calls.specs.Held.{as_bucket, as_part, bucket_held, part_held}
 use Rattle.mem_calls.specs.Working.{IsWorking}
-use Rattle.mem_calls.specs.Outcome.{IsRefused}
+use Rattle.mem_calls.specs.Outcome.{IsRefusedMemory}
 use Rattle.mem_calls.specs.declared.ready.Ready.{Ready}
-use Rattle.mem_calls.specs.Changes.{Puts, IsFree, IsReady}
+use Rattle.mem_calls.specs.Changes.{PutsValue, IsFree, IsReadyForRow}
 use Rattle.mem_calls.proofs.Shown.{bucket_small}
 use Rattle.mem_calls.proofs.LinkBack.{works_both, back_both}
 use Rattle.mem_calls.proofs.Comings.{same_bucket, out_is}
@@ -25,21 +25,21 @@ use Rattle.mem_calls.proofs.Comings.{same_bucket, out_is}
 pub record IsBack (nodes : ℕ) (before : Hand Cell Fact) (dir : NodeId) (name : List ℕ) (ready : Ready) (mid put : Hand Cell Fact) : Type 0 where
   pub out : Hand Cell Fact
   pub none : Cell
-  pub taken : Puts nodes (id.Bucket dir (bucket name)) none mid out
+  pub taken : PutsValue nodes (id.Bucket dir (bucket name)) none mid out
   pub b : Bucket
   pub was : bucket_held nodes mid.held dir (bucket name) ≡ Some b
   pub vb : Cell
   pub is_b : as_bucket vb ≡ Some b
   pub then : Hand Cell Fact
-  pub puts_b : Puts nodes (id.Bucket dir (bucket name)) vb out then
+  pub puts_b : PutsValue nodes (id.Bucket dir (bucket name)) vb out then
   pub vp : Cell
   pub is_p : as_part vp ≡ Some ready.part.value
-  pub puts_p : Puts nodes (id.Part (record { 0 = then.view.core })) vp then put
+  pub puts_p : PutsValue nodes (id.Part (record { 0 = then.view.core })) vp then put
 
 module _ (given : ℕ → Option OldKept) (t : TableState) (nodes : ℕ) (before : Hand Cell Fact) (table : IsFileTable t nodes) (work : IsWorking given t before)
     (dir : NodeId) (name : List ℕ)
     (free : IsFree nodes before.held dir name) (part : IsSome (part_held nodes before.held before.view.core)) (ready : Ready) (mid : Hand Cell Fact)
-    (is : IsReady nodes dir name before ready mid)
+    (is : IsReadyForRow nodes dir name before ready mid)
     (put : Hand Cell Fact) (back : IsBack nodes before dir name ready mid put) where
   abbrev mine : CellId
   mine = id.Part (record { 0 = before.view.core })
@@ -69,7 +69,7 @@ module _ (given : ℕ → Option OldKept) (t : TableState) (nodes : ℕ) (before
       (bucket_small name) free.bucket_of free.bucket_is back.vb is_old is.part ready.part.value is.was is.same is.made
       back.vp back.is_p back.none is.out.0 put puts
 
-  pub back_again : (last : Hand Cell Fact) → IsRefused t put last → IsRefused t before last
+  pub back_again : (last : Hand Cell Fact) → IsRefusedMemory t put last → IsRefusedMemory t before last
   back_again last refused = back_both given t nodes before table work dir (bucket name) free.within
       (bucket_small name) free.bucket_of free.bucket_is back.vb is_old is.part ready.part.value is.was is.same is.made
       back.vp back.is_p back.none is.out.0 put puts last refused

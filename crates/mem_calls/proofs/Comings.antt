@@ -22,7 +22,7 @@ use Rattle.mem_calls.specs.Table.{IsFileTable}
 use Rattle.mem_calls.specs.Held.{value_held, as_bucket, as_part, bucket_held, part_held}
 use Rattle.mem_calls.specs.Working.{IsWorking}
 use Rattle.mem_calls.specs.declared.ready.Ready.{Ready}
-use Rattle.mem_calls.specs.Changes.{Puts, IsFree, IsReady}
+use Rattle.mem_calls.specs.Changes.{PutsValue, IsFree, IsReadyForRow}
 use Rattle.mem_calls.proofs.Shown.{bucket_small}
 use Rattle.mem_calls.proofs.Nothing.{some_first}
 use Rattle.mem_calls.proofs.HeldKinds.{some_of}
@@ -46,7 +46,7 @@ module _ (nodes : ℕ) (before : Hand Cell Fact) (dir : NodeId) (name : List ℕ
   bucket_below same = part_above (bucket name) (bucket_small name) (sym same)
 
   -- once the own log is out the bucket is held as before
-  module _ (ready : Ready) (mid : Hand Cell Fact) (is_ready : IsReady nodes dir name before ready mid) where
+  module _ (ready : Ready) (mid : Hand Cell Fact) (is_ready : IsReadyForRow nodes dir name before ready mid) where
     mid_same : bucket_held nodes mid.held dir (bucket name) ≡ bucket_held nodes before.held dir (bucket name)
     mid_same = ap (λ (h : Hand Cell Fact). bucket_held nodes h.held dir (bucket name)) is_ready.out.1
         ∙ ap (option_and_then as_bucket) (apart_value nodes before.held mine at is_ready.out.0 (part_above (bucket name) (bucket_small name)))
@@ -61,7 +61,7 @@ module _ (nodes : ℕ) (before : Hand Cell Fact) (dir : NodeId) (name : List ℕ
     row_free b is = ap (λ (x : Bucket). get x.rows name) (sym (same_bucket b is)) ∙ free.free
 
     -- and then the bucket
-    module _ (out : Hand Cell Fact) (none : Cell) (taken : Puts nodes (id.Bucket dir (bucket name)) none mid out) where
+    module _ (out : Hand Cell Fact) (none : Cell) (taken : PutsValue nodes (id.Bucket dir (bucket name)) none mid out) where
       abbrev pub out_held : List (HeldCell Cell)
       out_held = with_value (cell_place nodes (id.Bucket dir (bucket name))) none
           (with_value (cell_place nodes (id.Part (record { 0 = before.view.core }))) is_ready.out.0 before.held)
@@ -84,7 +84,7 @@ module _ (nodes : ℕ) (before : Hand Cell Fact) (dir : NodeId) (name : List ℕ
           ∙ value_with nodes mine is_ready.out.0 before.held (some_first as_part (value_held nodes before.held mine) part)
 
       -- also where the bucket is put back
-      pub part_back : (vb : Cell) (put : Hand Cell Fact) → Puts nodes (id.Bucket dir (bucket name)) vb out put
+      pub part_back : (vb : Cell) (put : Hand Cell Fact) → PutsValue nodes (id.Bucket dir (bucket name)) vb out put
           → IsSome (value_held nodes put.held (id.Part (record { 0 = put.view.core })))
       part_back vb put puts =
           let core : put.view.core ≡ before.view.core = ap (λ (h : Hand Cell Fact). h.view.core) puts ∙ ap (λ (h : Hand Cell Fact). h.view.core) out_is in

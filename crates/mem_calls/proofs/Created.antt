@@ -49,7 +49,7 @@ use Rattle.mem_calls.specs.Held.{value_held, as_bucket, as_file, as_part, file_h
 use Rattle.mem_calls.specs.Outcome.{IsAnswered}
 use Rattle.mem_calls.specs.Parts.{HasRoomFor}
 use Rattle.mem_calls.specs.declared.coming.Coming.{Coming}
-use Rattle.mem_calls.specs.Changes.{Puts, IsWithRow}
+use Rattle.mem_calls.specs.Changes.{PutsValue, IsWithRow}
 use Rattle.mem_calls.specs.Ends.{IsPlaced}
 use Rattle.mem_calls.specs.Creations.{creates, HoldsNew, is_new_cell, IsSettled, Settles}
 use Rattle.mem_calls.proofs.Shown.{name_shows, bucket_small}
@@ -68,7 +68,8 @@ use Rattle.mem_calls.proofs.Changed.{Turn}
 use Rattle.mem_calls.proofs.Creation.{Creation}
 
 module _ {given : ℕ → Option OldKept} {t : TableState} {nodes : ℕ} {before : Hand Cell Fact} {dir : NodeId} {name : List ℕ} {child : NodeId} {kind : Kind}
-    {coming : Coming} {out : Hand Cell Fact} {number : ℕ} {mid : Hand Cell Fact} (r : Creation given t nodes before dir name child kind coming out number mid) where
+    {coming : Coming} {out : Hand Cell Fact} {number : ℕ} {mid : Hand Cell Fact}
+    (r : Creation given t nodes before dir name child kind coming out number mid) where
   abbrev mine : CellId
   mine = id.Part (record { 0 = before.view.core })
 
@@ -228,7 +229,7 @@ module _ {given : ℕ → Option OldKept} {t : TableState} {nodes : ℕ} {before
   pub few_made : coming.ready.part.value.made < 4294967295
   few_made = let same = r.is.ready.made in let few = r.may.few r.is.ready.part r.is.ready.was in omega (arith, same, few)
 
-  module _ (vb : Cell) (three : Hand Cell Fact) (puts_b : Puts nodes (id.Bucket dir (bucket name)) vb mid three) where
+  module _ (vb : Cell) (three : Hand Cell Fact) (puts_b : PutsValue nodes (id.Bucket dir (bucket name)) vb mid three) where
     three_held : three.held ≡ with_value (cell_place nodes at) vb out_held
     three_held = ap (λ (h : Hand Cell Fact). h.held) puts_b ∙ ap (with_value (cell_place nodes at) vb) mid_held
 
@@ -306,7 +307,7 @@ module _ {given : ℕ → Option OldKept} {t : TableState} {nodes : ℕ} {before
           (added : IsAddedTo coming.ready.part.value.log (log_entry number dir.0 name child.0 kind Add None [] ∷ []) entered.log)
           (made : entered.made ≡ coming.ready.part.value.made)
           (same_log : after.log ≡ entered.log) (one_more : after.made ≡ entered.made + 1) (final : Hand Cell Fact)
-          (puts_p : Puts nodes (id.Part (record { 0 = four.view.core })) vp four final) where
+          (puts_p : PutsValue nodes (id.Part (record { 0 = four.view.core })) vp four final) where
         abbrev new_cells : List (HeldCell Cell)
         new_cells = with_value (cell_place nodes mine) vp four.held
 

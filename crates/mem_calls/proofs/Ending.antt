@@ -43,7 +43,8 @@ none_of None none = refl
 none_of (Some x) none = absurd (cc (none))
 
 -- no directory has a row that names itself
-pub not_itself : (tree : TreeState) → IsSound tree → (directory : ℕ) (name : List ℕ) → row_of tree directory name ≡ Some directory → is_directory tree directory ≡ true → ⊥
+pub not_itself : (tree : TreeState) → IsSound tree → (directory : ℕ) (name : List ℕ) → row_of tree directory name ≡ Some directory
+    → is_directory tree directory ≡ true → ⊥
 not_itself tree s directory name row kind =
     let way = s.climbs directory name directory row kind in
     let longer : way.0 ≡ directory ∷ way.0 = above_same tree s way.1 (below directory directory name way.0 row way.1) kind in
@@ -66,7 +67,8 @@ module _ (tree : TreeState) (directory : ℕ) (name : List ℕ) (b : Bucket) (sh
           kind false here is = absurd (cc (is))
 
 module _ (nodes : ℕ) (held : List (HeldCell Cell)) (dir : NodeId) (name : List ℕ) where
-  pub names_if : (o : Option NodeId) (b : Bucket) → dir.0 < nodes → bucket_held nodes held dir (bucket name) ≡ Some b → is_standing dir b ≡ true → number_of o ≡ get b.directories name
+  pub names_if : (o : Option NodeId) (b : Bucket) → dir.0 < nodes → bucket_held nodes held dir (bucket name) ≡ Some b → is_standing dir b ≡ true
+      → number_of o ≡ get b.directories name
       → IfSome o (λ child. NamesDirectory nodes held dir (bucket name) name child)
   names_if None b within is stands row = tt
   names_if (Some child) b within is stands row = record { within = within; bucket = b; held_is = is; stands = stands; row = sym row }
@@ -87,10 +89,12 @@ module _ (nodes : ℕ) (held : List (HeldCell Cell)) (dir : NodeId) (name : List
   }
 
 -- what a row names in each tree that a core may meet
-pub named_row : (hand : Hand Cell Fact) (nodes : ℕ) (dir : NodeId) (name : List ℕ) (child : NodeId) (tree : TreeState) → nodes ≡ node_count hand.view.first → NamesDirectory nodes hand.held dir (bucket name) name child → MayMeet hand.view hand.held tree
+pub named_row : (hand : Hand Cell Fact) (nodes : ℕ) (dir : NodeId) (name : List ℕ) (child : NodeId) (tree : TreeState) → nodes ≡ node_count hand.view.first
+    → NamesDirectory nodes hand.held dir (bucket name) name child → MayMeet hand.view hand.held tree
     → (row_of tree dir.0 name ≡ Some child.0) × (is_directory tree child.0 ≡ true)
 named_row hand nodes dir name child tree counted names meets =
-    directory_row tree dir.0 name names.bucket (name_shows hand nodes counted tree meets dir name (bucket name) names.bucket names.within refl names.held_is) child.0 names.row
+    directory_row tree dir.0 name names.bucket
+    (name_shows hand nodes counted tree meets dir name (bucket name) names.bucket names.within refl names.held_is) child.0 names.row
 
 -- the child of a row is a node, and not the directory that has the row
 module _ (hand : Hand Cell Fact) (nodes : ℕ) (dir : NodeId) (name : List ℕ) (counted : nodes ≡ node_count hand.view.first) (met : CanMeet hand) where
@@ -116,7 +120,8 @@ module _ (hand : Hand Cell Fact) (nodes : ℕ) (dir : NodeId) (name : List ℕ) 
 
 module _ (nodes : ℕ) (dir : NodeId) (name : List ℕ) (before after : Hand Cell Fact) where
   -- what a row names still is what it named
-  pub names_back : (child : NodeId) → StillHolds nodes before after → HoldsDirectory nodes before.held dir (bucket name) → NamesDirectory nodes after.held dir (bucket name) name child → NamesDirectory nodes before.held dir (bucket name) name child
+  pub names_back : (child : NodeId) → StillHolds nodes before after → HoldsDirectory nodes before.held dir (bucket name)
+      → NamesDirectory nodes after.held dir (bucket name) name child → NamesDirectory nodes before.held dir (bucket name) name child
   names_back child still holds names =
       let b = is_value (bucket_held nodes before.held dir (bucket name)) (holds.bucket names.within) in
       let same : names.bucket ≡ b.0 = cc (sym names.held_is ∙ still_bucket nodes before after dir (bucket name) b.0 still b.1) in
@@ -128,27 +133,33 @@ module _ (nodes : ℕ) (dir : NodeId) (name : List ℕ) (before after : Hand Cel
         row = ap (λ (x : Bucket). get x.directories name) (sym same) ∙ names.row;
       }
 
-  pub still_named : StillHolds nodes before after → HoldsDirectory nodes before.held dir (bucket name) → HoldsNamedBuckets nodes before.held dir name → HoldsNamedBuckets nodes after.held dir name
+  pub still_named : StillHolds nodes before after → HoldsDirectory nodes before.held dir (bucket name) → HoldsNamedBuckets nodes before.held dir name
+      → HoldsNamedBuckets nodes after.held dir name
   still_named still holds named child names =
       let old = named child (names_back child still holds names) in
       (old.0, still_buckets nodes before after child still old.1)
 
   -- the directory that ends lies above its place
-  pub ending_above : (child : NodeId) → HoldsDirectory nodes before.held dir (bucket name) → NamesDirectory nodes before.held dir (bucket name) name child → child.0 < nodes → StillHolds nodes before after → HoldsBuckets nodes after.held child
+  pub ending_above : (child : NodeId) → HoldsDirectory nodes before.held dir (bucket name) → NamesDirectory nodes before.held dir (bucket name) name child
+      → child.0 < nodes → StillHolds nodes before after → HoldsBuckets nodes after.held child
       → LiesAbove (32 + 10 * nodes) after.view.held → length after.held ≤ 10 → HoldsEnding nodes dir name after
   ending_above child holds names within still buckets low few = record {
     directory = still_directory nodes before after dir (bucket name) still holds;
-    child = λ other named. subst (λ x. (x.0 < nodes) × HoldsBuckets nodes after.held x) (one_directory nodes before.held dir name child other names (names_back other still holds named)) (within, buckets);
+    child = λ other named. subst (λ x. (x.0 < nodes) × HoldsBuckets nodes after.held x)
+        (one_directory nodes before.held dir name child other names (names_back other still holds named)) (within, buckets);
     below = low;
     few = few;
   }
 
   -- it lies below its place
-  pub ending_below : (child other : NodeId) → HoldsBuckets nodes before.held child → child.0 < nodes → length before.held ≤ 8 → Gains nodes (id.Bucket dir (bucket name)) before after → NamesDirectory nodes after.held dir (bucket name) name other → other.0 ≡ child.0
+  pub ending_below : (child other : NodeId) → HoldsBuckets nodes before.held child → child.0 < nodes → length before.held ≤ 8
+      → Gains nodes (id.Bucket dir (bucket name)) before after → NamesDirectory nodes after.held dir (bucket name) name other → other.0 ≡ child.0
       → HoldsEnding nodes dir name after
   ending_below child other buckets within few gains names same_number = record {
     directory = standing_directory nodes after.held dir name other names;
-    child = λ third named. subst (λ x. (x.0 < nodes) × HoldsBuckets nodes after.held x) (sym (node_again other child same_number) ∙ one_directory nodes after.held dir name other third names named) (within, still_buckets nodes before after child gains.still buckets);
+    child = λ third named. subst (λ x. (x.0 < nodes) × HoldsBuckets nodes after.held x)
+        (sym (node_again other child same_number) ∙ one_directory nodes after.held dir name other third names named)
+        (within, still_buckets nodes before after child gains.still buckets);
     below = subst (LiesAbove (32 + 10 * nodes)) (sym gains.top) (low (bucket name) (bucket_small name) names.within);
     few = let on = gains.on.room in let room = gains.room in omega (arith, few, on, room);
   }
@@ -157,7 +168,8 @@ module _ (nodes : ℕ) (dir : NodeId) (name : List ℕ) (before after : Hand Cel
       low b lt node = omega (arith, lt, node)
 
 -- what a removal of a directory answers
-module _ (tree : TreeState) (core : ℕ) (dir : NodeId) (name : List ℕ) (b : Bucket) (shows : ShowsBucket tree dir.0 (bucket name) b) (fault : directory_fault tree dir.0 ≡ None) where
+module _ (tree : TreeState) (core : ℕ) (dir : NodeId) (name : List ℕ) (b : Bucket) (shows : ShowsBucket tree dir.0 (bucket name) b)
+    (fault : directory_fault tree dir.0 ≡ None) where
   answer : (row : Option ℕ) → row_of tree dir.0 name ≡ row → verdict tree core (call.Rmdir dir name) ≡ rmdir_row tree dir.0 name row
   answer row is = ap (λ f. or_else f (rmdir_row tree dir.0 name (row_of tree dir.0 name))) fault ∙ ap (rmdir_row tree dir.0 name) is
 
@@ -168,18 +180,23 @@ module _ (tree : TreeState) (core : ℕ) (dir : NodeId) (name : List ℕ) (b : B
   rmdir_file some none =
       let child = is_value (get b.rows name) some in
       answer (Some child.0) (row_in tree dir.0 name b shows ∙ child.1)
-      ∙ ap (λ d. if not d then refused NotDir else if not (nat_eq (row_count tree child.0) 0) then refused NotEmpty else done (Removes dir.0 name child.0)) (sym (directory_in tree dir.0 name b shows child.0 child.1) ∙ ap is_some none)
+      ∙ ap (λ d. if not d then refused NotDir else if not (nat_eq (row_count tree child.0) 0) then refused NotEmpty else done (Removes dir.0 name child.0))
+      (sym (directory_in tree dir.0 name b shows child.0 child.1) ∙ ap is_some none)
 
-  found : (child : ℕ) → get b.directories name ≡ Some child → verdict tree core (call.Rmdir dir name) ≡ (if not (nat_eq (row_count tree child) 0) then refused NotEmpty else done (Removes dir.0 name child))
+  found : (child : ℕ) → get b.directories name ≡ Some child
+      → verdict tree core (call.Rmdir dir name) ≡ (if not (nat_eq (row_count tree child) 0) then refused NotEmpty else done (Removes dir.0 name child))
   found child named =
       let row = directory_row tree dir.0 name b shows child named in
-      answer (Some child) row.0 ∙ ap (λ d. if not d then refused NotDir else if not (nat_eq (row_count tree child) 0) then refused NotEmpty else done (Removes dir.0 name child)) row.1
+      answer (Some child) row.0 ∙ ap
+      (λ d. if not d then refused NotDir else if not (nat_eq (row_count tree child) 0) then refused NotEmpty else done (Removes dir.0 name child)) row.1
 
   pub rmdir_full : (child : ℕ) → get b.directories name ≡ Some child → 0 < row_count tree child → verdict tree core (call.Rmdir dir name) ≡ refused NotEmpty
   rmdir_full child named some = found child named ∙ ap (λ b. if not b then refused NotEmpty else done (Removes dir.0 name child)) not_none
     where
       not_none : nat_eq (row_count tree child) 0 ≡ false
-      not_none = ⊎_elim (λ yes. let none = eqb-true (row_count tree child) 0 yes in absurd (omega (arith, some, none))) (λ no. no) (cases_Bool (nat_eq (row_count tree child) 0))
+      not_none = ⊎_elim (λ yes. let none = eqb-true (row_count tree child) 0 yes in absurd (omega (arith, some, none))) (λ no. no)
+          (cases_Bool (nat_eq (row_count tree child) 0))
 
-  pub rmdir_empty : (child : ℕ) → get b.directories name ≡ Some child → row_count tree child ≡ 0 → verdict tree core (call.Rmdir dir name) ≡ done (Removes dir.0 name child)
+  pub rmdir_empty : (child : ℕ) → get b.directories name ≡ Some child → row_count tree child ≡ 0
+      → verdict tree core (call.Rmdir dir name) ≡ done (Removes dir.0 name child)
   rmdir_empty child named none = found child named ∙ ap (λ n. if not (nat_eq n 0) then refused NotEmpty else done (Removes dir.0 name child)) none

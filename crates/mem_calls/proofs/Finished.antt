@@ -47,25 +47,44 @@ some_cell : {X : Type 0} {x y : X} → Some x ≡ Some y → x ≡ y
 some_cell e = cc (e)
 
 -- a cell that got another value has it
-found_with : (place : ℕ) (value : Cell) (cells : List (HeldCell Cell)) (h : HeldCell Cell) → cell_at place (with_value place value cells) ≡ Some h → h.value ≡ value
+found_with : (place : ℕ) (value : Cell) (cells : List (HeldCell Cell)) (h : HeldCell Cell) → cell_at place (with_value place value cells) ≡ Some h
+    → h.value ≡ value
 found_with place value [] h is = absurd (cc (is))
 found_with place value (c ∷ cells) h is = ⊎_elim
     (λ here.
-    let same : record { place = c.place; value = value } ≡ h = cc (subst (λ (l : List (HeldCell Cell)). cell_at place l ≡ Some h) (ap (λ b. if b then record { place = c.place; value = value } ∷ cells else c ∷ with_value place value cells) here) is, here) in
+    let same : record { place = c.place; value = value } ≡ h = cc (
+      subst (λ (l : List (HeldCell Cell)). cell_at place l ≡ Some h)
+          (ap (λ b. if b then record { place = c.place; value = value } ∷ cells else c ∷ with_value place value cells) here) is,
+      here,
+    ) in
     ap (λ (x : HeldCell Cell). x.value) (sym same))
-    (λ other. found_with place value cells h (cc (subst (λ (l : List (HeldCell Cell)). cell_at place l ≡ Some h) (ap (λ b. if b then record { place = c.place; value = value } ∷ cells else c ∷ with_value place value cells) other) is, other)))
+    (λ other. found_with place value cells h
+    (cc (
+      subst (λ (l : List (HeldCell Cell)). cell_at place l ≡ Some h)
+          (ap (λ b. if b then record { place = c.place; value = value } ∷ cells else c ∷ with_value place value cells) other) is,
+      other,
+    )))
     (cases_Bool (is_at place c))
 
 -- of cells of which one got another value, a value is that one's or the old one of another cell
-pub of_changed : (nodes cores : ℕ) (which changed : CellId) (value new : Cell) (held : List (HeldCell Cell)) → IsCell nodes cores which → IsCell nodes cores changed
-    → value_held nodes (with_value (cell_place nodes changed) new held) which ≡ Some value → ((which ≡ changed) × (value ≡ new)) ⊎ ((cell_place nodes changed ≡ cell_place nodes which → ⊥) × (value_held nodes held which ≡ Some value))
+pub of_changed : (nodes cores : ℕ) (which changed : CellId) (value new : Cell) (held : List (HeldCell Cell)) → IsCell nodes cores which
+    → IsCell nodes cores changed
+    → value_held nodes (with_value (cell_place nodes changed) new held) which ≡ Some value → ((which ≡ changed) × (value ≡ new))
+    ⊎ ((cell_place nodes changed ≡ cell_place nodes which → ⊥) × (value_held nodes held which ≡ Some value))
 of_changed nodes cores which changed value new held one two is = ⊎_elim
     (λ here.
     let place : cell_place nodes changed ≡ cell_place nodes which = eqb-true (cell_place nodes changed) (cell_place nodes which) here in
     let h = held_cell nodes (with_value (cell_place nodes changed) new held) which value is in
-    inl (places_apart nodes cores which changed one two (sym place), sym h.2 ∙ found_with (cell_place nodes changed) new held h.0 (subst (λ p. cell_at p (with_value (cell_place nodes changed) new held) ≡ Some h.0) (sym place) h.1)))
+    inl (
+      places_apart nodes cores which changed one two (sym place),
+      sym h.2
+          ∙ found_with (cell_place nodes changed) new held h.0
+          (subst (λ p. cell_at p (with_value (cell_place nodes changed) new held) ≡ Some h.0) (sym place) h.1),
+    ))
     (λ other.
-    let apart : cell_place nodes changed ≡ cell_place nodes which → ⊥ = λ same. both_ways (nat_eq (cell_place nodes changed) (cell_place nodes which)) other (eq-eqb (cell_place nodes changed) (cell_place nodes which) same) in
+    let apart : cell_place nodes changed ≡ cell_place nodes which
+    → ⊥ = λ same. both_ways (nat_eq (cell_place nodes changed) (cell_place nodes which)) other
+    (eq-eqb (cell_place nodes changed) (cell_place nodes which) same) in
     inr (apart, ap (option_map (λ (x : HeldCell Cell). x.value)) (sym (with_other (cell_place nodes changed) new held (cell_place nodes which) apart)) ∙ is))
     (cases_Bool (nat_eq (cell_place nodes changed) (cell_place nodes which)))
 
@@ -82,8 +101,11 @@ none_left cells = ap reverse (drop_all (reverse cells))
 -- the calls of a core are no more than its events
 own_calls : (core : ℕ) (log : List (Event Fact)) → length (filter (is_core core) (calls_in log)) ≤ length (entries_by event_core core log)
 own_calls core [] = omega arith
-own_calls core (Called entry ∷ log) = let r = own_calls core log in ⊎_elim (λ (is : nat_eq entry.core.0 core ≡ true). rw is (omega (arith, r))) (λ (is : nat_eq entry.core.0 core ≡ false). rw is r) (cases_Bool (nat_eq entry.core.0 core))
-own_calls core (Told by fact ∷ log) = let r = own_calls core log in ⊎_elim (λ (is : nat_eq by.0 core ≡ true). rw is (omega (arith, r))) (λ (is : nat_eq by.0 core ≡ false). rw is r) (cases_Bool (nat_eq by.0 core))
+own_calls core (Called entry ∷ log) = let r = own_calls core log in
+    ⊎_elim (λ (is : nat_eq entry.core.0 core ≡ true). rw is (omega (arith, r))) (λ (is : nat_eq entry.core.0 core ≡ false). rw is r)
+    (cases_Bool (nat_eq entry.core.0 core))
+own_calls core (Told by fact ∷ log) = let r = own_calls core log in
+    ⊎_elim (λ (is : nat_eq by.0 core ≡ true). rw is (omega (arith, r))) (λ (is : nat_eq by.0 core ≡ false). rw is r) (cases_Bool (nat_eq by.0 core))
 
 module _ (given : ℕ → Option OldKept) (t : TableState) (nodes : ℕ) (before : Hand Cell Fact) (table : IsFileTable t nodes) (work : IsWorking given t before)
     (c : Call) (reply : Reply) (number : ℕ) (mid : Hand Cell Fact) (stamps : Stamps (IsLawfulLog given) (StandsAt given) c reply before number mid) where
@@ -111,15 +133,18 @@ module _ (given : ℕ → Option OldKept) (t : TableState) (nodes : ℕ) (before
   pub core_mid : mid.view.core ≡ before.view.core
   core_mid = ap (λ (v : View TreeState (Event Fact)). v.core) stamps.drew.1.frame
 
-  part_of_value : (value : Cell) (p : PartCell) → as_part value ≡ Some p → StandsForCell given first (account_of log) own value → StandsPart first (account_of log) before.view.core p
+  part_of_value : (value : Cell) (p : PartCell) → as_part value ≡ Some p → StandsForCell given first (account_of log) own value
+      → StandsPart first (account_of log) before.view.core p
   part_of_value (cell.Part part) p is stood = let same : part.value ≡ p = cc (is) in subst (StandsPart first (account_of log) before.view.core) same stood
   part_of_value (cell.Bucket bucket) p is stood = absurd stood
   part_of_value (cell.Lock lock) p is stood = absurd stood
   part_of_value (cell.Pending pending) p is stood = absurd stood
   part_of_value (cell.File file) p is stood = absurd stood
 
-  value_of_part : (account : Account) (value : Cell) (p : PartCell) → as_part value ≡ Some p → StandsPart first account before.view.core p → StandsForCell given first account own value
-  value_of_part account (cell.Part part) p is stands = let same : p ≡ part.value = sym (some_cell is) in subst (StandsPart first account before.view.core) same stands
+  value_of_part : (account : Account) (value : Cell) (p : PartCell) → as_part value ≡ Some p → StandsPart first account before.view.core p
+      → StandsForCell given first account own value
+  value_of_part account (cell.Part part) p is stands = let same : p ≡ part.value = sym (some_cell is) in
+      subst (StandsPart first account before.view.core) same stands
   value_of_part account (cell.Bucket bucket) p is stands = absurd (cc (is))
   value_of_part account (cell.Lock lock) p is stands = absurd (cc (is))
   value_of_part account (cell.Pending pending) p is stands = absurd (cc (is))
@@ -139,45 +164,60 @@ module _ (given : ℕ → Option OldKept) (t : TableState) (nodes : ℕ) (before
       omega (arith, counted, own_few, mine, few)
 
   -- it goes home with what its entry logs
-  pub part_home : (p next : PartCell) (value : Cell) → part_held nodes before.held before.view.core ≡ Some p → as_part value ≡ Some next → IsAddedTo p.log (entry_logged S entry) next.log
-      → next.made ≡ made_by (tree_after first (calls_in (log ++ Called entry ∷ []))) before.view.core → StandsForCell given first (account_of (log ++ Called entry ∷ [])) own value
+  pub part_home : (p next : PartCell) (value : Cell) → part_held nodes before.held before.view.core ≡ Some p → as_part value ≡ Some next
+      → IsAddedTo p.log (entry_logged S entry) next.log
+      → next.made ≡ made_by (tree_after first (calls_in (log ++ Called entry ∷ []))) before.view.core
+      → StandsForCell given first (account_of (log ++ Called entry ∷ [])) own value
   part_home p next value was is added made = value_of_part (account_of (log ++ Called entry ∷ [])) value next is
-      (parts_take_entries given first log entry p next (stamped.legal_next given t nodes before table work c reply number mid stamps) (stamped.lawful_log given t nodes before table work c reply number mid stamps) (part_stood p was) added made)
+      (parts_take_entries given first log entry p next (stamped.legal_next given t nodes before table work c reply number mid stamps)
+      (stamped.lawful_log given t nodes before table work c reply number mid stamps) (part_stood p was) added made)
 
   -- what a call comes to whose cells have all gone home
   pub ends_as : (v : Verdict) (final last : Hand Cell Fact) → verdict S before.view.core c ≡ v → v.reply ≡ reply → asks_fsync c ≡ false
-      → record final { held = mid.held } ≡ mid → length final.held ≡ length before.held → LetsGo final last → last.held ≡ left_below 0 final.held → last.view.held ≡ reverse (places_of last.held)
+      → record final { held = mid.held } ≡ mid → length final.held ≡ length before.held → LetsGo final last → last.held ≡ left_below 0 final.held
+      → last.view.held ≡ reverse (places_of last.held)
       → IsAnswered t c reply before last
   ends_as v final last verdict_is reply_is not final_is many lets left places =
       let last_held : last.held ≡ [] = left ∙ none_left final.held in
       let view_final : final.view ≡ mid.view = ap (λ (h : Hand Cell Fact). h.view) final_is in
-      let table_is : last.table ≡ before.table = ap (λ (h : Hand Cell Fact). h.table) lets.frame ∙ (ap (λ (h : Hand Cell Fact). h.table) final_is ∙ ap (λ (h : Hand Cell Fact). h.table) stamps.frame) in
-      let core_is : last.view.core ≡ before.view.core = ap (λ (v : View TreeState (Event Fact)). v.core) lets.view ∙ (ap (λ (v : View TreeState (Event Fact)). v.core) view_final ∙ core_mid) in
+      let table_is : last.table ≡ before.table = ap (λ (h : Hand Cell Fact). h.table) lets.frame
+      ∙ (ap (λ (h : Hand Cell Fact). h.table) final_is ∙ ap (λ (h : Hand Cell Fact). h.table) stamps.frame) in
+      let core_is : last.view.core ≡ before.view.core = ap (λ (v : View TreeState (Event Fact)). v.core) lets.view
+      ∙ (ap (λ (v : View TreeState (Event Fact)). v.core) view_final ∙ core_mid) in
       record {
         between = record {
           table_is = table_is ∙ work.table;
-          first_is = ap (λ (v : View TreeState (Event Fact)). v.first) lets.view ∙ (ap (λ (v : View TreeState (Event Fact)). v.first) view_final ∙ (stamped.first_is given t nodes before table work c reply number mid stamps ∙ work.first));
+          first_is = ap (λ (v : View TreeState (Event Fact)). v.first) lets.view
+              ∙ (ap (λ (v : View TreeState (Event Fact)). v.first) view_final
+              ∙ (stamped.first_is given t nodes before table work c reply number mid stamps ∙ work.first));
           core_is = subst (λ n. n < length t.first.made) (sym core_is) work.core;
           holds_none = last_held;
           none_held = places ∙ ap (λ (l : List (HeldCell Cell)). reverse (places_of l)) last_held;
-          none_waits = ap (λ (h : Hand Cell Fact). h.waiting) lets.frame ∙ (ap (λ (h : Hand Cell Fact). h.waiting) final_is ∙ (stamps.waiting ∙ ap (λ b. if b && is_want reply then Some number else None) not));
+          none_waits = ap (λ (h : Hand Cell Fact). h.waiting) lets.frame
+              ∙ (ap (λ (h : Hand Cell Fact). h.waiting) final_is ∙ (stamps.waiting ∙ ap (λ b. if b && is_want reply then Some number else None) not));
         };
         same = record {
           table = table_is;
-          cores = ap (λ (h : Hand Cell Fact). h.cores) lets.frame ∙ (ap (λ (h : Hand Cell Fact). h.cores) final_is ∙ ap (λ (h : Hand Cell Fact). h.cores) stamps.frame);
-          leads = ap (λ (h : Hand Cell Fact). h.leads) lets.frame ∙ (ap (λ (h : Hand Cell Fact). h.leads) final_is ∙ ap (λ (h : Hand Cell Fact). h.leads) stamps.frame);
+          cores = ap (λ (h : Hand Cell Fact). h.cores) lets.frame
+              ∙ (ap (λ (h : Hand Cell Fact). h.cores) final_is ∙ ap (λ (h : Hand Cell Fact). h.cores) stamps.frame);
+          leads = ap (λ (h : Hand Cell Fact). h.leads) lets.frame
+              ∙ (ap (λ (h : Hand Cell Fact). h.leads) final_is ∙ ap (λ (h : Hand Cell Fact). h.leads) stamps.frame);
           number = core_is;
         };
-        room = (let r = lets.room in let none = ap length last_held in let same = ap (λ (h : Hand Cell Fact). h.room) final_is in let was = ap (λ (h : Hand Cell Fact). h.room) stamps.frame in omega (arith, r, none, same, was, many));
-        spare = (let l = ap (λ (h : Hand Cell Fact). h.spare) lets.frame in let f = ap (λ (h : Hand Cell Fact). h.spare) final_is in let s = stamps.spare in omega (arith, l, f, s));
+        room = (let r = lets.room in let none = ap length last_held in let same = ap (λ (h : Hand Cell Fact). h.room) final_is in
+            let was = ap (λ (h : Hand Cell Fact). h.room) stamps.frame in omega (arith, r, none, same, was, many));
+        spare = (let l = ap (λ (h : Hand Cell Fact). h.spare) lets.frame in let f = ap (λ (h : Hand Cell Fact). h.spare) final_is in let s = stamps.spare in
+            omega (arith, l, f, s));
         stands = (
           log,
           entry,
           record {
             entry_is = ap (entry_numbered before.view.core c reply) (stamped.number_is given t nodes before table work c reply number mid stamps);
             began = stamps.drew.1.seen;
-            seen = ap (λ (v : View TreeState (Event Fact)). v.seen) lets.view ∙ (ap (λ (v : View TreeState (Event Fact)). v.seen) view_final ∙ stamped.seen_is given t nodes before table work c reply number mid stamps);
-            due = sym reply_is ∙ (sym (ap (λ (w : Verdict). w.reply) verdict_is) ∙ ap (λ f. (verdict (tree_after f (calls_in log)) before.view.core c).reply) work.first);
+            seen = ap (λ (v : View TreeState (Event Fact)). v.seen) lets.view
+                ∙ (ap (λ (v : View TreeState (Event Fact)). v.seen) view_final ∙ stamped.seen_is given t nodes before table work c reply number mid stamps);
+            due = sym reply_is ∙ (sym (ap (λ (w : Verdict). w.reply) verdict_is)
+                ∙ ap (λ f. (verdict (tree_after f (calls_in log)) before.view.core c).reply) work.first);
           },
           ap (λ (h : Hand Cell Fact). h.entries) lets.frame ∙ (ap (λ (h : Hand Cell Fact). h.entries) final_is ∙ stamps.entries),
           ap (λ (v : View TreeState (Event Fact)). v.mine) lets.view ∙ (ap (λ (v : View TreeState (Event Fact)). v.mine) view_final ∙ stamps.drew.1.mine),
@@ -186,7 +226,8 @@ module _ (given : ℕ → Option OldKept) (t : TableState) (nodes : ℕ) (before
 
   -- the same by what is due in each tree that the core may meet
   pub ends : (v : Verdict) (final last : Hand Cell Fact) → InEach before (λ tree. verdict tree before.view.core c ≡ v) → v.reply ≡ reply → asks_fsync c ≡ false
-      → record final { held = mid.held } ≡ mid → length final.held ≡ length before.held → LetsGo final last → last.held ≡ left_below 0 final.held → last.view.held ≡ reverse (places_of last.held)
+      → record final { held = mid.held } ≡ mid → length final.held ≡ length before.held → LetsGo final last → last.held ≡ left_below 0 final.held
+      → last.view.held ≡ reverse (places_of last.held)
       → IsAnswered t c reply before last
   ends v final last due reply_is not final_is many lets left places =
       ends_as v final last (due S (stamped.meets given t nodes before table work c reply number mid stamps)) reply_is not final_is many lets left places

@@ -16,15 +16,17 @@ use Rattle.mem_values.specs.Stands.{StandsAt}
 use Rattle.mem_values.specs.Facts.{IsLawfulLog}
 use Rattle.mem_values.specs.Laws.{KnowsCells}
 use Rattle.mem_calls.specs.Working.{IsWorking, WorksOn, StillHolds}
-use Rattle.mem_calls.specs.Outcome.{IsRefused}
+use Rattle.mem_calls.specs.Outcome.{IsRefusedMemory}
 use Rattle.mem_calls.proofs.Finished.{none_left}
 
 -- what a core knows of its cells goes home
-pub known_home : (given : ℕ → Option OldKept) (view : View TreeState (Event Fact)) (cells : List (HeldCell Cell)) → KnowsCells given view cells → EachFrom 0 (Stands (IsLawfulLog given) (StandsAt given) view) cells
+pub known_home : (given : ℕ → Option OldKept) (view : View TreeState (Event Fact)) (cells : List (HeldCell Cell)) → KnowsCells given view cells
+    → EachFrom 0 (Stands (IsLawfulLog given) (StandsAt given) view) cells
 known_home given view [] knows = tt
 known_home given view (c ∷ cells) knows = ((λ le. knows.0.stood), known_home given view cells knows.1)
 
-module _ (given : ℕ → Option OldKept) (t : TableState) (before after : Hand Cell Fact) (work : IsWorking given t before) (lets : LetsGo before after) (left : after.held ≡ left_below 0 before.held)
+module _ (given : ℕ → Option OldKept) (t : TableState) (before after : Hand Cell Fact) (work : IsWorking given t before) (lets : LetsGo before after)
+    (left : after.held ≡ left_below 0 before.held)
     (places : after.view.held ≡ reverse (places_of after.held)) where
   pub none : after.held ≡ []
   none = left ∙ none_left before.held
@@ -55,7 +57,7 @@ module _ (given : ℕ → Option OldKept) (t : TableState) (before after : Hand 
   }
 
   -- a call that is given up, since it was refused memory
-  pub refused : IsRefused t before after
+  pub refused : IsRefusedMemory t before after
   refused = record {
     between = record {
       table_is = ap (λ (h : Hand Cell Fact). h.table) lets.frame ∙ work.table;

@@ -55,7 +55,7 @@ use Rattle.mem_calls.specs.Working.{IsWorking}
 use Rattle.mem_calls.specs.Outcome.{IsAnswered}
 use Rattle.mem_calls.specs.Parts.{HasRoomFor}
 use Rattle.mem_calls.specs.declared.coming.Coming.{Coming}
-use Rattle.mem_calls.specs.Changes.{Puts, IsWithRow, MayLink, RaisesLinks, IsComing}
+use Rattle.mem_calls.specs.Changes.{PutsValue, IsWithRow, MayLink, RaisesLinks, IsComing}
 use Rattle.mem_calls.proofs.Shown.{name_shows, bucket_small}
 use Rattle.mem_calls.proofs.RowsGo.{directory_kept}
 use Rattle.mem_calls.proofs.RowsCome.{bucket_after}
@@ -297,7 +297,7 @@ module _ {given : ℕ → Option OldKept} {t : TableState} {nodes : ℕ} {before
       (let e = r.is.ready.same.entries in let lt = changed.few_entries given t nodes before c v number mid turn r.is.ready.part r.is.ready.was few in
       omega (arith, e, lt))
 
-  module _ (vb : Cell) (three : Hand Cell Fact) (puts_b : Puts nodes (id.Bucket dir (bucket name)) vb mid three) where
+  module _ (vb : Cell) (three : Hand Cell Fact) (puts_b : PutsValue nodes (id.Bucket dir (bucket name)) vb mid three) where
     three_held : three.held ≡ with_value (cell_place nodes at) vb out_held
     three_held = ap (λ (h : Hand Cell Fact). h.held) puts_b ∙ ap (with_value (cell_place nodes at) vb) mid_held
 
@@ -336,7 +336,7 @@ module _ {given : ℕ → Option OldKept} {t : TableState} {nodes : ℕ} {before
       module _ (is_b : as_bucket vb ≡ Some coming.bucket.value) (after : PartCell) (vp : Cell) (is_p : as_part vp ≡ Some after)
           (added : IsAddedTo coming.ready.part.value.log (log_entry number dir.0 name file.0 File Add None [] ∷ []) after.log)
           (made : after.made ≡ coming.ready.part.value.made)
-          (final : Hand Cell Fact) (puts_p : Puts nodes (id.Part (record { 0 = four.view.core })) vp four final) where
+          (final : Hand Cell Fact) (puts_p : PutsValue nodes (id.Part (record { 0 = four.view.core })) vp four final) where
         abbrev new_held : List (HeldCell Cell)
         new_held = with_value (cell_place nodes mine) vp
             (with_value (cell_place nodes (id.File file)) raised.change.value (with_value (cell_place nodes at) vb out_held))

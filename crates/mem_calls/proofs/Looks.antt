@@ -19,10 +19,12 @@ module _ (tree : TreeState) (core : ℕ) (dir : NodeId) (name : List ℕ) where
   look_refused code fault = ap (λ f. or_else f (look_row tree (row_of tree dir.0 name))) fault
 
   module _ (b : Bucket) (shows : ShowsBucket tree dir.0 (bucket name) b) (fault : directory_fault tree dir.0 ≡ None) where
-    pub look_found : (child : NodeId) → get b.rows name ≡ Some child.0 → verdict tree core (call.Look dir name) ≡ answered (reply.Node child (kind_if (is_some (get b.directories name))))
+    pub look_found : (child : NodeId) → get b.rows name ≡ Some child.0
+        → verdict tree core (call.Look dir name) ≡ answered (reply.Node child (kind_if (is_some (get b.directories name))))
     look_found child row =
         ap (λ f. or_else f (look_row tree (row_of tree dir.0 name))) fault
-        ∙ (ap (look_row tree) (row_in tree dir.0 name b shows ∙ row) ∙ ap (λ k. answered (reply.Node child k)) (sym (kind_in tree dir.0 name b shows child.0 row)))
+        ∙ (ap (look_row tree) (row_in tree dir.0 name b shows ∙ row)
+        ∙ ap (λ k. answered (reply.Node child k)) (sym (kind_in tree dir.0 name b shows child.0 row)))
 
     pub look_missed : get b.rows name ≡ None → verdict tree core (call.Look dir name) ≡ refused NoEntry
     look_missed row = ap (λ f. or_else f (look_row tree (row_of tree dir.0 name))) fault ∙ ap (look_row tree) (row_in tree dir.0 name b shows ∙ row)

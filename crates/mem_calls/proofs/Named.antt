@@ -30,7 +30,8 @@ node_again : (a b : NodeId) → a.0 ≡ b.0 → a ≡ b
 node_again a b same = λ i. record { 0 = same i }
 
 module _ (nodes : ℕ) (held : List (HeldCell Cell)) (dir : NodeId) (name : List ℕ) where
-  pub names_if : (o : Option NodeId) (b : Bucket) → dir.0 < nodes → bucket_held nodes held dir (bucket name) ≡ Some b → is_standing dir b ≡ true → number_of o ≡ get b.rows name → is_some (get b.directories name) ≡ false
+  pub names_if : (o : Option NodeId) (b : Bucket) → dir.0 < nodes → bucket_held nodes held dir (bucket name) ≡ Some b → is_standing dir b ≡ true
+      → number_of o ≡ get b.rows name → is_some (get b.directories name) ≡ false
       → IfSome o (λ child. NamesFile nodes held dir (bucket name) name child)
   names_if None b within is stands row file = tt
   names_if (Some child) b within is stands row file = record { within = within; bucket = b; held_is = is; stands = stands; row = sym row; file = file }
@@ -51,7 +52,8 @@ module _ (nodes : ℕ) (held : List (HeldCell Cell)) (dir : NodeId) (name : List
   }
 
 -- the child of a row is a node
-pub child_within : (hand : Hand Cell Fact) (nodes : ℕ) (dir : NodeId) (name : List ℕ) (o : Option NodeId) (b : Bucket) → nodes ≡ node_count hand.view.first → CanMeet hand → dir.0 < nodes → bucket_held nodes hand.held dir (bucket name) ≡ Some b
+pub child_within : (hand : Hand Cell Fact) (nodes : ℕ) (dir : NodeId) (name : List ℕ) (o : Option NodeId) (b : Bucket) → nodes ≡ node_count hand.view.first
+    → CanMeet hand → dir.0 < nodes → bucket_held nodes hand.held dir (bucket name) ≡ Some b
     → number_of o ≡ get b.rows name → IfSome o (λ child. child.0 < nodes)
 child_within hand nodes dir name None b counted met within is row = tt
 child_within hand nodes dir name (Some child) b counted met within is row =
@@ -63,7 +65,8 @@ child_within hand nodes dir name (Some child) b counted met within is row =
 
 module _ (nodes : ℕ) (dir : NodeId) (name : List ℕ) (before after : Hand Cell Fact) where
   -- what a row names still is what it named
-  pub names_back : (child : NodeId) → StillHolds nodes before after → HoldsDirectory nodes before.held dir (bucket name) → NamesFile nodes after.held dir (bucket name) name child → NamesFile nodes before.held dir (bucket name) name child
+  pub names_back : (child : NodeId) → StillHolds nodes before after → HoldsDirectory nodes before.held dir (bucket name)
+      → NamesFile nodes after.held dir (bucket name) name child → NamesFile nodes before.held dir (bucket name) name child
   names_back child still holds names =
       let b = is_value (bucket_held nodes before.held dir (bucket name)) (holds.bucket names.within) in
       let same : names.bucket ≡ b.0 = cc (sym names.held_is ∙ still_bucket nodes before after dir (bucket name) b.0 still b.1) in
@@ -77,7 +80,8 @@ module _ (nodes : ℕ) (dir : NodeId) (name : List ℕ) (before after : Hand Cel
       }
 
   -- the file lies above its place
-  pub named_above : (child : NodeId) → HoldsDirectory nodes before.held dir (bucket name) → NamesFile nodes before.held dir (bucket name) name child → child.0 < nodes → length before.held ≤ 2 → Gains nodes (id.File child) before after → HoldsNamed nodes dir name after
+  pub named_above : (child : NodeId) → HoldsDirectory nodes before.held dir (bucket name) → NamesFile nodes before.held dir (bucket name) name child
+      → child.0 < nodes → length before.held ≤ 2 → Gains nodes (id.File child) before after → HoldsNamed nodes dir name after
   named_above child holds names within few gains = record {
     directory = still_directory nodes before after dir (bucket name) gains.still holds;
     file = λ other named.
@@ -88,13 +92,16 @@ module _ (nodes : ℕ) (dir : NodeId) (name : List ℕ) (before after : Hand Cel
   }
 
   -- the file lies below its place
-  pub named_below : (child other : NodeId) → IsSome (file_held nodes before.held child) → child.0 < nodes → length before.held ≤ 1 → Gains nodes (id.Bucket dir (bucket name)) before after → NamesFile nodes after.held dir (bucket name) name other → other.0 ≡ child.0 → HoldsNamed nodes dir name after
+  pub named_below : (child other : NodeId) → IsSome (file_held nodes before.held child) → child.0 < nodes → length before.held ≤ 1
+      → Gains nodes (id.Bucket dir (bucket name)) before after → NamesFile nodes after.held dir (bucket name) name other → other.0 ≡ child.0
+      → HoldsNamed nodes dir name after
   named_below child other file within few gains names same_number = record {
     directory = standing_directory nodes after.held dir name other names;
     file = λ third named.
         let same : child ≡ third = sym (node_again other child same_number) ∙ one_file nodes after.held dir name other third names named in
         let f = is_value (file_held nodes before.held child) file in
-        subst (λ x. (x.0 < nodes) × IsSome (file_held nodes after.held x)) same (within, some_of (file_held nodes after.held child) f.0 (still_file nodes before after child f.0 gains.still f.1));
+        subst (λ x. (x.0 < nodes) × IsSome (file_held nodes after.held x)) same
+        (within, some_of (file_held nodes after.held child) f.0 (still_file nodes before after child f.0 gains.still f.1));
     below = subst (LiesAbove (32 + 10 * nodes)) (sym gains.top) (low (bucket name) (bucket_small name) names.within);
     few = let on = gains.on.room in let room = gains.room in omega (arith, few, on, room);
   }

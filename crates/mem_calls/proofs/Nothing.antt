@@ -63,7 +63,8 @@ pub does_nothing : (v : Verdict) (reply : Reply) → v ≡ answered reply → Do
 does_nothing v reply is = record { effect = ap (λ (w : Verdict). w.effect) is; makes = ap (λ (w : Verdict). w.makes) is }
 
 -- it keeps each cell but the own log
-pub nothing_keeps : (nodes : ℕ) (tree : TreeState) (core : ℕ) (c : Call) (which : CellId) → DoesNothing (verdict tree core c) → (cell_place nodes (id.Part (record { 0 = core })) ≡ cell_place nodes which → ⊥) → KeepsCell tree core c which
+pub nothing_keeps : (nodes : ℕ) (tree : TreeState) (core : ℕ) (c : Call) (which : CellId) → DoesNothing (verdict tree core c)
+    → (cell_place nodes (id.Part (record { 0 = core })) ≡ cell_place nodes which → ⊥) → KeepsCell tree core c which
 nothing_keeps nodes tree core c id.Lock nothing apart = inr (nothing, refl)
 nothing_keeps nodes tree core c (id.Bucket node number) nothing apart = inr (nothing, refl)
 nothing_keeps nodes tree core c (id.File node) nothing apart = inr (nothing, refl)
@@ -74,12 +75,16 @@ nothing_keeps nodes tree core c (id.Part other) nothing apart = ⊎_elim
     (cases_Bool (core == other.0))
 
 -- a core that holds its own log holds each cell that is not kept
-pub nothing_or_part : (nodes : ℕ) (hand : Hand Cell Fact) (tree : TreeState) (c : Call) (which : CellId) → DoesNothing (verdict tree hand.view.core c) → HoldsPart nodes hand
+pub nothing_or_part : (nodes : ℕ) (hand : Hand Cell Fact) (tree : TreeState) (c : Call) (which : CellId) → DoesNothing (verdict tree hand.view.core c)
+    → HoldsPart nodes hand
     → KeepsCell tree hand.view.core c which ⊎ IsSome (value_held nodes hand.held which)
 nothing_or_part nodes hand tree c which nothing part = ⊎_elim
-    (λ same. inr (subst (λ p. IsSome (Rattle.std.specs.Prelude.option_map (λ (h : HeldCell Cell). h.value) (Rattle.stamp_table.specs.Table.cell_at p hand.held))) (eqb-true (cell_place nodes (id.Part (record { 0 = hand.view.core }))) (cell_place nodes which) same)
+    (λ same. inr (subst (λ p. IsSome
+    (Rattle.std.specs.Prelude.option_map (λ (h : HeldCell Cell). h.value) (Rattle.stamp_table.specs.Table.cell_at p hand.held)))
+    (eqb-true (cell_place nodes (id.Part (record { 0 = hand.view.core }))) (cell_place nodes which) same)
     (some_first as_part (value_held nodes hand.held (id.Part (record { 0 = hand.view.core }))) part)))
-    (λ other. inl (nothing_keeps nodes tree hand.view.core c which nothing (λ same. both_ways (nat_eq (cell_place nodes (id.Part (record { 0 = hand.view.core }))) (cell_place nodes which)) other (eq-eqb _ _ same))))
+    (λ other. inl (nothing_keeps nodes tree hand.view.core c which nothing
+    (λ same. both_ways (nat_eq (cell_place nodes (id.Part (record { 0 = hand.view.core }))) (cell_place nodes which)) other (eq-eqb _ _ same))))
     (cases_Bool (nat_eq (cell_place nodes (id.Part (record { 0 = hand.view.core }))) (cell_place nodes which)))
 
 module _ (given : ℕ → Option OldKept) (t : TableState) (nodes : ℕ) (before : Hand Cell Fact) (table : IsFileTable t nodes) (work : IsWorking given t before)
@@ -107,7 +112,8 @@ module _ (given : ℕ → Option OldKept) (t : TableState) (nodes : ℕ) (before
   has_room few part held = no_changes part (few_entries given t nodes before table work c reply number mid stamps part (own_part part held) few)
     where
       own_part : (p : PartCell) → part_held nodes mid.held mid.view.core ≡ Some p → part_held nodes before.held before.view.core ≡ Some p
-      own_part p is = (λ i. part_held nodes (sym (held_mid given t nodes before table work c reply number mid stamps) i) (sym (core_mid given t nodes before table work c reply number mid stamps) i)) ∙ is
+      own_part p is = (λ i. part_held nodes (sym (held_mid given t nodes before table work c reply number mid stamps) i)
+          (sym (core_mid given t nodes before table work c reply number mid stamps) i)) ∙ is
 
   module _ (final : Hand Cell Fact) (takes : TakesEntry nodes [] mid final) where
     pub final_is : record final { held = mid.held } ≡ mid
@@ -115,23 +121,32 @@ module _ (given : ℕ → Option OldKept) (t : TableState) (nodes : ℕ) (before
 
     held_is : final.held ≡ with_value (cell_place nodes (id.Part (record { 0 = before.view.core }))) takes.value before.held
     held_is = ap (λ (h : Hand Cell Fact). h.held) takes.frame
-        ∙ (λ i. with_value (cell_place nodes (id.Part (record { 0 = core_mid given t nodes before table work c reply number mid stamps i }))) takes.value (held_mid given t nodes before table work c reply number mid stamps i))
+        ∙ (λ i. with_value (cell_place nodes (id.Part (record { 0 = core_mid given t nodes before table work c reply number mid stamps i }))) takes.value
+        (held_mid given t nodes before table work c reply number mid stamps i))
 
     was : part_held nodes before.held before.view.core ≡ Some takes.part
-    was = (λ i. part_held nodes (sym (held_mid given t nodes before table work c reply number mid stamps) i) (sym (core_mid given t nodes before table work c reply number mid stamps) i)) ∙ takes.was
+    was = (λ i. part_held nodes (sym (held_mid given t nodes before table work c reply number mid stamps) i)
+        (sym (core_mid given t nodes before table work c reply number mid stamps) i)) ∙ takes.was
 
     made : takes.next.made ≡ made_by (tree_after before.view.first (calls_in (log ++ Called entry ∷ []))) before.view.core
     made = takes.made ∙ ((part_stood given t nodes before table work c reply number mid stamps takes.part was).made
-        ∙ ap (λ (x : TreeState). made_by x before.view.core) (sym (ap (tree_after before.view.first) (calls_snoc log entry) ∙ (tree_after-push before.view.first (calls_in log) entry ∙ same_tree S before.view.core c nothing))))
+        ∙ ap (λ (x : TreeState). made_by x before.view.core)
+        (sym (ap (tree_after before.view.first) (calls_snoc log entry)
+        ∙ (tree_after-push before.view.first (calls_in log) entry ∙ same_tree S before.view.core c nothing))))
 
-    each : (which : CellId) (value : Cell) → IsCell nodes (length t.first.made) which → value_held nodes final.held which ≡ Some value → StandsForCell given before.view.first (account_of (log ++ Called entry ∷ [])) which value
-    each which value is_cell is = elim (of_changed nodes (length t.first.made) which (id.Part (record { 0 = before.view.core })) value takes.value before.held is_cell work.core
+    each : (which : CellId) (value : Cell) → IsCell nodes (length t.first.made) which → value_held nodes final.held which ≡ Some value
+        → StandsForCell given before.view.first (account_of (log ++ Called entry ∷ [])) which value
+    each which value is_cell is = elim
+        (of_changed nodes (length t.first.made) which (id.Part (record { 0 = before.view.core })) value takes.value before.held is_cell work.core
         (ap (λ (l : List (HeldCell Cell)). value_held nodes l which) (sym held_is) ∙ is)) [
           | inl own ↦
-              subst (λ (z : CellId × Cell). StandsForCell given before.view.first (account_of (log ++ Called entry ∷ [])) z.0 z.1) (λ i. (sym own.0 i, sym own.1 i))
-              (part_home given t nodes before table work c reply number mid stamps takes.part takes.next takes.value was takes.is (subst (λ l. IsAddedTo takes.part.log l takes.next.log) (sym logs_none) takes.log) made)
+              subst (λ (z : CellId × Cell). StandsForCell given before.view.first (account_of (log ++ Called entry ∷ [])) z.0 z.1)
+              (λ i. (sym own.0 i, sym own.1 i))
+              (part_home given t nodes before table work c reply number mid stamps takes.part takes.next takes.value was takes.is
+              (subst (λ l. IsAddedTo takes.part.log l takes.next.log) (sym logs_none) takes.log) made)
           | inr other ↦
-              stamped.kept given t nodes before table work c reply number mid stamps which value is_cell other.1 (nothing_keeps nodes S before.view.core c which nothing other.0)
+              stamped.kept given t nodes before table work c reply number mid stamps which value is_cell other.1
+              (nothing_keeps nodes S before.view.core c which nothing other.0)
         ]
 
     pub same_count : length final.held ≡ length before.held
@@ -143,5 +158,7 @@ module _ (given : ℕ → Option OldKept) (t : TableState) (nodes : ℕ) (before
         omega (arith, places, same, one, two)
 
     pub goes_home : EachFrom 0 (Stands (IsLawfulLog given) (StandsAt given) final.view) final.held
-    goes_home = stamped.home given t nodes before table work c reply number mid stamps final (ap (λ (h : Hand Cell Fact). h.view) takes.frame) (view_held_mid given t nodes before table work c reply number mid stamps)
-        (ap (λ (l : List (HeldCell Cell)). places_of l) held_is ∙ same_places (cell_place nodes (id.Part (record { 0 = before.view.core }))) before.held takes.value) each
+    goes_home = stamped.home given t nodes before table work c reply number mid stamps final (ap (λ (h : Hand Cell Fact). h.view) takes.frame)
+        (view_held_mid given t nodes before table work c reply number mid stamps)
+        (ap (λ (l : List (HeldCell Cell)). places_of l) held_is
+        ∙ same_places (cell_place nodes (id.Part (record { 0 = before.view.core }))) before.held takes.value) each

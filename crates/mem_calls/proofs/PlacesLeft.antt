@@ -25,7 +25,8 @@ module _ (nodes : ℕ) (node : NodeId) (count : ℕ) (place : Option NodeId) (be
     (done : PlacesDirectory nodes node count place before now) where
   -- a bucket whose turn has not come is as it was
   same_next : bucket_held nodes now.held node count ≡ bucket_held nodes before.held node count
-  same_next = ap (option_and_then as_bucket) (done.rest (id.Bucket node count) (λ k lt same. let at : 16 + 9 * node.0 + k ≡ 16 + 9 * node.0 + count = same in omega (arith, lt, at)))
+  same_next = ap (option_and_then as_bucket)
+      (done.rest (id.Bucket node count) (λ k lt same. let at : 16 + 9 * node.0 + k ≡ 16 + 9 * node.0 + count = same in omega (arith, lt, at)))
 
   pub still_there : IsSome (bucket_held nodes before.held node count) → IsSome (bucket_held nodes now.held node count)
   still_there some = subst IsSome (sym same_next) some
@@ -34,7 +35,8 @@ module _ (nodes : ℕ) (node : NodeId) (count : ℕ) (place : Option NodeId) (be
       → PlacesDirectory nodes node (count + 1) place before after
   one_more after eight leaves = record {
     frame = ap (λ (h : Hand Cell Fact). record h { held = before.held }) leaves.change.puts ∙ done.frame;
-    places = ap (λ (h : Hand Cell Fact). places_of h.held) leaves.change.puts ∙ (same_places (cell_place nodes (id.Bucket node count)) now.held leaves.change.value ∙ done.places);
+    places = ap (λ (h : Hand Cell Fact). places_of h.held) leaves.change.puts
+        ∙ (same_places (cell_place nodes (id.Bucket node count)) now.held leaves.change.value ∙ done.places);
     placed = λ k old lt was. ⊎_elim
         (λ (here : (count == k) ≡ true). this k old (eqb-true count k here) was)
         (λ (other : (count == k) ≡ false). let new = done.placed k old (below_other k lt other) was in
@@ -46,18 +48,23 @@ module _ (nodes : ℕ) (node : NodeId) (count : ℕ) (place : Option NodeId) (be
       after_held : after.held ≡ with_value (cell_place nodes (id.Bucket node count)) leaves.change.value now.held
       after_held = ap (λ (h : Hand Cell Fact). h.held) leaves.change.puts
 
-      apart_now : (which : CellId) → (cell_place nodes (id.Bucket node count) ≡ cell_place nodes which → ⊥) → value_held nodes after.held which ≡ value_held nodes now.held which
+      apart_now : (which : CellId) → (cell_place nodes (id.Bucket node count) ≡ cell_place nodes which → ⊥)
+          → value_held nodes after.held which ≡ value_held nodes now.held which
       apart_now which apart = ap (λ l. value_held nodes l which) after_held ∙ apart_value nodes now.held (id.Bucket node count) which leaves.change.value apart
 
       below_other : (k : ℕ) → k < count + 1 → (count == k) ≡ false → k < count
       below_other k lt other = grind (arith, nat_tests)
 
       not_here : (k : ℕ) → cell_place nodes (id.Bucket node count) ≡ cell_place nodes (id.Bucket node k) → (count == k) ≡ false → ⊥
-      not_here k same other = let at : 16 + 9 * node.0 + count ≡ 16 + 9 * node.0 + k = same in both_ways (count == k) other (Rattle.std.proofs.Common.eq-eqb count k (omega (arith, at)))
+      not_here k same other = let at : 16 + 9 * node.0 + count ≡ 16 + 9 * node.0 + k = same in
+          both_ways (count == k) other (Rattle.std.proofs.Common.eq-eqb count k (omega (arith, at)))
 
       found_new : bucket_held nodes after.held node count ≡ Some leaves.change.new
       found_new = ap (λ l. bucket_held nodes l node count) after_held
-          ∙ (ap (option_and_then as_bucket) (value_with nodes (id.Bucket node count) leaves.change.value now.held (some_first as_bucket (value_held nodes now.held (id.Bucket node count)) (some_of (bucket_held nodes now.held node count) leaves.change.old leaves.change.was)))
+          ∙ (ap (option_and_then as_bucket)
+          (value_with nodes (id.Bucket node count) leaves.change.value now.held
+          (some_first as_bucket (value_held nodes now.held (id.Bucket node count))
+          (some_of (bucket_held nodes now.held node count) leaves.change.old leaves.change.was)))
           ∙ leaves.change.is)
 
       this : (k : ℕ) (old : Bucket) → count ≡ k → bucket_held nodes before.held node k ≡ Some old → (new : Bucket)

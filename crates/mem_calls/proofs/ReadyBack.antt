@@ -15,22 +15,25 @@ use Rattle.mem_values.specs.Stands.{StandsForCell}
 use Rattle.mem_calls.specs.Table.{IsFileTable}
 use Rattle.mem_calls.specs.Held.{value_held, as_part, part_held}
 use Rattle.mem_calls.specs.Working.{IsWorking}
-use Rattle.mem_calls.specs.Outcome.{IsRefused}
-use Rattle.mem_calls.specs.Changes.{Puts}
+use Rattle.mem_calls.specs.Outcome.{IsRefusedMemory}
+use Rattle.mem_calls.specs.Changes.{PutsValue}
 use Rattle.mem_calls.proofs.PartKept.{part_of_value, value_of_part, same_part_stands}
 use Rattle.mem_calls.proofs.PutBack.{stands_now, works_put, same_length, refused_back}
 
-module _ (given : ℕ → Option OldKept) (t : TableState) (nodes : ℕ) (before : Hand Cell Fact) (table : IsFileTable t nodes) (work : IsWorking given t before) (p q : PartCell) (was : part_held nodes before.held before.view.core ≡ Some p)
-    (same : IsSamePart p.log q.log) (made : q.made ≡ p.made) (value : Cell) (is : as_part value ≡ Some q) (put : Hand Cell Fact) (puts : Puts nodes (id.Part (record { 0 = before.view.core })) value before put) where
+module _ (given : ℕ → Option OldKept) (t : TableState) (nodes : ℕ) (before : Hand Cell Fact) (table : IsFileTable t nodes) (work : IsWorking given t before)
+    (p q : PartCell) (was : part_held nodes before.held before.view.core ≡ Some p)
+    (same : IsSamePart p.log q.log) (made : q.made ≡ p.made) (value : Cell) (is : as_part value ≡ Some q) (put : Hand Cell Fact)
+    (puts : PutsValue nodes (id.Part (record { 0 = before.view.core })) value before put) where
   stands : StandsForCell given before.view.first (account_of before.view.seen) (id.Part (record { 0 = before.view.core })) value
   stands = value_of_part given before.view.first (account_of before.view.seen) before.view.core value q is
       (same_part_stands given before.view.first (account_of before.view.seen) before.view.core p q same made
       (option_and_then_some as_part (value_held nodes before.held (id.Part (record { 0 = before.view.core }))) p was
-      (λ v found kind. part_of_value given before.view.first (account_of before.view.seen) before.view.core v p kind (stands_now given t nodes before table work (id.Part (record { 0 = before.view.core })) v work.core found))))
+      (λ v found kind. part_of_value given before.view.first (account_of before.view.seen) before.view.core v p kind
+      (stands_now given t nodes before table work (id.Part (record { 0 = before.view.core })) v work.core found))))
 
   pub works_ready : IsWorking given t put
   works_ready = works_put given t nodes before table work (id.Part (record { 0 = before.view.core })) value put work.core stands puts
 
-  pub back_ready : (last : Hand Cell Fact) → IsRefused t put last → IsRefused t before last
+  pub back_ready : (last : Hand Cell Fact) → IsRefusedMemory t put last → IsRefusedMemory t before last
   back_ready last refused = refused_back t before put last (with_value (cell_place nodes (id.Part (record { 0 = before.view.core }))) value before.held) puts
       (same_length given t nodes before table work (id.Part (record { 0 = before.view.core })) value put work.core stands puts) refused

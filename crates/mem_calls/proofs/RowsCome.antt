@@ -23,7 +23,8 @@ use Rattle.mem_values.proofs.Standing.{standing_stays}
 use Rattle.mem_calls.specs.Changes.{IsWithRow}
 use Rattle.mem_calls.proofs.RowsGo.{same_name, old_directory, directories_kept}
 
-module _ (tree : TreeState) (core : ℕ) (c : Call) (is : IsSoundTree tree) (lt : core < length tree.made) (d : ℕ) (name : List ℕ) (child : ℕ) (adds : (verdict tree core c).effect ≡ Adds d name child) (b new : Bucket)
+module _ (tree : TreeState) (core : ℕ) (c : Call) (is : IsSoundTree tree) (lt : core < length tree.made) (d : ℕ) (name : List ℕ) (child : ℕ)
+    (adds : (verdict tree core c).effect ≡ Adds d name child) (b new : Bucket)
     (shows : ShowsBucket tree d (bucket name) b) (kind : Kind) (more : IsWithRow name child kind b new) (free : get b.rows name ≡ None)
     (kind_next : is_directory (tree_after_call tree core c) child ≡ is_directory_kind kind) (stays : touches_standing tree core c d ≡ false) where
   abbrev next : TreeState
@@ -67,5 +68,7 @@ module _ (tree : TreeState) (core : ℕ) (c : Call) (is : IsSoundTree tree) (lt 
           (cond (eq_by_cmp name_cmp n name) (Some child) (get b.rows n))
       each n = ⊎_elim
           (λ (same : eq_by_cmp name_cmp n name ≡ true). rw same (ap (λ d. if d then Some child else None) (sym kind_next)))
-          (λ (other : eq_by_cmp name_cmp n name ≡ false). rw other (old_directory tree core c is lt d (bucket name) b shows n ∙ sym (directories_kept tree core c is lt d (bucket name) b shows n (get b.rows n) refl)))
+          (λ (other : eq_by_cmp name_cmp n name ≡ false). rw other
+          (old_directory tree core c is lt d (bucket name) b shows n
+          ∙ sym (directories_kept tree core c is lt d (bucket name) b shows n (get b.rows n) refl)))
           (cases_Bool (eq_by_cmp name_cmp n name))

@@ -33,12 +33,15 @@ module _ (tree : TreeState) (core : ℕ) (c : Call) (is : IsSoundTree tree) (lt 
 
   -- a node keeps its kind
   pub directory_kept : (node : ℕ) → IsSome (get tree.nodes node) → is_directory next node ≡ is_directory tree node
-  directory_kept node there = directory_by_kind next node ∙ (ap is_directory_kind ((calls_keep_the_rest tree core c is lt).kinds node there) ∙ sym (directory_by_kind tree node))
+  directory_kept node there = directory_by_kind next node
+      ∙ (ap is_directory_kind ((calls_keep_the_rest tree core c is lt).kinds node there) ∙ sym (directory_by_kind tree node))
 
   module _ (d number : ℕ) (b : Bucket) (shows : ShowsBucket tree d number b) where
     -- a row's child is a node
     child_there : (n : List ℕ) (child : ℕ) → get b.rows n ≡ Some child → IsSome (get tree.nodes child)
-    child_there n child row = is.sound.node d n child (found (nat_eq (bucket n) number) (sym (get-names_where d (λ m. bucket m == number) tree.rows n) ∙ (ap (λ (m : FinMap name_cmp ℕ). get m n) (sym shows.rows) ∙ row)))
+    child_there n child row = is.sound.node d n child
+        (found (nat_eq (bucket n) number)
+        (sym (get-names_where d (λ m. bucket m == number) tree.rows n) ∙ (ap (λ (m : FinMap name_cmp ℕ). get m n) (sym shows.rows) ∙ row)))
       where
         found : (x : Bool) → (if x then row_of tree d n else None) ≡ Some child → row_of tree d n ≡ Some child
         found true e = e
@@ -52,7 +55,8 @@ module _ (tree : TreeState) (core : ℕ) (c : Call) (is : IsSoundTree tree) (lt 
     pub old_directory : (n : List ℕ) → get b.directories n ≡ if_directory tree (get b.rows n)
     old_directory n = shows.directories n ∙ ap (λ (m : FinMap name_cmp ℕ). if_directory tree (get m n)) (sym shows.rows)
 
-  module _ (d : ℕ) (name : List ℕ) (child : ℕ) (removes : (verdict tree core c).effect ≡ Removes d name child) (b new : Bucket) (shows : ShowsBucket tree d (bucket name) b) (without : IsWithoutRow name b new)
+  module _ (d : ℕ) (name : List ℕ) (child : ℕ) (removes : (verdict tree core c).effect ≡ Removes d name child) (b new : Bucket)
+      (shows : ShowsBucket tree d (bucket name) b) (without : IsWithoutRow name b new)
       (stays : touches_standing tree core c d ≡ false) where
     rows_next : bucket_rows d (bucket name) next.rows ≡ remove b.rows name
     rows_next =
@@ -69,7 +73,8 @@ module _ (tree : TreeState) (core : ℕ) (c : Call) (is : IsSoundTree tree) (lt 
     gone_directory : (n : List ℕ) → get new.directories n ≡ cond (eq_by_cmp name_cmp n name) None (get b.directories n)
     gone_directory n = ap (λ (m : FinMap name_cmp ℕ). get m n) without.directories ∙ by (get b.directories name) refl
       where
-        by : (o : Option ℕ) → get b.directories name ≡ o → get (if is_some o then remove b.directories name else b.directories) n ≡ cond (eq_by_cmp name_cmp n name) None (get b.directories n)
+        by : (o : Option ℕ) → get b.directories name ≡ o
+            → get (if is_some o then remove b.directories name else b.directories) n ≡ cond (eq_by_cmp name_cmp n name) None (get b.directories n)
         by (Some x) there = get-remove nat_list_cmp_total b.directories name n
         by None there = ⊎_elim
             (λ (same : eq_by_cmp name_cmp n name ≡ true). rw same (ap (get b.directories) (same_name n name same) ∙ there))
@@ -80,7 +85,9 @@ module _ (tree : TreeState) (core : ℕ) (c : Call) (is : IsSoundTree tree) (lt 
     pub bucket_after : ShowsBucket next d (bucket name) new
     bucket_after = record {
       rows = without.rows ∙ sym rows_next;
-      directories = λ n. gone_directory n ∙ (by n (eq_by_cmp name_cmp n name) ∙ ap (if_directory next) (sym (get-remove nat_list_cmp_total b.rows name n) ∙ ap (λ (m : FinMap name_cmp ℕ). get m n) (sym rows_next)));
+      directories = λ n. gone_directory n
+          ∙ (by n (eq_by_cmp name_cmp n name)
+          ∙ ap (if_directory next) (sym (get-remove nat_list_cmp_total b.rows name n) ∙ ap (λ (m : FinMap name_cmp ℕ). get m n) (sym rows_next)));
       stands = ap Rattle.sfs_tree.specs.NameRow.number_of without.stands ∙ (shows.stands ∙ sym (standing_stays tree core c d is lt stays));
     }
       where

@@ -23,7 +23,7 @@ use Rattle.mem_values.specs.Places.{cell_place, IsCell}
 use Rattle.mem_values.proofs.Places.{places_apart}
 use Rattle.mem_calls.specs.Held.{value_held, as_bucket, as_file, as_pending, bucket_held, file_held, pending_held}
 use Rattle.mem_calls.specs.Sums.{HoldsBuckets}
-use Rattle.mem_calls.specs.Changes.{Puts, RaisesLinks}
+use Rattle.mem_calls.specs.Changes.{PutsValue, RaisesLinks}
 use Rattle.mem_calls.specs.Ends.{IsPlaced, PlacesDirectory}
 use Rattle.mem_calls.specs.Creations.{is_own_cell, is_flushed_cell, IsSettled, Settles}
 use Rattle.mem_calls.proofs.Nothing.{some_first}
@@ -105,7 +105,7 @@ module _ (nodes : ℕ) (dir : NodeId) (before after : Hand Cell Fact) where
   -- one cell alone
   settles_one : (test : CellId → Bool) (one : CellId) (old new : Cell) → ((cores : ℕ) → IsCell nodes cores one) → test one ≡ true
       → ((which : CellId) → test which ≡ true → which ≡ one)
-      → value_held nodes before.held one ≡ Some old → Puts nodes one new before after → IsSettled dir old new → Settles nodes test dir before after
+      → value_held nodes before.held one ≡ Some old → PutsValue nodes one new before after → IsSettled dir old new → Settles nodes test dir before after
   settles_one test one old new is_one passes only was puts is = record {
     frame = ap (λ (h : Hand Cell Fact). record h { held = before.held }) puts;
     places = ap (λ (h : Hand Cell Fact). places_of h.held) puts ∙ same_places (cell_place nodes one) before.held new;
@@ -133,7 +133,7 @@ module _ (nodes : ℕ) (dir : NodeId) (before after : Hand Cell Fact) where
 
   pub settles_pending : (child : NodeId) (old new : Pending) (value : Cell) → child.0 < nodes → pending_held nodes before.held child ≡ Some old
       → as_pending value ≡ Some new
-      → new ≡ record old { made_in = Some dir } → Puts nodes (id.Pending child) value before after → Settles nodes (is_flushed_cell child) dir before after
+      → new ≡ record old { made_in = Some dir } → PutsValue nodes (id.Pending child) value before after → Settles nodes (is_flushed_cell child) dir before after
   settles_pending child old new value within was is made puts =
       let there = is_value (value_held nodes before.held (id.Pending child)) (some_first as_pending (value_held nodes before.held (id.Pending child))
       (some_of (pending_held nodes before.held child) old was)) in

@@ -74,29 +74,36 @@ module _ (given : ℕ → Option OldKept) (t : TableState) (nodes : ℕ) (hand :
   held_has which some =
       let v = is_there (value_held nodes hand.held which) some in
       let h = held_cell nodes hand.held which v.0 v.1 in
-      subst (λ l. Has l (cell_place nodes which)) (sym work.places) (has_reverse (places_of hand.held) (cell_place nodes which) (found_has (cell_place nodes which) hand.held h.0 h.1))
+      subst (λ l. Has l (cell_place nodes which)) (sym work.places)
+      (has_reverse (places_of hand.held) (cell_place nodes which) (found_has (cell_place nodes which) hand.held h.0 h.1))
 
   -- each cell that a call does not keep is held
   abbrev pub KeepsOrHolds : TreeState → Call → Type 0
-  KeepsOrHolds tree c = (which : CellId) → IsCell nodes (length t.first.made) which → KeepsCell tree hand.view.core c which ⊎ IsSome (value_held nodes hand.held which)
+  KeepsOrHolds tree c = (which : CellId) → IsCell nodes (length t.first.made) which → KeepsCell tree hand.view.core c which
+      ⊎ IsSome (value_held nodes hand.held which)
 
   -- such a call may be stamped with the reply that it has in each tree that the values show
-  pub may_come : (c : Call) (v : Verdict) → asks_fsync c ≡ false → InEach hand (λ tree. verdict tree hand.view.core c ≡ v) → InEach hand (λ tree. KeepsOrHolds tree c)
+  pub may_come : (c : Call) (v : Verdict) → asks_fsync c ≡ false → InEach hand (λ tree. verdict tree hand.view.core c ≡ v)
+      → InEach hand (λ tree. KeepsOrHolds tree c)
       → MayCall (IsLawfulLog given) (StandsAt given) hand.view c v.reply
   may_come c v not due keeps = calls_may_come given hand.view hand.held c v.reply sound core_known work.knows (λ tree meets. fits tree meets)
     where
       fits : (tree : TreeState) → MayMeet hand.view hand.held tree → CallFits hand.view tree c v.reply
       fits tree meets = record {
-        due = subst (λ b. IsDue b (verdict tree hand.view.core c).reply v.reply) (sym (no_flush tree c not)) (sym (ap (λ (w : Verdict). w.reply) (due tree meets)));
+        due = subst (λ b. IsDue b (verdict tree hand.view.core c).reply v.reply) (sym (no_flush tree c not))
+            (sym (ap (λ (w : Verdict). w.reply) (due tree meets)));
         unanswered = ap (λ b. b && is_ok_reply v.reply) (no_flush tree c not);
-        keeps = λ which is_cell. elim (keeps tree meets which (subst (λ (f : TreeState). IsCell nodes (length f.made) which) work.first (subst (λ n. IsCell n (length hand.view.first.made) which) (sym counted) is_cell))) [
-          | inl kept ↦ inl kept
-          | inr held ↦ inr (subst (λ n. Has hand.view.held (cell_place n which)) counted (held_has which held))
-        ];
+        keeps = λ which is_cell. elim (keeps tree meets which
+            (subst (λ (f : TreeState). IsCell nodes (length f.made) which) work.first
+            (subst (λ n. IsCell n (length hand.view.first.made) which) (sym counted) is_cell))) [
+              | inl kept ↦ inl kept
+              | inr held ↦ inr (subst (λ n. Has hand.view.held (cell_place n which)) counted (held_has which held))
+            ];
       }
 
 -- a beginning of a lawful log is lawful
-pub lawful_front : (given : ℕ → Option OldKept) (first : TreeState) (before log rest : List (Event Fact)) → AreLawfulBehind given first before (log ++ rest) → AreLawfulBehind given first before log
+pub lawful_front : (given : ℕ → Option OldKept) (first : TreeState) (before log rest : List (Event Fact)) → AreLawfulBehind given first before (log ++ rest)
+    → AreLawfulBehind given first before log
 lawful_front given first before [] rest lawful = tt
 lawful_front given first before (e ∷ log) rest lawful = (lawful.0, lawful_front given first (before ++ e ∷ []) log rest lawful.1)
 
@@ -140,7 +147,8 @@ module _ (given : ℕ → Option OldKept) (t : TableState) (nodes : ℕ) (before
     legal_log = record { legal_calls = legal_log; told = lawful_log };
     seen = stamps.drew.1.seen;
     mine = append_cancel_right before.view.mine (entries_by event_core before.view.core log) (Called entry ∷ [])
-        (sym stamps.drew.1.mine ∙ (stamps.drew.1.own ∙ (ap (entries_by event_core before.view.core) seen_is ∙ own_comes event_core before.view.core log (Called entry) refl)));
+        (sym stamps.drew.1.mine ∙ (stamps.drew.1.own
+        ∙ (ap (entries_by event_core before.view.core) seen_is ∙ own_comes event_core before.view.core log (Called entry) refl)));
     held = stamps.drew.1.kept;
   }
 
@@ -151,24 +159,31 @@ module _ (given : ℕ → Option OldKept) (t : TableState) (nodes : ℕ) (before
   meets = met given before.view log past before.held (sound given t nodes before table work) work.knows
 
   pub cell_there : (which : CellId) → IsCell nodes (length t.first.made) which → IsCell (node_count first) (length first.made) which
-  cell_there which is_cell = subst (λ (f : TreeState). IsCell (node_count f) (length f.made) which) (sym work.first) (subst (λ n. IsCell n (length t.first.made) which) table.counted is_cell)
+  cell_there which is_cell = subst (λ (f : TreeState). IsCell (node_count f) (length f.made) which) (sym work.first)
+      (subst (λ n. IsCell n (length t.first.made) which) table.counted is_cell)
 
   -- what was held of a cell stood for it right before the call
-  pub stood : (which : CellId) (value : Cell) → IsCell nodes (length t.first.made) which → value_held nodes before.held which ≡ Some value → StandsForCell given first (account_of log) which value
+  pub stood : (which : CellId) (value : Cell) → IsCell nodes (length t.first.made) which → value_held nodes before.held which ≡ Some value
+      → StandsForCell given first (account_of log) which value
   stood which value is_cell is =
       let h = held_cell nodes before.held which value is in
       let place = found_place (cell_place nodes which) before.held h.0 h.1 in
-      let stands : StandsAt given first log h.0.place h.0.value = still_stands given before.view log past h.0 (knows_found given before.view before.held (cell_place nodes which) h.0 work.knows h.1) in
-      subst (StandsForCell given first (account_of log) which) h.2 (stands which (cell_there which is_cell) (ap (λ n. cell_place n which) (sym (counted given t nodes before table work)) ∙ sym place))
+      let stands : StandsAt given first log h.0.place h.0.value = still_stands given before.view log past h.0
+      (knows_found given before.view before.held (cell_place nodes which) h.0 work.knows h.1) in
+      subst (StandsForCell given first (account_of log) which) h.2
+      (stands which (cell_there which is_cell) (ap (λ n. cell_place n which) (sym (counted given t nodes before table work)) ∙ sym place))
 
   -- and still does where the call keeps the cell
-  pub kept : (which : CellId) (value : Cell) → IsCell nodes (length t.first.made) which → value_held nodes before.held which ≡ Some value → KeepsCell tree before.view.core c which
+  pub kept : (which : CellId) (value : Cell) → IsCell nodes (length t.first.made) which → value_held nodes before.held which ≡ Some value
+      → KeepsCell tree before.view.core c which
       → StandsForCell given first (account_of after_log) which value
-  kept which value is_cell is keeps = calls_keep_cells given first log entry which value (sound given t nodes before table work) legal_next keeps (stood which value is_cell is)
+  kept which value is_cell is keeps = calls_keep_cells given first log entry which value (sound given t nodes before table work) legal_next keeps
+      (stood which value is_cell is)
 
   -- each cell goes home where what is held of each stands for it behind the call
   pub home : (final : Hand Cell Fact) → final.view ≡ mid.view → mid.view.held ≡ before.view.held → places_of final.held ≡ places_of before.held
-      → ((which : CellId) (value : Cell) → IsCell nodes (length t.first.made) which → value_held nodes final.held which ≡ Some value → StandsForCell given first (account_of after_log) which value)
+      → ((which : CellId) (value : Cell) → IsCell nodes (length t.first.made) which → value_held nodes final.held which ≡ Some value
+      → StandsForCell given first (account_of after_log) which value)
       → EachFrom 0 (Stands (IsLawfulLog given) (StandsAt given) final.view) final.held
   home final view_is held_same places each =
       each_of_found (Stands (IsLawfulLog given) (StandsAt given) final.view) final.held
@@ -178,7 +193,9 @@ module _ (given : ℕ → Option OldKept) (t : TableState) (nodes : ℕ) (before
     where
       stands : (place : ℕ) (h : HeldCell Cell) → cell_at place final.held ≡ Some h → StandsAt given first after_log h.place h.value
       stands place h is which is_cell at =
-          let there : cell_place nodes which ≡ place = ap (λ n. cell_place n which) (counted given t nodes before table work) ∙ (at ∙ found_place place final.held h is) in
+          let there : cell_place nodes which ≡ place = ap (λ n. cell_place n which) (counted given t nodes before table work)
+          ∙ (at ∙ found_place place final.held h is) in
           each which h.value
-          (subst (λ (f : TreeState). IsCell nodes (length f.made) which) work.first (subst (λ n. IsCell n (length first.made) which) (sym (counted given t nodes before table work)) is_cell))
+          (subst (λ (f : TreeState). IsCell nodes (length f.made) which) work.first
+          (subst (λ n. IsCell n (length first.made) which) (sym (counted given t nodes before table work)) is_cell))
           (ap (λ p. option_map (λ (x : HeldCell Cell). x.value) (cell_at p final.held)) there ∙ ap (option_map (λ (x : HeldCell Cell). x.value)) is)

@@ -25,7 +25,8 @@ use Rattle.mem_calls.proofs.Placed.{placed_after}
 pub not_equal : (a b : ℕ) → a ≢ b → (a == b) ≡ false
 not_equal a b apart = ⊎_elim (λ same. absurd (apart (eqb-true a b same))) (λ other. other) (cases_Bool (a == b))
 
-module _ (tree : TreeState) (core : ℕ) (dir : NodeId) (name : List ℕ) (child : NodeId) (is : IsSoundTree tree) (lt : core < length tree.made) (removes : (verdict tree core (call.Rmdir dir name)).effect ≡ Removes dir.0 name child.0)
+module _ (tree : TreeState) (core : ℕ) (dir : NodeId) (name : List ℕ) (child : NodeId) (is : IsSoundTree tree) (lt : core < length tree.made)
+    (removes : (verdict tree core (call.Rmdir dir name)).effect ≡ Removes dir.0 name child.0)
     (row : row_of tree dir.0 name ≡ Some child.0) (kind : is_directory tree child.0 ≡ true) where
   abbrev c : Call
   c = call.Rmdir dir name
@@ -40,7 +41,8 @@ module _ (tree : TreeState) (core : ℕ) (dir : NodeId) (name : List ℕ) (child
   holder_none : holder_of next child.0 ≡ None
   holder_none = elim (holder_found next child.0) [
     | inl f ↦
-        let gone = removed_cases tree.rows f.0 dir.0 f.2.0 name child.0 (subst (λ r. get r (f.0, f.2.0) ≡ Some child.0) (ap (rows_after tree.rows) removes) f.2.1) in
+        let gone = removed_cases tree.rows f.0 dir.0 f.2.0 name child.0
+        (subst (λ r. get r (f.0, f.2.0) ≡ Some child.0) (ap (rows_after tree.rows) removes) f.2.1) in
         let same = is.sound.once f.0 dir.0 f.2.0 name child.0 gone.1 row kind in
         absurd (gone.0 same.0 same.1)
     | inr none ↦ none.0

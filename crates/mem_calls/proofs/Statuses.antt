@@ -26,14 +26,16 @@ use Rattle.mem_calls.proofs.Summed.{sum_same, rows_summed, directories_counted, 
 
 module _ (nodes : ℕ) (before after : Hand Cell Fact) (node : NodeId) (still : StillHolds nodes before after) where
   pub still_buckets : HoldsBuckets nodes before.held node → HoldsBuckets nodes after.held node
-  still_buckets holds number lt = let b = is_value (bucket_held nodes before.held node number) (holds number lt) in some_of (bucket_held nodes after.held node number) b.0 (still_bucket nodes before after node number b.0 still b.1)
+  still_buckets holds number lt = let b = is_value (bucket_held nodes before.held node number) (holds number lt) in
+      some_of (bucket_held nodes after.held node number) b.0 (still_bucket nodes before after node number b.0 still b.1)
 
   pub still_node : HoldsNode nodes before.held node → HoldsNode nodes after.held node
   still_node holds = record {
     directory = still_directory nodes before after node 0 still holds.directory;
     buckets = λ within stands.
         let b = is_value (bucket_held nodes before.held node 0) (holds.directory.bucket within) in
-        let same : bucket_held nodes before.held node 0 ≡ bucket_held nodes after.held node 0 = b.1 ∙ sym (still_bucket nodes before after node 0 b.0 still b.1) in
+        let same : bucket_held nodes before.held node 0 ≡ bucket_held nodes after.held node 0 = b.1
+        ∙ sym (still_bucket nodes before after node 0 b.0 still b.1) in
         still_buckets (holds.buckets within (ap (λ o. option_map_or (is_standing node) o false) same ∙ stands));
   }
 
@@ -56,31 +58,46 @@ module _ (hand : Hand Cell Fact) (nodes : ℕ) (counted : nodes ≡ node_count h
         each : (number : ℕ) → number < 8 → rows_held nodes hand.held node number ≡ len (bucket_rows node.0 number tree.rows)
         each number lt =
             let b = is_value (bucket_held nodes hand.held node number) (holds number lt) in
-            ap (λ o. option_map_or (λ (x : Bucket). len x.rows) o 0) b.1 ∙ ap len (bucket_shows hand nodes counted tree meets node number b.0 within lt b.1).rows
+            ap (λ o. option_map_or (λ (x : Bucket). len x.rows) o 0) b.1
+            ∙ ap len (bucket_shows hand nodes counted tree meets node number b.0 within lt b.1).rows
 
-    pub directories_are : HoldsBuckets nodes hand.held node → sum_until 8 (directories_held nodes hand.held node) ≡ count_by (holds_directory tree node.0) (entries tree.rows)
+    pub directories_are : HoldsBuckets nodes hand.held node
+        → sum_until 8 (directories_held nodes hand.held node) ≡ count_by (holds_directory tree node.0) (entries tree.rows)
     directories_are holds = sym (directories_summed tree node.0 (directories_held nodes hand.held node) each)
       where
-        each : (number : ℕ) → number < 8 → directories_held nodes hand.held node number ≡ count_by (λ row. Rattle.std.specs.Prelude.◌&&◌ (holds_directory tree node.0 row) (Rattle.std.specs.Prelude.◌==◌ (Rattle.sfs_base.specs.Name.bucket row.0.1) number)) (entries tree.rows)
+        each : (number : ℕ) → number < 8
+            → directories_held nodes hand.held node number ≡ count_by
+            (λ row. Rattle.std.specs.Prelude.◌&&◌ (holds_directory tree node.0 row)
+            (Rattle.std.specs.Prelude.◌==◌ (Rattle.sfs_base.specs.Name.bucket row.0.1) number)) (entries tree.rows)
         each number lt =
             let b = is_value (bucket_held nodes hand.held node number) (holds number lt) in
-            ap (λ o. option_map_or (λ (x : Bucket). len x.directories) o 0) b.1 ∙ directories_counted tree node.0 number b.0 (bucket_shows hand nodes counted tree meets node number b.0 within lt b.1)
+            ap (λ o. option_map_or (λ (x : Bucket). len x.directories) o 0) b.1
+            ∙ directories_counted tree node.0 number b.0 (bucket_shows hand nodes counted tree meets node number b.0 within lt b.1)
 
 module _ (tree : TreeState) (core : ℕ) (node : NodeId) where
   pub stat_dead : is_alive tree node.0 ≡ false → verdict tree core (call.Stat node) ≡ refused NoEntry
-  stat_dead dead = ap (λ b. or_else (if not b then Some NoEntry else None) (answered (reply.Stat (kind_of tree node.0) (links_of tree node.0) (size_of tree node.0)))) dead
+  stat_dead dead = ap (λ b. or_else (if not b then Some NoEntry else None)
+      (answered (reply.Stat (kind_of tree node.0) (links_of tree node.0) (size_of tree node.0)))) dead
 
-  live : is_alive tree node.0 ≡ true → verdict tree core (call.Stat node) ≡ answered (reply.Stat (kind_of tree node.0) (links_of tree node.0) (size_of tree node.0))
-  live alive = ap (λ b. or_else (if not b then Some NoEntry else None) (answered (reply.Stat (kind_of tree node.0) (links_of tree node.0) (size_of tree node.0)))) alive
+  live : is_alive tree node.0 ≡ true
+      → verdict tree core (call.Stat node) ≡ answered (reply.Stat (kind_of tree node.0) (links_of tree node.0) (size_of tree node.0))
+  live alive = ap (λ b. or_else (if not b then Some NoEntry else None)
+      (answered (reply.Stat (kind_of tree node.0) (links_of tree node.0) (size_of tree node.0)))) alive
 
   kind_is : (d : Bool) → is_directory tree node.0 ≡ d → kind_of tree node.0 ≡ kind_if d
   kind_is d is = sym (kind_again (kind_of tree node.0)) ∙ ap kind_if (sym (directory_by_kind tree node.0) ∙ is)
 
-  pub stat_directory : (links size : ℕ) → is_alive tree node.0 ≡ true → is_directory tree node.0 ≡ true → links ≡ 2 + count_by (holds_directory tree node.0) (entries tree.rows) → size ≡ row_count tree node.0
+  pub stat_directory : (links size : ℕ) → is_alive tree node.0 ≡ true → is_directory tree node.0 ≡ true
+      → links ≡ 2 + count_by (holds_directory tree node.0) (entries tree.rows) → size ≡ row_count tree node.0
       → verdict tree core (call.Stat node) ≡ answered (reply.Stat Directory links size)
-  stat_directory links size alive kind links_is size_is = live alive ∙ (λ i. answered (reply.Stat (kind_is true kind i) ((ap (λ b. if b then 2 + count_by (holds_directory tree node.0) (entries tree.rows) else count_of tree.rows node.0) kind ∙ sym links_is) i)
+  stat_directory links size alive kind links_is size_is = live alive
+      ∙ (λ i. answered (reply.Stat (kind_is true kind i)
+      ((ap (λ b. if b then 2 + count_by (holds_directory tree node.0) (entries tree.rows) else count_of tree.rows node.0) kind ∙ sym links_is) i)
       ((ap (λ b. if b then row_count tree node.0 else length (bytes_of tree node.0)) kind ∙ sym size_is) i)))
 
-  pub stat_file : (links size : ℕ) → is_alive tree node.0 ≡ true → is_directory tree node.0 ≡ false → links ≡ count_of tree.rows node.0 → size ≡ length (bytes_of tree node.0) → verdict tree core (call.Stat node) ≡ answered (reply.Stat File links size)
-  stat_file links size alive kind links_is size_is = live alive ∙ (λ i. answered (reply.Stat (kind_is false kind i) ((ap (λ b. if b then 2 + count_by (holds_directory tree node.0) (entries tree.rows) else count_of tree.rows node.0) kind ∙ sym links_is) i)
+  pub stat_file : (links size : ℕ) → is_alive tree node.0 ≡ true → is_directory tree node.0 ≡ false → links ≡ count_of tree.rows node.0
+      → size ≡ length (bytes_of tree node.0) → verdict tree core (call.Stat node) ≡ answered (reply.Stat File links size)
+  stat_file links size alive kind links_is size_is = live alive
+      ∙ (λ i. answered (reply.Stat (kind_is false kind i)
+      ((ap (λ b. if b then 2 + count_by (holds_directory tree node.0) (entries tree.rows) else count_of tree.rows node.0) kind ∙ sym links_is) i)
       ((ap (λ b. if b then row_count tree node.0 else length (bytes_of tree node.0)) kind ∙ sym size_is) i)))

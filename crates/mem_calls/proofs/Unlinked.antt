@@ -58,7 +58,7 @@ use Rattle.mem_values.specs.Facts.{IsLawfulLog}
 use Rattle.mem_calls.specs.Outcome.{IsAnswered}
 use Rattle.mem_calls.specs.Parts.{HasRoomFor}
 use Rattle.mem_calls.specs.declared.ready.Ready.{Ready}
-use Rattle.mem_calls.specs.Changes.{IsWithoutRow, RemovesRow, LowersLinks, NamesFile, IsReady}
+use Rattle.mem_calls.specs.Changes.{IsWithoutRow, RemovesRow, LowersLinks, NamesFile, IsReadyForRow}
 use Rattle.mem_calls.proofs.PartKept.{same_part_stands, room_for_one}
 use Rattle.mem_calls.proofs.Nothing.{some_first}
 use Rattle.mem_calls.proofs.HeldKinds.{some_of}
@@ -242,7 +242,8 @@ module _ (given : ℕ → Option OldKept) (t : TableState) (nodes : ℕ) (before
   made_next : made_by S before.view.core ≡ made_by next before.view.core
   made_next = sym ((calls_keep_the_rest S before.view.core c (changed.sound given t nodes before c v number mid turn) (changed.core_known given t nodes before c v number mid turn)).own refl)
 
-  module _ (p after : PartCell) (stands : Rattle.mem_values.specs.Stands.StandsPart before.view.first (account_of log) before.view.core p) (vb vf vp none : Cell) (new_b : Bucket) (old_f new_f : FileCell) (is_b : as_bucket vb ≡ Some new_b) (without : IsWithoutRow name names.bucket new_b)
+  module _ (p after : PartCell) (stands : Rattle.mem_values.specs.Stands.StandsPart before.view.first (account_of log) before.view.core p) (vb vf vp none : Cell) (new_b : Bucket) (old_f new_f : FileCell) (is_b : as_bucket vb ≡ Some new_b)
+      (without : IsWithoutRow name names.bucket new_b)
       (was_f : file_held nodes before.held child ≡ Some old_f) (is_f : as_file vf ≡ Some new_f) (links : new_f.links + 1 ≡ old_f.links) (same : new_f.file ≡ old_f.file)
       (is_p : as_part vp ≡ Some after) (added : IsAddedTo p.log (log_entry number dir.0 name child.0 File Remove None [] ∷ []) after.log) (made : after.made ≡ p.made) where
     abbrev pub new_held : List (HeldCell Cell)
@@ -276,7 +277,7 @@ apart_value nodes held changed which new apart = ap (option_map (λ (x : HeldCel
 module _ (given : ℕ → Option OldKept) (t : TableState) (nodes : ℕ) (before : Hand Cell Fact) (table : IsFileTable t nodes) (work : IsWorking given t before) (dir : NodeId) (name : List ℕ) (child : NodeId)
     (names : NamesFile nodes before.held dir (bucket name) name child) (within : child.0 < nodes) (part : IsSome (part_held nodes before.held before.view.core)) (file : IsSome (file_held nodes before.held child))
     (due : InEach before (λ tree. verdict tree before.view.core (call.Unlink dir name) ≡ done (Removes dir.0 name child.0)))
-    (ready : Ready) (out : Hand Cell Fact) (is_ready : IsReady nodes dir name before ready out) (number : ℕ) (mid : Hand Cell Fact) (drawn : Stamps (IsLawfulLog given) (StandsAt given) (call.Unlink dir name) reply.Ok out number mid) where
+    (ready : Ready) (out : Hand Cell Fact) (is_ready : IsReadyForRow nodes dir name before ready out) (number : ℕ) (mid : Hand Cell Fact) (drawn : Stamps (IsLawfulLog given) (StandsAt given) (call.Unlink dir name) reply.Ok out number mid) where
   abbrev mine : CellId
   mine = id.Part (record { 0 = before.view.core })
 

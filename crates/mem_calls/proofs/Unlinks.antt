@@ -20,16 +20,20 @@ module _ (tree : TreeState) (core : ℕ) (dir : NodeId) (name : List ℕ) where
 
   module _ (b : Bucket) (shows : ShowsBucket tree dir.0 (bucket name) b) (fault : directory_fault tree dir.0 ≡ None) where
     pub unlink_missed : get b.rows name ≡ None → verdict tree core (call.Unlink dir name) ≡ refused NoEntry
-    unlink_missed row = ap (λ f. or_else f (unlink_row tree dir.0 name (row_of tree dir.0 name))) fault ∙ ap (unlink_row tree dir.0 name) (row_in tree dir.0 name b shows ∙ row)
+    unlink_missed row = ap (λ f. or_else f (unlink_row tree dir.0 name (row_of tree dir.0 name))) fault
+        ∙ ap (unlink_row tree dir.0 name) (row_in tree dir.0 name b shows ∙ row)
 
-    found : (child : ℕ) (d : Bool) → get b.rows name ≡ Some child → is_some (get b.directories name) ≡ d → verdict tree core (call.Unlink dir name) ≡ (if d then refused NotPermitted else done (Removes dir.0 name child))
+    found : (child : ℕ) (d : Bool) → get b.rows name ≡ Some child → is_some (get b.directories name) ≡ d
+        → verdict tree core (call.Unlink dir name) ≡ (if d then refused NotPermitted else done (Removes dir.0 name child))
     found child d row kind =
         ap (λ f. or_else f (unlink_row tree dir.0 name (row_of tree dir.0 name))) fault
         ∙ (ap (unlink_row tree dir.0 name) (row_in tree dir.0 name b shows ∙ row)
         ∙ ap (λ x. if x then refused NotPermitted else done (Removes dir.0 name child)) (sym (directory_in tree dir.0 name b shows child row) ∙ kind))
 
-    pub unlink_directory : (child : ℕ) → get b.rows name ≡ Some child → is_some (get b.directories name) ≡ true → verdict tree core (call.Unlink dir name) ≡ refused NotPermitted
+    pub unlink_directory : (child : ℕ) → get b.rows name ≡ Some child → is_some (get b.directories name) ≡ true
+        → verdict tree core (call.Unlink dir name) ≡ refused NotPermitted
     unlink_directory child row kind = found child true row kind
 
-    pub unlink_file : (child : ℕ) → get b.rows name ≡ Some child → is_some (get b.directories name) ≡ false → verdict tree core (call.Unlink dir name) ≡ done (Removes dir.0 name child)
+    pub unlink_file : (child : ℕ) → get b.rows name ≡ Some child → is_some (get b.directories name) ≡ false
+        → verdict tree core (call.Unlink dir name) ≡ done (Removes dir.0 name child)
     unlink_file child row kind = found child false row kind

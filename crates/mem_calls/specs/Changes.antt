@@ -25,26 +25,26 @@ use Rattle.mem_calls.specs.declared.ready.Ready.{Ready}
 use Rattle.mem_calls.specs.declared.coming.Coming.{Coming}
 
 -- a core holds another value of a cell, and nothing else changes
-abbrev pub Puts : ℕ → CellId → Cell → Hand Cell Fact → Hand Cell Fact → Type 0
-Puts nodes which value before after = after ≡ record before { held = with_value (cell_place nodes which) value before.held }
+abbrev pub PutsValue : ℕ → CellId → Cell → Hand Cell Fact → Hand Cell Fact → Type 0
+PutsValue nodes which value before after = after ≡ record before { held = with_value (cell_place nodes which) value before.held }
 
 -- A bucket that is held is another one.
-pub record ChangesBucket (nodes : ℕ) (node : NodeId) (number : ℕ) (before after : Hand Cell Fact) : Type 0 where
+pub record ReplacesBucket (nodes : ℕ) (node : NodeId) (number : ℕ) (before after : Hand Cell Fact) : Type 0 where
   pub old : Bucket
   pub was : bucket_held nodes before.held node number ≡ Some old
   pub value : Cell
   pub new : Bucket
   pub is : as_bucket value ≡ Some new
-  pub puts : Puts nodes (id.Bucket node number) value before after
+  pub puts : PutsValue nodes (id.Bucket node number) value before after
 
 -- A file that is held is another one.
-pub record ChangesFile (nodes : ℕ) (node : NodeId) (before after : Hand Cell Fact) : Type 0 where
+pub record ReplacesFile (nodes : ℕ) (node : NodeId) (before after : Hand Cell Fact) : Type 0 where
   pub old : FileCell
   pub was : file_held nodes before.held node ≡ Some old
   pub value : Cell
   pub new : FileCell
   pub is : as_file value ≡ Some new
-  pub puts : Puts nodes (id.File node) value before after
+  pub puts : PutsValue nodes (id.File node) value before after
 
 -- A bucket without the row of a name.
 pub record IsWithoutRow (name : List ℕ) (old new : Bucket) : Type 0 where
@@ -54,12 +54,12 @@ pub record IsWithoutRow (name : List ℕ) (old new : Bucket) : Type 0 where
 
 -- a row goes from a bucket that is held
 pub record RemovesRow (nodes : ℕ) (node : NodeId) (number : ℕ) (name : List ℕ) (before after : Hand Cell Fact) : Type 0 where
-  pub change : ChangesBucket nodes node number before after
+  pub change : ReplacesBucket nodes node number before after
   pub row : IsWithoutRow name change.old change.new
 
 -- a file that is held has one name less
 pub record LowersLinks (nodes : ℕ) (node : NodeId) (before after : Hand Cell Fact) : Type 0 where
-  pub change : ChangesFile nodes node before after
+  pub change : ReplacesFile nodes node before after
   pub links : change.new.links + 1 ≡ change.old.links
   pub file : change.new.file ≡ change.old.file
 
@@ -80,7 +80,7 @@ pub record HoldsNamed (nodes : ℕ) (node : NodeId) (name : List ℕ) (hand : Ha
   pub few : length hand.held ≤ 4
 
 -- The own log is out of its cell, with room for one more change of a directory, and the name is copied.
-pub record IsReady (nodes : ℕ) (node : NodeId) (name : List ℕ) (before : Hand Cell Fact) (ready : Ready) (after : Hand Cell Fact) : Type 0 where
+pub record IsReadyForRow (nodes : ℕ) (node : NodeId) (name : List ℕ) (before : Hand Cell Fact) (ready : Ready) (after : Hand Cell Fact) : Type 0 where
   pub name_is : ready.name ≡ name
   pub none : ready.changes.items ≡ []
   pub spare : 1 ≤ ready.changes.spare
@@ -89,7 +89,7 @@ pub record IsReady (nodes : ℕ) (node : NodeId) (name : List ℕ) (before : Han
   pub same : IsSamePart part.log ready.part.value.log
   pub made : ready.part.value.made ≡ part.made
   pub room : 1 ≤ room_kept ready.part.value.log node.0
-  pub out : (value : Cell) × Puts nodes (id.Part (record { 0 = before.view.core })) value before after
+  pub out : (value : Cell) × PutsValue nodes (id.Part (record { 0 = before.view.core })) value before after
 
 -- The place of a name is held, and has no row.
 pub record IsFree (nodes : ℕ) (held : List (HeldCell Cell)) (node : NodeId) (name : List ℕ) : Type 0 where
@@ -109,15 +109,15 @@ pub record IsWithRow (name : List ℕ) (child : ℕ) (kind : Kind) (old new : Bu
 pub record IsComing (nodes : ℕ) (node : NodeId) (name : List ℕ) (child : ℕ) (kind : Kind) (before : Hand Cell Fact) (coming : Coming)
     (after : Hand Cell Fact) : Type 0 where
   pub mid : Hand Cell Fact
-  pub ready : IsReady nodes node name before coming.ready mid
-  pub out : (value : Cell) × Puts nodes (id.Bucket node (bucket name)) value mid after
+  pub ready : IsReadyForRow nodes node name before coming.ready mid
+  pub out : (value : Cell) × PutsValue nodes (id.Bucket node (bucket name)) value mid after
   pub old : Bucket
   pub was : bucket_held nodes before.held node (bucket name) ≡ Some old
   pub row : IsWithRow name child kind old coming.bucket.value
 
 -- a file that is held has one name more
 pub record RaisesLinks (nodes : ℕ) (node : NodeId) (before after : Hand Cell Fact) : Type 0 where
-  pub change : ChangesFile nodes node before after
+  pub change : ReplacesFile nodes node before after
   pub links : change.new.links ≡ change.old.links + 1
   pub file : change.new.file ≡ change.old.file
 

@@ -14,7 +14,7 @@ use Rattle.mem_values.specs.declared.fact.Fact.{Fact}
 use Rattle.mem_values.specs.Places.{cell_place}
 use Rattle.mem_calls.specs.Held.{value_held, bucket_held, is_standing, HoldsDirectory}
 use Rattle.mem_calls.specs.Sums.{HoldsBuckets}
-use Rattle.mem_calls.specs.Changes.{ChangesBucket}
+use Rattle.mem_calls.specs.Changes.{ReplacesBucket}
 
 -- A row of a bucket that is held names a directory, in a directory that stands.
 pub record NamesDirectory (nodes : ℕ) (held : List (HeldCell Cell)) (node : NodeId) (number : ℕ) (name : List ℕ) (child : NodeId) : Type 0 where
@@ -44,7 +44,7 @@ pub record IsPlaced (place : Option NodeId) (old new : Bucket) : Type 0 where
 
 -- by a bucket that is held its directory stands here
 pub record PlacesBucket (nodes : ℕ) (node : NodeId) (number : ℕ) (place : Option NodeId) (before after : Hand Cell Fact) : Type 0 where
-  pub change : ChangesBucket nodes node number before after
+  pub change : ReplacesBucket nodes node number before after
   pub placed : IsPlaced place change.old change.new
 
 -- By so many buckets that are held a directory stands here, and nothing else changes.

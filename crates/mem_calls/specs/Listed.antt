@@ -23,7 +23,7 @@ with_kind bucket row = (row.0, kind_if (is_some (get bucket.directories row.0)))
 abbrev pub kinds_in : Bucket → List (List ℕ × Kind)
 kinds_in bucket = map (with_kind bucket) (entries bucket.rows)
 
--- so of a bucket that is held
+-- the rows of a bucket that is held, with the kinds of their nodes
 abbrev pub kinds_held : ℕ → List (HeldCell Cell) → NodeId → ℕ → List (List ℕ × Kind)
 kinds_held nodes held node number = option_map_or kinds_in (bucket_held nodes held node number) []
 
@@ -33,9 +33,9 @@ join_until zero f = []
 join_until (suc n) f = join_until n f ++ f n
 
 -- whether the name of one row comes before that of another
-abbrev pub comes_before : NameKind → NameKind → Bool
-comes_before row other = is_lt (name_cmp row.name other.name)
+abbrev pub precedes_by_name : NameKind → NameKind → Bool
+precedes_by_name row other = is_lt (name_cmp row.name other.name)
 
 -- no row's name comes before that of the row before it
-abbrev pub AscendByName : List NameKind → Type 0
-AscendByName rows = IsSortedBy comes_before rows
+abbrev pub AreInNameOrder : List NameKind → Type 0
+AreInNameOrder rows = IsSortedBy precedes_by_name rows

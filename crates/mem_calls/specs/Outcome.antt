@@ -33,7 +33,7 @@ pub record IsAnswered (t : TableState) (c : Call) (reply : Reply) (before after 
       × (after.entries ≡ before.entries ++ entry ∷ []) × (after.view.mine ≡ before.view.mine ++ Called entry ∷ [])
 
 -- A core was refused memory for a call: it is between two calls, and has no further entry. It may have seen more of the history.
-pub record IsRefused (t : TableState) (before after : Hand Cell Fact) : Type 0 where
+pub record IsRefusedMemory (t : TableState) (before after : Hand Cell Fact) : Type 0 where
   pub between : IsBetweenCalls t after
   pub same : IsSameCore before after
   pub room : after.room ≡ before.room + length before.held
@@ -44,4 +44,4 @@ pub record IsRefused (t : TableState) (before after : Hand Cell Fact) : Type 0 w
 
 -- what a call comes to, by its result
 abbrev pub ComesTo : TableState → Call → Hand Cell Fact → Hand Cell Fact → Result Reply NoMemory → Type 0
-ComesTo t c before after result = MatchResult result (λ reply. IsAnswered t c reply before after) (λ fault. IsRefused t before after)
+ComesTo t c before after result = MatchResult result (λ reply. IsAnswered t c reply before after) (λ fault. IsRefusedMemory t before after)

@@ -20,7 +20,7 @@ pub record HasRoomFor (changes : List Change) (part : PartCell) : Type 0 where
   pub behind : StandBehind changes (changes_kept part.log)
   pub few : part.log.entries < 2 ^ 64 - 1
 
--- so has the own log that is held
+-- the own log that is held has room for such changes
 abbrev pub MayTake : ℕ → List Change → Hand Cell Fact → Type 0
 MayTake nodes changes hand = (part : PartCell) → part_held nodes hand.held hand.view.core ≡ Some part → HasRoomFor changes part
 

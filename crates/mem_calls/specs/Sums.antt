@@ -26,7 +26,8 @@ HoldsBuckets nodes held node = (number : ℕ) → number < 8 → IsSome (bucket_
 
 -- none of them has more rows than a bucket may have
 abbrev pub AreSmall : ℕ → List (HeldCell Cell) → NodeId → Type 0
-AreSmall nodes held node = (number : ℕ) (b : Bucket) → number < 8 → bucket_held nodes held node number ≡ Some b → (len b.rows ≤ 4096) × (len b.directories ≤ 4096)
+AreSmall nodes held node = (number : ℕ) (b : Bucket) → number < 8 → bucket_held nodes held node number ≡ Some b → (len b.rows ≤ 4096)
+    × (len b.directories ≤ 4096)
 
 -- What tells all of a node is held: its first bucket, and where it stands by that the others, else its file.
 pub record HoldsNode (nodes : ℕ) (held : List (HeldCell Cell)) (node : NodeId) : Type 0 where

@@ -1,15 +1,11 @@
 -- The table of a file tree.
-use Rattle.std.specs.Prelude.{◌≡◌, ℕ, ◌+◌, ◌*◌, length}
+use Rattle.std.specs.Prelude.{◌≡◌, ℕ, length}
 use Rattle.sfs_tree.specs.Sound.{IsWithinLimits}
 use Rattle.sfs_tree.specs.Laws.{IsSoundTree}
 use Rattle.sfs_tree.specs.Tree.{TreeState}
 use Rattle.stamp_table.specs.Table.{TableState}
-use Rattle.mem_values.specs.Places.{node_count}
+use Rattle.mem_values.specs.Places.{node_count, place_count}
 use Rattle.mem_calls.specs.declared.numbers.Numbers.{Numbers}
-
--- how many places the cells of so many nodes and cores take
-abbrev pub place_count : ℕ → ℕ → ℕ
-place_count nodes cores = 32 + 10 * nodes + 16 * cores
 
 -- A table over a sound tree within its limits, of so many nodes, that has all cells.
 pub record IsFileTable (t : TableState) (nodes : ℕ) : Type 0 where

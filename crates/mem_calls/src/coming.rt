@@ -4,7 +4,7 @@ ghost use Rattle.mem_calls.specs.Table.{IsFileTable};
 ghost use Rattle.mem_calls.specs.Held.{HoldsPart};
 ghost use Rattle.mem_calls.specs.Working.{IsWorking};
 ghost use Rattle.mem_calls.specs.Changes.{IsFree, IsComing};
-ghost use Rattle.mem_calls.specs.Outcome.{IsRefused};
+ghost use Rattle.mem_calls.specs.Outcome.{IsRefusedMemory};
 
 use crate::ready::{Ready, make_ready};
 use crate::rows::with_row;
@@ -35,7 +35,7 @@ pub(crate) fn make_coming<T: Given>(
     requires part { HoldsPart nodes core.old }
     requires free { IsFree nodes core.old.held dir name.now }
     ensures { MatchResult result (λ coming. IsComing nodes dir name.now child.0.0 child.1 core.old coming core.new)
-        (λ _. IsRefused shared.now core.old core.new) }
+        (λ _. IsRefusedMemory shared.now core.old core.new) }
 {
     let number = bucket_of(name);
     let ready = make_ready(alloc, shared, core, nodes, dir, name)?;

@@ -10,7 +10,7 @@ ghost use Rattle.mem_calls.specs.Held.{file_held, HoldsFile, HoldsPart, InEach};
 ghost use Rattle.mem_calls.specs.Working.{IsWorking};
 ghost use Rattle.mem_calls.specs.Reply.{reply_of};
 ghost use Rattle.mem_calls.specs.Edits.{edit_of, edit_call, is_too_big};
-ghost use Rattle.mem_calls.specs.Outcome.{IsAnswered, IsRefused, ComesTo};
+ghost use Rattle.mem_calls.specs.Outcome.{IsAnswered, IsRefusedMemory, ComesTo};
 
 use crate::edit::{FileEdit, edited, marked};
 use crate::finish::finish;
@@ -65,7 +65,7 @@ fn finish_edit<T: Given>(
     requires held { IsSome (file_held nodes core.old.held file) }
     requires fits { is_too_big edit ≡ false }
     requires due { InEach core.old (λ tree. verdict tree core.old.view.core (edit_call file edit) ≡ done (Edits file.0 (edit_of edit))) }
-    ensures { MatchResult result (λ _. IsAnswered shared.now (edit_call file edit) reply.Ok core.old core.new) (λ _. IsRefused shared.now core.old core.new) }
+    ensures { MatchResult result (λ _. IsAnswered shared.now (edit_call file edit) reply.Ok core.old core.new) (λ _. IsRefusedMemory shared.now core.old core.new) }
 {
     let cell = CellId::File { node: file };
     core.events_are_few();

@@ -12,7 +12,7 @@ ghost use Rattle.mem_calls.specs.Held.{bucket_held, HoldsDirectory, HoldsPart, C
 ghost use Rattle.mem_calls.specs.Sums.{HoldsBuckets};
 ghost use Rattle.mem_calls.specs.Working.{IsWorking, WorksOn};
 ghost use Rattle.mem_calls.specs.Ends.{NamesDirectory, HoldsNamedBuckets, HoldsEnding};
-ghost use Rattle.mem_calls.specs.Outcome.{IsAnswered, IsRefused, ComesTo};
+ghost use Rattle.mem_calls.specs.Outcome.{IsAnswered, IsRefusedMemory, ComesTo};
 
 use crate::finish::finish;
 use crate::held::{bucket_in, directory_fault_in, is_standing};
@@ -164,7 +164,7 @@ fn finish_rmdir<T: Given>(
     requires names { NamesDirectory nodes core.old.held dir (bucket name) name child }
     requires held { (child.0 < nodes) × HoldsBuckets nodes core.old.held child }
     requires due { InEach core.old (λ tree. verdict tree core.old.view.core (Call.Rmdir dir name) ≡ done (Removes dir.0 name child.0)) }
-    ensures { MatchResult result (λ _. IsAnswered shared.now (Call.Rmdir dir name) reply.Ok core.old core.new) (λ _. IsRefused shared.now core.old core.new) }
+    ensures { MatchResult result (λ _. IsAnswered shared.now (Call.Rmdir dir name) reply.Ok core.old core.new) (λ _. IsRefusedMemory shared.now core.old core.new) }
 {
     core.events_are_few();
     let number = bucket_of(&name);

@@ -40,4 +40,4 @@ pub use reads::read;
 pub use removals::unlink;
 pub use short::Short;
 pub use status::stat;
-pub use taking::{add_entry, no_value, put, take_bucket, take_file, take_part};
+pub use taking::{add_entry, put, take_bucket, take_file, take_part};

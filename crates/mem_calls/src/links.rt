@@ -11,7 +11,7 @@ ghost use Rattle.mem_calls.specs.Table.{IsFileTable};
 ghost use Rattle.mem_calls.specs.Held.{HoldsDirectory, HoldsFile, HoldsPart, InEach};
 ghost use Rattle.mem_calls.specs.Working.{IsWorking, WorksOn};
 ghost use Rattle.mem_calls.specs.Changes.{MayLink, HoldsLink, link_code};
-ghost use Rattle.mem_calls.specs.Outcome.{IsAnswered, IsRefused, ComesTo};
+ghost use Rattle.mem_calls.specs.Outcome.{IsAnswered, IsRefusedMemory, ComesTo};
 
 use crate::coming::make_coming;
 use crate::finish::finish;
@@ -48,7 +48,7 @@ fn finish_link<T: Given>(
     requires may { MayLink nodes core.old.held file dir name }
     requires due { InEach core.old (λ tree. verdict tree core.old.view.core (Call.Link file dir name) ≡ done (Adds dir.0 name file.0)) }
     ensures { MatchResult result (λ _. IsAnswered shared.now (Call.Link file dir name) reply.Ok core.old core.new)
-        (λ _. IsRefused shared.now core.old core.new) }
+        (λ _. IsRefusedMemory shared.now core.old core.new) }
 {
     core.events_are_few();
     let number = bucket_of(&name);

@@ -10,8 +10,8 @@ ghost use Rattle.mem_values.specs.Places.{node_count};
 ghost use Rattle.mem_calls.specs.Table.{IsFileTable};
 ghost use Rattle.mem_calls.specs.Held.{InEach};
 ghost use Rattle.mem_calls.specs.Sums.{HoldsBuckets, HoldsNode};
-ghost use Rattle.mem_calls.specs.Listed.{kinds_in, kinds_held, join_until, AscendByName};
-ghost use Rattle.mem_calls.specs.Outcome.{IsAnswered, IsRefused, ComesTo};
+ghost use Rattle.mem_calls.specs.Listed.{kinds_in, kinds_held, join_until, AreInNameOrder};
+ghost use Rattle.mem_calls.specs.Outcome.{IsAnswered, IsRefusedMemory, ComesTo};
 
 use crate::finish::finish;
 use crate::held::{bucket_in, directory_fault_in};
@@ -55,7 +55,7 @@ fn all_rows(
 // The rows, names ascending by their bytes.
 fn by_name(rows: Vec<NameKind>) -> Vec<NameKind>
     ensures rows { IsPermutation rows.items result.items }
-    ensures ascend { AscendByName result.items }
+    ensures ascend { AreInNameOrder result.items }
 {
     let mut rows = rows;
     rows.sort_unstable_by(|row, other| row.name.bytes().cmp(other.name.bytes()));

@@ -7,7 +7,7 @@ ghost use Rattle.mem_calls.specs.Table.{IsFileTable};
 ghost use Rattle.mem_calls.specs.Held.{HoldsPart, CanMeet, InEach};
 ghost use Rattle.mem_calls.specs.Working.{IsWorking};
 ghost use Rattle.mem_calls.specs.Creations.{creates, HasNext, HoldsCreation, MayMake};
-ghost use Rattle.mem_calls.specs.Outcome.{IsAnswered, IsRefused};
+ghost use Rattle.mem_calls.specs.Outcome.{IsAnswered, IsRefusedMemory};
 
 use crate::coming::make_coming;
 use crate::held::{bucket_in, directory_fault_in};
@@ -73,7 +73,7 @@ pub(crate) fn finish_make<T: Given>(
     requires due { InEach core.old (λ tree. verdict tree core.old.view.core (Call.Make dir name child.1) ≡ creates child.0 dir name child.1) }
     ensures { MatchResult result
         (λ _. IsAnswered shared.now (Call.Make dir name child.1) (reply.Node child.0 child.1) core.old core.new)
-        (λ _. IsRefused shared.now core.old core.new) }
+        (λ _. IsRefusedMemory shared.now core.old core.new) }
 {
     core.events_are_few();
     let number = bucket_of(&name);

@@ -5,7 +5,7 @@ ghost use Rattle.stamp_table.specs.Table.{IsBetweenCalls};
 ghost use Rattle.mem_values.specs.Places.{node_count};
 ghost use Rattle.mem_calls.specs.Table.{IsFileTable};
 ghost use Rattle.mem_calls.specs.Held.{HoldsFile, InEach};
-ghost use Rattle.mem_calls.specs.Outcome.{IsAnswered, IsRefused, ComesTo};
+ghost use Rattle.mem_calls.specs.Outcome.{IsAnswered, IsRefusedMemory, ComesTo};
 
 use crate::finish::finish;
 use crate::held::{file_fault_in, file_in};

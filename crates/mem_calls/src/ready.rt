@@ -4,8 +4,8 @@ ghost use Rattle.mem_cells.specs.Part.{IsSamePart, room_kept};
 ghost use Rattle.mem_calls.specs.Table.{IsFileTable};
 ghost use Rattle.mem_calls.specs.Held.{HoldsPart};
 ghost use Rattle.mem_calls.specs.Working.{IsWorking};
-ghost use Rattle.mem_calls.specs.Changes.{IsReady};
-ghost use Rattle.mem_calls.specs.Outcome.{IsRefused};
+ghost use Rattle.mem_calls.specs.Changes.{IsReadyForRow};
+ghost use Rattle.mem_calls.specs.Outcome.{IsRefusedMemory};
 
 use crate::holding::let_all_go;
 use crate::taking::{put, take_part};
@@ -57,7 +57,7 @@ pub(crate) fn make_ready<T: Given>(
     requires table { IsFileTable shared.now nodes }
     requires work { IsWorking T.given shared.now core.old }
     requires part { HoldsPart nodes core.old }
-    ensures { MatchResult result (λ ready. IsReady nodes dir name.now core.old ready core.new) (λ _. IsRefused shared.now core.old core.new) }
+    ensures { MatchResult result (λ ready. IsReadyForRow nodes dir name.now core.old ready core.new) (λ _. IsRefusedMemory shared.now core.old core.new) }
 {
     let (name, changes) = match copied(alloc, name) {
         Ok(copied) => copied,

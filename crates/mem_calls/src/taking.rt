@@ -5,7 +5,7 @@ ghost use Rattle.mem_values.specs.declared.cell_id.CellId.TheVariants as id;
 ghost use Rattle.mem_values.specs.declared.cell.Cell.{Cell as CellValue};
 ghost use Rattle.mem_values.specs.declared.cell.Cell.TheVariants as cell;
 ghost use Rattle.mem_calls.specs.Held.{value_held, as_part, bucket_held, file_held, part_held, pending_held, HoldsPart};
-ghost use Rattle.mem_calls.specs.Changes.{Puts};
+ghost use Rattle.mem_calls.specs.Changes.{PutsValue};
 ghost use Rattle.mem_calls.specs.Parts.{HasRoomFor, MayTake, TakesEntry};
 
 use mem_values::{
@@ -17,13 +17,13 @@ use sfs_tree::Changes;
 /// Puts a value into a cell that is held.
 pub fn put(core: &mut FileCore, nodes: u32, cell: CellId, value: Cell)
     requires { IsSome (value_held nodes core.old.held cell) }
-    ensures { Puts nodes cell value core.old core.new }
+    ensures { PutsValue nodes cell value core.old core.new }
 {
     replace_value(core, nodes, cell, value);
 }
 
 // A value that takes no memory, for a cell whose own is out.
-pub fn no_value() -> Cell {
+pub(crate) fn no_value() -> Cell {
     Cell::Lock {
         lock: TreeLock { moved: None },
     }
@@ -33,7 +33,7 @@ pub fn no_value() -> Cell {
 pub fn take_part(core: &mut FileCore, nodes: u32) -> Box<PartCell>
     requires { HoldsPart nodes core.old }
     ensures part { part_held nodes core.old.held core.old.view.core ≡ Some result.value }
-    ensures held { (value : CellValue) × Puts nodes (id.Part (record { 0 = core.old.view.core })) value core.old core.new }
+    ensures held { (value : CellValue) × PutsValue nodes (id.Part (record { 0 = core.old.view.core })) value core.old core.new }
 {
     let cell = CellId::Part {
         core: core.number(),
@@ -83,7 +83,7 @@ pub fn add_entry(core: &mut FileCore, nodes: u32, changes: Changes)
 pub fn take_file(core: &mut FileCore, nodes: u32, node: NodeId) -> Box<FileCell>
     requires { IsSome (file_held nodes core.old.held node) }
     ensures file { file_held nodes core.old.held node ≡ Some result.value }
-    ensures held { (value : CellValue) × Puts nodes (id.File node) value core.old core.new }
+    ensures held { (value : CellValue) × PutsValue nodes (id.File node) value core.old core.new }
 {
     match replace_value(core, nodes, CellId::File { node }, no_value()) {
         Cell::File { file } => file,
@@ -95,7 +95,7 @@ pub fn take_file(core: &mut FileCore, nodes: u32, node: NodeId) -> Box<FileCell>
 pub(crate) fn take_pending(core: &mut FileCore, nodes: u32, node: NodeId) -> Box<Pending>
     requires { IsSome (pending_held nodes core.old.held node) }
     ensures pending { pending_held nodes core.old.held node ≡ Some result.value }
-    ensures held { (value : CellValue) × Puts nodes (id.Pending node) value core.old core.new }
+    ensures held { (value : CellValue) × PutsValue nodes (id.Pending node) value core.old core.new }
 {
     match replace_value(core, nodes, CellId::Pending { node }, no_value()) {
         Cell::Pending { pending } => pending,
@@ -107,7 +107,7 @@ pub(crate) fn take_pending(core: &mut FileCore, nodes: u32, node: NodeId) -> Box
 pub fn take_bucket(core: &mut FileCore, nodes: u32, node: NodeId, number: u8) -> Box<Bucket>
     requires { IsSome (bucket_held nodes core.old.held node number) }
     ensures bucket { bucket_held nodes core.old.held node number ≡ Some result.value }
-    ensures held { (value : CellValue) × Puts nodes (id.Bucket node number) value core.old core.new }
+    ensures held { (value : CellValue) × PutsValue nodes (id.Bucket node number) value core.old core.new }
 {
     let cell = CellId::Bucket {
         node,
@@ -122,7 +122,7 @@ pub fn take_bucket(core: &mut FileCore, nodes: u32, node: NodeId, number: u8) ->
 /// Puts the own log into its cell.
 pub(crate) fn put_part(core: &mut FileCore, nodes: u32, part: Box<PartCell>)
     requires { IsSome (value_held nodes core.old.held (id.Part (record { 0 = core.old.view.core }))) }
-    ensures { (value : CellValue) × (as_part value ≡ Some part.value) × Puts nodes (id.Part (record { 0 = core.old.view.core })) value core.old core.new }
+    ensures { (value : CellValue) × (as_part value ≡ Some part.value) × PutsValue nodes (id.Part (record { 0 = core.old.view.core })) value core.old core.new }
 {
     let cell = CellId::Part {
         core: core.number(),
@@ -139,7 +139,7 @@ pub(crate) fn put_bucket(
     bucket: Box<Bucket>,
 )
     requires { IsSome (value_held nodes core.old.held (id.Bucket node number)) }
-    ensures { Puts nodes (id.Bucket node number) (cell.Bucket bucket) core.old core.new }
+    ensures { PutsValue nodes (id.Bucket node number) (cell.Bucket bucket) core.old core.new }
 {
     let cell = CellId::Bucket {
         node,

@@ -22,7 +22,7 @@ use Rattle.mem_values.specs.Facts.{IsLawfulLog}
 use Rattle.mem_values.specs.Laws.{KnowsCells}
 use Rattle.mem_calls.specs.Table.{IsFileTable}
 use Rattle.mem_calls.specs.Held.{value_held}
-use Rattle.mem_calls.specs.Outcome.{IsRefused}
+use Rattle.mem_calls.specs.Outcome.{IsRefusedMemory}
 use Rattle.mem_calls.specs.Working.{IsWorking, WorksOn, StillHolds}
 use Rattle.mem_calls.proofs.Cells.{found_place}
 use Rattle.mem_calls.proofs.Shown.{held_cell, knows_found}
@@ -44,7 +44,7 @@ each_known given view (c ∷ cells) knows = ((λ le. knows.0.stood), each_known 
 
 -- a core that lets go of all has made no call
 pub refused : (given : ℕ → Option OldKept) (t : TableState) (before after : Hand Cell Fact) → IsWorking given t before → LetsGo before after
-    → after.held ≡ left_below 0 before.held → after.view.held ≡ reverse (places_of after.held) → IsRefused t before after
+    → after.held ≡ left_below 0 before.held → after.view.held ≡ reverse (places_of after.held) → IsRefusedMemory t before after
 refused given t before after work lets left places =
     let none : after.held ≡ [] = left ∙ none_left before.held in
     let core_is : after.view.core ≡ before.view.core = ap (λ (v : View TreeState (Event Fact)). v.core) lets.view in

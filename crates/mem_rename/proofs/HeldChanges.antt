@@ -18,7 +18,7 @@ use Rattle.mem_values.specs.declared.cell_id.CellId.TheVariants as id
 use Rattle.mem_values.specs.declared.fact.Fact.{Fact}
 use Rattle.mem_values.specs.Places.{cell_place}
 use Rattle.mem_calls.specs.Held.{value_held, as_bucket, as_file, bucket_held, file_held}
-use Rattle.mem_calls.specs.Changes.{Puts}
+use Rattle.mem_calls.specs.Changes.{PutsValue}
 use Rattle.mem_calls.proofs.Taken.{value_with, put_twice, some_and_then}
 use Rattle.mem_calls.proofs.Unlinked.{apart_value}
 use Rattle.mem_rename.specs.Moving.{same_bucket, same_file, at_bucket, in_directory, at_file, PutsBucket, PutsFile, IsOther, ChangesHeld}
@@ -38,7 +38,7 @@ mapped_like f g (Some x) like = ap Some (like x)
 -- a value that was taken out of a bucket's cell and another one that was put there
 pub puts_bucket : (nodes : ℕ) (before out after : Hand Cell Fact) (node : NodeId) (number : ℕ) (by : Bucket → Bucket) (none value : Cell) (old new : Bucket)
     → bucket_held nodes before.held node number ≡ Some old → as_bucket value ≡ Some new
-    → new ≡ by old → Puts nodes (id.Bucket node number) none before out → Puts nodes (id.Bucket node number) value out after
+    → new ≡ by old → PutsValue nodes (id.Bucket node number) none before out → PutsValue nodes (id.Bucket node number) value out after
     → PutsBucket nodes node number by before after
 puts_bucket nodes before out after node number by none value old new was is by_is one two = record {
   change = record {
@@ -54,7 +54,7 @@ puts_bucket nodes before out after node number by none value old new was is by_i
 
 pub puts_file : (nodes : ℕ) (before out after : Hand Cell Fact) (node : NodeId) (by : FileCell → FileCell) (none value : Cell) (old new : FileCell)
     → file_held nodes before.held node ≡ Some old → as_file value ≡ Some new
-    → new ≡ by old → Puts nodes (id.File node) none before out → Puts nodes (id.File node) value out after → PutsFile nodes node by before after
+    → new ≡ by old → PutsValue nodes (id.File node) none before out → PutsValue nodes (id.File node) value out after → PutsFile nodes node by before after
 puts_file nodes before out after node by none value old new was is by_is one two = record {
   change = record { old = old; was = was; value = value; new = new; is = is; puts = put_twice nodes before out after (id.File node) none value one two };
   is = by_is;

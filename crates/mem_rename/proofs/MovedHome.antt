@@ -72,12 +72,14 @@ module _ (given : ℕ → Option OldKept) (t : TableState) (nodes : ℕ) (table 
   directory_by : (meets : Bool) (there : Option ℕ) → meets_directory seen move ≡ meets → there_seen seen move ≡ there
       → plan.directory ≡ cond meets (option_map numbered_node there) None
   directory_by true None is met = ap (λ (x : Plan). x.directory) ready.asked
-      ∙ none_either ((look.child_is_directory && look.there_is_directory) && not (same_child look.child look.there)) look.there (ap (option_map numbered_node) met)
+      ∙ none_either ((look.child_is_directory && look.there_is_directory) && not (same_child look.child look.there)) look.there
+      (ap (option_map numbered_node) met)
   directory_by true (Some there) is met = readies.directory_is given t nodes table move within plan above hand ready tree on child.0 there child_is
       (ap₂ (λ x y. x && y) (same_kind there met ∙ is) is) apart met
   directory_by false there is met = ap (λ (x : Plan). x.directory) ready.asked
       ∙ ap (λ b. cond b look.there None)
-      (drop_last look.child_is_directory look.there_is_directory (not (same_child look.child look.there)) (drop_more look.there_is_directory (not (same_child look.child look.there)) is))
+      (drop_last look.child_is_directory look.there_is_directory (not (same_child look.child look.there))
+      (drop_more look.there_is_directory (not (same_child look.child look.there)) is))
 
   file_by : (meets : Bool) (there : Option ℕ) → meets_directory seen move ≡ meets → there_seen seen move ≡ there
       → plan.file ≡ cond meets None (option_map numbered_node there)

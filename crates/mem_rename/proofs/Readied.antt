@@ -22,7 +22,7 @@ use Rattle.mem_calls.specs.Table.{IsFileTable}
 use Rattle.mem_calls.specs.Held.{value_held, as_bucket, as_file, bucket_held, file_held}
 use Rattle.mem_calls.proofs.Unlinked.{apart_value}
 use Rattle.mem_calls.specs.Working.{IsWorking}
-use Rattle.mem_calls.specs.Outcome.{IsRefused}
+use Rattle.mem_calls.specs.Outcome.{IsRefusedMemory}
 use Rattle.mem_calls.proofs.ReadyBack.{works_ready, back_ready}
 use Rattle.mem_calls.proofs.PutBack.{stands_now, works_put, same_length, refused_back}
 use Rattle.mem_rename.specs.declared.sides.Move.{Move}
@@ -50,7 +50,7 @@ module _ (given : ℕ → Option OldKept) (t : TableState) (nodes : ℕ) (before
     pub works_kept : IsWorking given t mid
     works_kept = works_ready given t nodes before table work keeps.part keeps.next keeps.was keeps.same keeps.made keeps.value keeps.is mid keeps.puts
 
-    pub refused_kept : (last : Hand Cell Fact) → IsRefused t mid last → IsRefused t before last
+    pub refused_kept : (last : Hand Cell Fact) → IsRefusedMemory t mid last → IsRefusedMemory t before last
     refused_kept last refused = back_ready given t nodes before table work keeps.part keeps.next keeps.was keeps.same keeps.made keeps.value keeps.is mid keeps.puts last refused
 
   -- a core whose bucket is the same
@@ -79,7 +79,7 @@ module _ (given : ℕ → Option OldKept) (t : TableState) (nodes : ℕ) (before
     pub works_same : IsWorking given t after
     works_same = works_put given t nodes before table work (id.Bucket node number) same.change.value after (lt, small) stands same.change.puts
 
-    pub refused_same : (last : Hand Cell Fact) → IsRefused t after last → IsRefused t before last
+    pub refused_same : (last : Hand Cell Fact) → IsRefusedMemory t after last → IsRefusedMemory t before last
     refused_same last refused = refused_back t before after last
         (with_value (cell_place nodes (id.Bucket node number)) same.change.value before.held) same.change.puts
         (same_length given t nodes before table work (id.Bucket node number) same.change.value after (lt, small) stands same.change.puts) refused

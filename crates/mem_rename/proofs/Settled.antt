@@ -18,7 +18,7 @@ use Rattle.stamp_table.specs.Table.{TableState, IsBetweenCalls}
 use Rattle.mem_values.specs.declared.cell.Cell.{Cell}
 use Rattle.mem_values.specs.declared.cell_id.CellId.TheVariants as id
 use Rattle.mem_values.specs.declared.fact.Fact.{Fact}
-use Rattle.mem_calls.specs.Outcome.{IsRefused}
+use Rattle.mem_calls.specs.Outcome.{IsRefusedMemory}
 use Rattle.mem_calls.specs.Held.{as_bucket, bucket_held, HoldsPart}
 use Rattle.mem_calls.specs.Table.{IsFileTable}
 use Rattle.mem_calls.specs.Working.{IsWorking, WorksOn, StillHolds}
@@ -31,7 +31,7 @@ use Rattle.mem_rename.specs.Rounds.{IsPlanWithin, HoldsRound, SettlesRename}
 use Rattle.mem_rename.proofs.SoFar.{works_on_both, holds_still}
 use Rattle.mem_rename.proofs.Gathered.{way_stays}
 
-pub refused_same : (t : TableState) (hand : Hand Cell Fact) → IsBetweenCalls t hand → IsRefused t hand hand
+pub refused_same : (t : TableState) (hand : Hand Cell Fact) → IsBetweenCalls t hand → IsRefusedMemory t hand hand
 refused_same t hand between = record {
   between = between;
   same = record { table = refl; cores = refl; leads = refl; number = refl };
@@ -42,7 +42,7 @@ refused_same t hand between = record {
   mine = refl;
 }
 
-pub refused_both : (t : TableState) (a b c : Hand Cell Fact) → IsRefused t a b → IsRefused t b c → IsRefused t a c
+pub refused_both : (t : TableState) (a b c : Hand Cell Fact) → IsRefusedMemory t a b → IsRefusedMemory t b c → IsRefusedMemory t a c
 refused_both t a b c one two = record {
   between = two.between;
   same = record {
@@ -58,7 +58,7 @@ refused_both t a b c one two = record {
   mine = two.mine ∙ one.mine;
 }
 
-pub refused_after : (t : TableState) (a b c : Hand Cell Fact) → WorksOn a b → IsRefused t b c → IsRefused t a c
+pub refused_after : (t : TableState) (a b c : Hand Cell Fact) → WorksOn a b → IsRefusedMemory t b c → IsRefusedMemory t a c
 refused_after t a b c on two = record {
   between = two.between;
   same = record {
@@ -119,7 +119,7 @@ module _ (given : ℕ → Option OldKept) (t : TableState) (nodes : ℕ) (table 
   look_stays = λ i. look_by (bucket_stays move.directory (name_bucket move.name) (inl refl) i)
       (bucket_stays move.to_directory (name_bucket move.to_name) (inr (inl refl)) i) move
 
-  pub settled : (start : Hand Cell Fact) → IsPlanWithin nodes plan → IsRefused t start begun
+  pub settled : (start : Hand Cell Fact) → IsPlanWithin nodes plan → IsRefusedMemory t start begun
       → next ≡ plan_by (look_of (seen_of nodes hand.held move plan above) move) move → is_plan next plan ≡ true → HoldsPart nodes after
       → SettlesRename given t nodes move plan above start after
   settled start within again asked same part = record {
@@ -132,7 +132,8 @@ module _ (given : ℕ → Option OldKept) (t : TableState) (nodes : ℕ) (table 
       part = part;
       cells = λ cell among. holds_still nodes hand after cell still (round.cells cell among);
       lock = λ comes. holds_still nodes hand after id.Lock still (round.lock comes);
-      read = λ comes. way_stays given t nodes table move.to_directory.0 above hand after round.work work on still legal (round.lock comes).0 (round.lock comes).1
+      read = λ comes. way_stays given t nodes table move.to_directory.0 above hand after round.work work on still legal (round.lock comes).0
+          (round.lock comes).1
           (round.read comes).holders;
       ends = round.ends;
       asked = sym (plan_same next plan same) ∙ (asked ∙ ap (λ look. plan_by look move) (sym look_stays));

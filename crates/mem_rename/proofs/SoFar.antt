@@ -177,7 +177,8 @@ module _ (given : ℕ → Option OldKept) (t : TableState) (nodes : ℕ) (cells 
       below = higher now.view.held last (32 + 10 * nodes) so.above so.low;
       met = λ cell among. elim so.met [
         | inl first ↦
-            let le = none cell among in let place = (tree_place nodes cell (one_is_tree_cell nodes cells cell are among)).0 in absurd (omega (arith, le, first, place))
+            let le = none cell among in let place = (tree_place nodes cell (one_is_tree_cell nodes cells cell are among)).0 in
+            absurd (omega (arith, le, first, place))
         | inr met ↦ met
       ];
     }

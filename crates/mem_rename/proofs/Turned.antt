@@ -73,7 +73,8 @@ module _ (given : ℕ → Option OldKept) (t : TableState) (nodes : ℕ) (table 
 
   pub row_step : ChangesHeld nodes
       (at_bucket move.to_directory (name_bucket move.to_name) (with_row shift.child_is_directory move.to_name shift.child.0)) same_file mid0 row_hand
-  row_step = bucket_step nodes move.to_directory (name_bucket move.to_name) (with_row shift.child_is_directory move.to_name shift.child.0) mid0 row_hand within.new
+  row_step = bucket_step nodes move.to_directory (name_bucket move.to_name)
+      (with_row shift.child_is_directory move.to_name shift.child.0) mid0 row_hand within.new
       (bucket_small move.to_name) prepared.row
 
   bucket_there : (node : NodeId) (number : ℕ) → node.0 < nodes → number < 8

@@ -17,7 +17,7 @@ use Rattle.mem_values.specs.declared.cell_id.CellId.{CellId}
 use Rattle.mem_values.specs.declared.cell_id.CellId.TheVariants as id
 use Rattle.mem_values.specs.declared.fact.Fact.{Fact}
 use Rattle.mem_calls.specs.Held.{value_held, as_part, bucket_held, file_held, part_held}
-use Rattle.mem_calls.specs.Changes.{Puts, ChangesBucket, ChangesFile}
+use Rattle.mem_calls.specs.Changes.{PutsValue, ReplacesBucket, ReplacesFile}
 use Rattle.mem_rename.specs.declared.sides.Move.{Move}
 use Rattle.mem_rename.specs.declared.plans.Plan.{Plan}
 use Rattle.mem_rename.specs.declared.shifts.Shift.{Shift}
@@ -83,12 +83,12 @@ at_file (Some node) change at file = if node.0 == at.0 then change file else fil
 
 -- A bucket that is held changes so.
 pub record PutsBucket (nodes : ℕ) (node : NodeId) (number : ℕ) (by : Bucket → Bucket) (before after : Hand Cell Fact) : Type 0 where
-  pub change : ChangesBucket nodes node number before after
+  pub change : ReplacesBucket nodes node number before after
   pub is : change.new ≡ by change.old
 
 -- A file that is held changes so.
 pub record PutsFile (nodes : ℕ) (node : NodeId) (by : FileCell → FileCell) (before after : Hand Cell Fact) : Type 0 where
-  pub change : ChangesFile nodes node before after
+  pub change : ReplacesFile nodes node before after
   pub is : change.new ≡ by change.old
 
 -- neither a bucket nor a file
@@ -121,7 +121,7 @@ pub record KeepsPart (nodes : ℕ) (before after : Hand Cell Fact) : Type 0 wher
   pub value : Cell
   pub next : PartCell
   pub is : as_part value ≡ Some next
-  pub puts : Puts nodes (id.Part (record { 0 = before.view.core })) value before after
+  pub puts : PutsValue nodes (id.Part (record { 0 = before.view.core })) value before after
   pub same : IsSamePart part.log next.log
   pub made : next.made ≡ part.made
 
@@ -147,5 +147,5 @@ pub record IsPrepared (nodes : ℕ) (move : Move) (shift : Shift) (before : Hand
 
 -- the lock has this stamp, where a directory came to another one
 abbrev pub SetsLock : ℕ → Bool → Stamp → Hand Cell Fact → Hand Cell Fact → Type 0
-SetsLock nodes true stamp before after = Puts nodes id.Lock (cell.Lock (record { moved = Some stamp })) before after
+SetsLock nodes true stamp before after = PutsValue nodes id.Lock (cell.Lock (record { moved = Some stamp })) before after
 SetsLock nodes false stamp before after = after ≡ before

@@ -39,7 +39,8 @@ plan_by look move = record {
   new_file = look.stands && not look.to_stands;
   comes = if look.to_stands && not (move.directory.0 == move.to_directory.0) && look.child_is_directory then look.child else None;
   directory = if look.child_is_directory && look.there_is_directory && not (same_child look.child look.there) then look.there else None;
-  file = if is_some look.child && not look.child_is_directory && not look.there_is_directory && not (same_child look.child look.there) then look.there else None;
+  file = if is_some look.child && not look.child_is_directory && not look.there_is_directory && not
+      (same_child look.child look.there) then look.there else None;
 }
 
 -- the cell of a node as a file, where it is asked for

@@ -10,7 +10,7 @@ use Rattle.mem_values.specs.declared.cell.Cell.{Cell}
 use Rattle.mem_values.specs.declared.cell_id.CellId.TheVariants as id
 use Rattle.mem_values.specs.declared.fact.Fact.{Fact}
 use Rattle.mem_values.specs.Laws.{MayMeet}
-use Rattle.mem_calls.specs.Outcome.{IsRefused}
+use Rattle.mem_calls.specs.Outcome.{IsRefusedMemory}
 use Rattle.mem_rename.specs.Ready.{HoldsRename}
 use Rattle.mem_calls.specs.Working.{IsWorking, WorksOn}
 use Rattle.mem_rename.specs.declared.sides.Move.{Move}
@@ -43,7 +43,7 @@ pub record HoldsRound (given : ℕ → Option OldKept) (t : TableState) (nodes :
 pub record SettlesRename (given : ℕ → Option OldKept) (t : TableState) (nodes : ℕ) (move : Move) (plan : Plan) (above : List ℕ)
     (before after : Hand Cell Fact) : Type 0 where
   pub begun : Hand Cell Fact
-  pub again : IsRefused t before begun
+  pub again : IsRefusedMemory t before begun
   pub on : WorksOn begun after
   pub within : IsPlanWithin nodes plan
   pub ready : HoldsRename given t nodes move plan above after

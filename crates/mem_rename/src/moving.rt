@@ -7,7 +7,7 @@ ghost use Rattle.sfs_tree.specs.declared.reply.Reply.TheVariants as reply;
 ghost use Rattle.mem_values.specs.declared.cell_id.CellId.TheVariants as id;
 ghost use Rattle.mem_calls.specs.Table.{IsFileTable};
 ghost use Rattle.mem_calls.specs.Held.{value_held};
-ghost use Rattle.mem_calls.specs.Outcome.{IsAnswered, IsRefused};
+ghost use Rattle.mem_calls.specs.Outcome.{IsAnswered, IsRefusedMemory};
 ghost use Rattle.mem_rename.specs.Sights.{rename_call, rename_by};
 ghost use Rattle.mem_rename.specs.Holding.{HoldsCells, HoldsCell};
 ghost use Rattle.mem_rename.specs.Moving.{less_one, at_file, bucket_moved, CanChange, ChangesHeld, SetsLock};
@@ -102,7 +102,7 @@ pub(crate) fn move_child<T: Given>(
     requires spare { 0 < core.old.spare }
     requires moves { rename_by (seen_of nodes core.old.held move_ plan (map node_number above.items)) move_
         ≡ done (MovesEffect move_.directory.0 move_.name move_.to_directory.0 move_.to_name child.0) }
-    ensures { MatchResult result (λ _. IsAnswered shared.now (rename_call move_) reply.Ok core.old core.new) (λ _. IsRefused shared.now core.old core.new) }
+    ensures { MatchResult result (λ _. IsAnswered shared.now (rename_call move_) reply.Ok core.old core.new) (λ _. IsRefusedMemory shared.now core.old core.new) }
 {
     core.events_are_few();
     let comes = plan.comes.is_some();

@@ -4,7 +4,7 @@ ghost use Rattle.sfs_base.specs.Name.{bucket};
 ghost use Rattle.mem_cells.specs.Part.{IsSamePart, room_kept};
 ghost use Rattle.mem_calls.specs.Table.{IsFileTable};
 ghost use Rattle.mem_calls.specs.Held.{bucket_held, HoldsPart};
-ghost use Rattle.mem_calls.specs.Outcome.{IsRefused};
+ghost use Rattle.mem_calls.specs.Outcome.{IsRefusedMemory};
 ghost use Rattle.mem_calls.specs.Working.{IsWorking};
 ghost use Rattle.mem_rename.specs.Moving.{KeepsPart, MakesRoom, IsPrepared};
 ghost use Rattle.mem_rename.specs.Ready.{AreSidesWithin};
@@ -68,7 +68,7 @@ pub(crate) fn prepare<T: Given>(
     requires within { AreSidesWithin nodes move_.now }
     requires part { HoldsPart nodes core.old }
     requires held { IsSome (bucket_held nodes core.old.held move_.now.to_directory (bucket move_.now.to_name)) }
-    ensures { MatchResult result (λ noted. IsPrepared nodes move_.now shift core.old noted core.new) (λ _. IsRefused shared.now core.old core.new) }
+    ensures { MatchResult result (λ noted. IsPrepared nodes move_.now shift core.old noted core.new) (λ _. IsRefusedMemory shared.now core.old core.new) }
 {
     let noted = match note(alloc, move_) {
         Ok(noted) => noted,

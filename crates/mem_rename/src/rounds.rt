@@ -4,7 +4,7 @@ ghost use Rattle.sfs_tree.specs.NameRow.{node_number};
 ghost use Rattle.stamp_table.specs.Ascending.{LiesAbove};
 ghost use Rattle.stamp_table.specs.Table.{IsBetweenCalls};
 ghost use Rattle.mem_calls.specs.Table.{IsFileTable};
-ghost use Rattle.mem_calls.specs.Outcome.{IsRefused};
+ghost use Rattle.mem_calls.specs.Outcome.{IsRefusedMemory};
 ghost use Rattle.mem_calls.specs.Working.{IsWorking, WorksOn};
 ghost use Rattle.mem_rename.specs.Ready.{AreSidesWithin};
 ghost use Rattle.mem_rename.specs.Rounds.{IsPlanWithin, HoldsRound};
@@ -25,7 +25,7 @@ use std::sync::Wait;
 /// Lets go of all. No call is made.
 pub(crate) fn give_up<T: Given>(shared: &FileShared<T>, core: &mut FileCore)
     requires { IsWorking T.given shared.now core.old }
-    ensures { IsRefused shared.now core.old core.new }
+    ensures { IsRefusedMemory shared.now core.old core.new }
 {
     core.let_go(shared, 0);
 }
@@ -74,9 +74,9 @@ pub(crate) fn hold_round<R: Wait, T: Given>(
     requires plan { IsPlanWithin nodes plan }
     requires room { RENAME_CELLS ≤ core.old.room }
     ensures held { IfOk result (λ way. MatchOption way
-        (IsRefused shared.now core.old core.new)
+        (IsRefusedMemory shared.now core.old core.new)
         (λ above. HoldsRound T.given shared.now nodes move_.now plan (map node_number above.items) core.old core.new)) }
-    ensures refused { IfErr result (λ fault. IsRefused shared.now core.old core.new) }
+    ensures refused { IfErr result (λ fault. IsRefusedMemory shared.now core.old core.new) }
 {
     let cells = asked(alloc, move_, plan)?;
     let comes = plan.comes.is_some();

@@ -7,7 +7,7 @@ ghost use Rattle.stamp_table.specs.Events.{calls_in};
 ghost use Rattle.stamp_table.specs.Table.{IsBetweenCalls};
 ghost use Rattle.mem_calls.specs.Table.{IsFileTable};
 ghost use Rattle.mem_calls.specs.Held.{HoldsPart};
-ghost use Rattle.mem_calls.specs.Outcome.{IsRefused};
+ghost use Rattle.mem_calls.specs.Outcome.{IsRefusedMemory};
 ghost use Rattle.mem_calls.specs.Working.{IsWorking, WorksOn, StillHolds};
 ghost use Rattle.mem_rename.specs.Sights.{rename_by};
 ghost use Rattle.mem_rename.specs.Decisions.{verdict_of};
@@ -69,7 +69,7 @@ pub(crate) fn settle<R: Wait, T: Given, G: Gate>(
     requires room { RENAME_CELLS ≤ core.old.room }
     ensures { MatchResult result
         (λ held. SettlesRename T.given shared.now nodes move_.now held.0 (map node_number held.1.items) core.old core.new)
-        (λ fault. IsRefused shared.now core.old core.new) }
+        (λ fault. IsRefusedMemory shared.now core.old core.new) }
 {
     let mut plan = Plan::none();
     for _ in rt.forever() {

@@ -6,7 +6,7 @@ use Rattle.mem_values.specs.declared.cell.Cell.TheVariants as cell
 use Rattle.mem_values.specs.declared.cell_id.CellId.TheVariants as id
 use Rattle.mem_values.specs.declared.bucket.Bucket.{Bucket}
 use Rattle.mem_calls.specs.Held.{value_held, bucket_held}
-use Rattle.mem_calls.specs.Changes.{Puts, IsWithRow}
+use Rattle.mem_calls.specs.Changes.{PutsValue, IsWithRow}
 use Rattle.mem_calls.proofs.Left.{known_home, refused}
 use Rattle.mem_calls.proofs.Comings.{bucket_there, same_bucket, row_free, directory_free, at_there, part_back}
 use Rattle.mem_calls.proofs.ComingBack.{IsBack, works_again, back_again}
@@ -34,7 +34,8 @@ with_row-bucket-requires-clause-directory g c =
 
 pub put_bucket-requires : goal.put_bucket-requires
 put_bucket-requires g c =
-    let taken = subst (λ n. Puts c.args.nodes (id.Bucket c.args.dir n) c.take_bucket-taken.ensures.held.0 c.make_ready.new.core c.take_bucket-taken.new.core)
+    let taken = subst (λ n. PutsValue c.args.nodes
+    (id.Bucket c.args.dir n) c.take_bucket-taken.ensures.held.0 c.make_ready.new.core c.take_bucket-taken.new.core)
     c.bucket_of-number.ensures c.take_bucket-taken.ensures.held.1 in
     subst (λ n. IsSome (value_held c.args.nodes c.take_bucket-taken.new.core.held (id.Bucket c.args.dir n))) (sym c.bucket_of-number.ensures)
     (at_there c.args.nodes c.args.core.now c.args.dir c.args.name.now c.requires.free c.requires.part c.in_ok-ready.ready c.make_ready.new.core c.in_ok-ready.ensures
@@ -42,9 +43,10 @@ put_bucket-requires g c =
 
 pub put_part-requires : goal.put_part-requires
 put_part-requires g c =
-    let taken = subst (λ n. Puts c.args.nodes (id.Bucket c.args.dir n) c.take_bucket-taken.ensures.held.0 c.make_ready.new.core c.take_bucket-taken.new.core)
+    let taken = subst (λ n. PutsValue c.args.nodes
+    (id.Bucket c.args.dir n) c.take_bucket-taken.ensures.held.0 c.make_ready.new.core c.take_bucket-taken.new.core)
     c.bucket_of-number.ensures c.take_bucket-taken.ensures.held.1 in
-    let puts = subst (λ n. Puts c.args.nodes (id.Bucket c.args.dir n)
+    let puts = subst (λ n. PutsValue c.args.nodes (id.Bucket c.args.dir n)
     (cell.Bucket c.with_row-bucket.result.0) c.take_bucket-taken.new.core c.put_bucket.new.core)
     c.bucket_of-number.ensures c.put_bucket.ensures in
     part_back c.args.nodes c.args.core.now c.args.dir c.args.name.now c.requires.free c.requires.part c.in_ok-ready.ready c.make_ready.new.core c.in_ok-ready.ensures
@@ -52,9 +54,10 @@ put_part-requires g c =
 
 pub let_go-requires-clause-home : goal.let_go-requires-clause-home
 let_go-requires-clause-home g c =
-    let taken = subst (λ n. Puts c.args.nodes (id.Bucket c.args.dir n) c.take_bucket-taken.ensures.held.0 c.make_ready.new.core c.take_bucket-taken.new.core)
+    let taken = subst (λ n. PutsValue c.args.nodes
+    (id.Bucket c.args.dir n) c.take_bucket-taken.ensures.held.0 c.make_ready.new.core c.take_bucket-taken.new.core)
     c.bucket_of-number.ensures c.take_bucket-taken.ensures.held.1 in
-    let puts = subst (λ n. Puts c.args.nodes (id.Bucket c.args.dir n)
+    let puts = subst (λ n. PutsValue c.args.nodes (id.Bucket c.args.dir n)
     (cell.Bucket c.with_row-bucket.result.0) c.take_bucket-taken.new.core c.put_bucket.new.core)
     c.bucket_of-number.ensures c.put_bucket.ensures in
     let back : IsBack c.args.nodes c.args.core.now c.args.dir c.args.name.now c.in_ok-ready.ready c.make_ready.new.core c.put_part.new.core = record {
@@ -78,9 +81,10 @@ let_go-requires-clause-home g c =
 
 pub returns-in-Err : goal.returns-in-Err
 returns-in-Err g c =
-    let taken = subst (λ n. Puts c.args.nodes (id.Bucket c.args.dir n) c.take_bucket-taken.ensures.held.0 c.make_ready.new.core c.take_bucket-taken.new.core)
+    let taken = subst (λ n. PutsValue c.args.nodes
+    (id.Bucket c.args.dir n) c.take_bucket-taken.ensures.held.0 c.make_ready.new.core c.take_bucket-taken.new.core)
     c.bucket_of-number.ensures c.take_bucket-taken.ensures.held.1 in
-    let puts = subst (λ n. Puts c.args.nodes (id.Bucket c.args.dir n)
+    let puts = subst (λ n. PutsValue c.args.nodes (id.Bucket c.args.dir n)
     (cell.Bucket c.with_row-bucket.result.0) c.take_bucket-taken.new.core c.put_bucket.new.core)
     c.bucket_of-number.ensures c.put_bucket.ensures in
     let back : IsBack c.args.nodes c.args.core.now c.args.dir c.args.name.now c.in_ok-ready.ready c.make_ready.new.core c.put_part.new.core = record {
@@ -114,7 +118,7 @@ returns-in-Ok g c =
       ready = c.in_ok-ready.ensures;
       out = (
         c.take_bucket-taken.ensures.held.0,
-        subst (λ n. Puts c.args.nodes (id.Bucket c.args.dir n) c.take_bucket-taken.ensures.held.0 c.make_ready.new.core c.take_bucket-taken.new.core)
+        subst (λ n. PutsValue c.args.nodes (id.Bucket c.args.dir n) c.take_bucket-taken.ensures.held.0 c.make_ready.new.core c.take_bucket-taken.new.core)
             c.bucket_of-number.ensures c.take_bucket-taken.ensures.held.1,
       );
       old = c.requires.free.bucket_of;

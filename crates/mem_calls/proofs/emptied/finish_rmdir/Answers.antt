@@ -24,8 +24,10 @@ use Rattle.mem_calls.proofs.emptied.finish_rmdir.Goals as goal
 
 pub stamp-stamp-requires-clause-may : goal.stamp-stamp-requires-clause-may
 stamp-stamp-requires-clause-may g c =
-    subst (λ (h : Hand Cell Fact). MayCall (IsLawfulLog g.T.Given.given) (StandsAt g.T.Given.given) h.view (call.Rmdir c.args.dir c.args.name) reply.Ok) (sym c.in_ok-ready.ensures.out.1)
-    (may_come g.T.Given.given c.args.shared.now c.args.nodes c.args.core.now c.requires.table c.requires.work (call.Rmdir c.args.dir c.args.name) (done (Removes c.args.dir.0 c.args.name c.args.child.0)) refl c.requires.due
+    subst (λ (h : Hand Cell Fact). MayCall (IsLawfulLog g.T.Given.given) (StandsAt g.T.Given.given) h.view (call.Rmdir c.args.dir c.args.name) reply.Ok)
+    (sym c.in_ok-ready.ensures.out.1)
+    (may_come g.T.Given.given c.args.shared.now c.args.nodes c.args.core.now c.requires.table c.requires.work (call.Rmdir c.args.dir c.args.name)
+    (done (Removes c.args.dir.0 c.args.name c.args.child.0)) refl c.requires.due
     (keeps g.T.Given.given c.args.shared.now c.args.nodes c.args.core.now c.requires.table c.requires.work c.args.dir c.args.name c.args.child c.requires.names c.requires.held.0 c.requires.held.1 c.requires.part c.requires.due))
 
 pub remove_row-requires-clause-held : goal.remove_row-requires-clause-held
@@ -41,7 +43,8 @@ remove_row-requires-clause-held g c =
       is_ready = c.in_ok-ready.ensures;
       drawn = c.stamp-stamp.ensures;
     } in
-    subst (λ n. IsSome (bucket_held c.args.nodes c.stamp-stamp.new.self.held c.args.dir n)) (sym c.bucket_of-number.ensures) (bucket_there g.T.Given.given c.args.shared.now c.args.nodes c.args.core.now c.args.dir c.args.name c.args.child c.in_ok-ready.ready c.make_ready.new.core c.stamp-stamp.result.0 c.stamp-stamp.new.self r)
+    subst (λ n. IsSome (bucket_held c.args.nodes c.stamp-stamp.new.self.held c.args.dir n)) (sym c.bucket_of-number.ensures)
+    (bucket_there g.T.Given.given c.args.shared.now c.args.nodes c.args.core.now c.args.dir c.args.name c.args.child c.in_ok-ready.ready c.make_ready.new.core c.stamp-stamp.result.0 c.stamp-stamp.new.self r)
 
 pub remove_row-requires-clause-row : goal.remove_row-requires-clause-row
 remove_row-requires-clause-row g c = λ b is.
@@ -56,7 +59,8 @@ remove_row-requires-clause-row g c = λ b is.
       is_ready = c.in_ok-ready.ensures;
       drawn = c.stamp-stamp.ensures;
     } in
-    subst (λ n. IsSome (get b.rows n)) (sym c.in_ok-ready.ensures.name_is) (row_there g.T.Given.given c.args.shared.now c.args.nodes c.args.core.now c.args.dir c.args.name c.args.child c.in_ok-ready.ready c.make_ready.new.core c.stamp-stamp.result.0 c.stamp-stamp.new.self r b (ap (λ n. bucket_held c.args.nodes c.stamp-stamp.new.self.held c.args.dir n) (sym c.bucket_of-number.ensures) ∙ is))
+    subst (λ n. IsSome (get b.rows n)) (sym c.in_ok-ready.ensures.name_is)
+    (row_there g.T.Given.given c.args.shared.now c.args.nodes c.args.core.now c.args.dir c.args.name c.args.child c.in_ok-ready.ready c.make_ready.new.core c.stamp-stamp.result.0 c.stamp-stamp.new.self r b (ap (λ n. bucket_held c.args.nodes c.stamp-stamp.new.self.held c.args.dir n) (sym c.bucket_of-number.ensures) ∙ is))
 
 pub place_directory-requires : goal.place_directory-requires
 place_directory-requires g c =
@@ -71,7 +75,8 @@ place_directory-requires g c =
       is_ready = c.in_ok-ready.ensures;
       drawn = c.stamp-stamp.ensures;
     } in
-    let gone = subst (λ n. RemovesRow c.args.nodes c.args.dir n c.args.name c.stamp-stamp.new.self c.remove_row.new.core) c.bucket_of-number.ensures (subst (λ n. RemovesRow c.args.nodes c.args.dir c.bucket_of-number.result n c.stamp-stamp.new.self c.remove_row.new.core) c.in_ok-ready.ensures.name_is c.remove_row.ensures) in
+    let gone = subst (λ n. RemovesRow c.args.nodes c.args.dir n c.args.name c.stamp-stamp.new.self c.remove_row.new.core) c.bucket_of-number.ensures
+    (subst (λ n. RemovesRow c.args.nodes c.args.dir c.bucket_of-number.result n c.stamp-stamp.new.self c.remove_row.new.core) c.in_ok-ready.ensures.name_is c.remove_row.ensures) in
     buckets_there g.T.Given.given c.args.shared.now c.args.nodes c.args.core.now c.args.dir c.args.name c.args.child c.in_ok-ready.ready c.make_ready.new.core c.stamp-stamp.result.0 c.stamp-stamp.new.self r c.remove_row.new.core gone
 
 pub with_entry-requires : goal.with_entry-requires
@@ -87,8 +92,10 @@ with_entry-requires g c =
       is_ready = c.in_ok-ready.ensures;
       drawn = c.stamp-stamp.ensures;
     } in
-    let change = c.removed_row-change.ensures ∙ ap (λ n. log_entry c.stamp-stamp.result.0 c.args.dir.0 n c.args.child.0 Directory Remove None [] ∷ []) c.in_ok-ready.ensures.name_is in
-    subst (λ l. HasRoomFor l c.in_ok-ready.ready.part.value) (sym change) (has_room g.T.Given.given c.args.shared.now c.args.nodes c.args.core.now c.args.dir c.args.name c.args.child c.in_ok-ready.ready c.make_ready.new.core c.stamp-stamp.result.0 c.stamp-stamp.new.self r c.events_are_few.ensures)
+    let change = c.removed_row-change.ensures
+    ∙ ap (λ n. log_entry c.stamp-stamp.result.0 c.args.dir.0 n c.args.child.0 Directory Remove None [] ∷ []) c.in_ok-ready.ensures.name_is in
+    subst (λ l. HasRoomFor l c.in_ok-ready.ready.part.value) (sym change)
+    (has_room g.T.Given.given c.args.shared.now c.args.nodes c.args.core.now c.args.dir c.args.name c.args.child c.in_ok-ready.ready c.make_ready.new.core c.stamp-stamp.result.0 c.stamp-stamp.new.self r c.events_are_few.ensures)
 
 pub put_part-requires : goal.put_part-requires
 put_part-requires g c =
@@ -103,7 +110,8 @@ put_part-requires g c =
       is_ready = c.in_ok-ready.ensures;
       drawn = c.stamp-stamp.ensures;
     } in
-    let gone = subst (λ n. RemovesRow c.args.nodes c.args.dir n c.args.name c.stamp-stamp.new.self c.remove_row.new.core) c.bucket_of-number.ensures (subst (λ n. RemovesRow c.args.nodes c.args.dir c.bucket_of-number.result n c.stamp-stamp.new.self c.remove_row.new.core) c.in_ok-ready.ensures.name_is c.remove_row.ensures) in
+    let gone = subst (λ n. RemovesRow c.args.nodes c.args.dir n c.args.name c.stamp-stamp.new.self c.remove_row.new.core) c.bucket_of-number.ensures
+    (subst (λ n. RemovesRow c.args.nodes c.args.dir c.bucket_of-number.result n c.stamp-stamp.new.self c.remove_row.new.core) c.in_ok-ready.ensures.name_is c.remove_row.ensures) in
     subst (λ (n : ℕ). IsSome (value_held c.args.nodes c.place_directory.new.core.held (id.Part (record { 0 = n }))))
     (sym (core_three g.T.Given.given c.args.shared.now c.args.nodes c.args.core.now c.args.dir c.args.name c.args.child c.in_ok-ready.ready c.make_ready.new.core c.stamp-stamp.result.0 c.stamp-stamp.new.self r c.remove_row.new.core gone c.place_directory.new.core c.place_directory.ensures)) (part_there g.T.Given.given c.args.shared.now c.args.nodes c.args.core.now c.args.dir c.args.name c.args.child c.in_ok-ready.ready c.make_ready.new.core c.stamp-stamp.result.0 c.stamp-stamp.new.self r c.remove_row.new.core gone c.place_directory.new.core c.place_directory.ensures)
 
@@ -120,8 +128,10 @@ let_go-requires-clause-home g c =
       is_ready = c.in_ok-ready.ensures;
       drawn = c.stamp-stamp.ensures;
     } in
-    let gone = subst (λ n. RemovesRow c.args.nodes c.args.dir n c.args.name c.stamp-stamp.new.self c.remove_row.new.core) c.bucket_of-number.ensures (subst (λ n. RemovesRow c.args.nodes c.args.dir c.bucket_of-number.result n c.stamp-stamp.new.self c.remove_row.new.core) c.in_ok-ready.ensures.name_is c.remove_row.ensures) in
-    let change = c.removed_row-change.ensures ∙ ap (λ n. log_entry c.stamp-stamp.result.0 c.args.dir.0 n c.args.child.0 Directory Remove None [] ∷ []) c.in_ok-ready.ensures.name_is in
+    let gone = subst (λ n. RemovesRow c.args.nodes c.args.dir n c.args.name c.stamp-stamp.new.self c.remove_row.new.core) c.bucket_of-number.ensures
+    (subst (λ n. RemovesRow c.args.nodes c.args.dir c.bucket_of-number.result n c.stamp-stamp.new.self c.remove_row.new.core) c.in_ok-ready.ensures.name_is c.remove_row.ensures) in
+    let change = c.removed_row-change.ensures
+    ∙ ap (λ n. log_entry c.stamp-stamp.result.0 c.args.dir.0 n c.args.child.0 Directory Remove None [] ∷ []) c.in_ok-ready.ensures.name_is in
     let added = subst (λ l. IsAddedTo c.in_ok-ready.ready.part.value.log l c.with_entry.result.value.log) change c.with_entry.ensures.log in
     let puts = c.put_part.ensures.2
     ∙ ap (λ (n : ℕ). record c.place_directory.new.core
@@ -142,8 +152,10 @@ returns g c =
       is_ready = c.in_ok-ready.ensures;
       drawn = c.stamp-stamp.ensures;
     } in
-    let gone = subst (λ n. RemovesRow c.args.nodes c.args.dir n c.args.name c.stamp-stamp.new.self c.remove_row.new.core) c.bucket_of-number.ensures (subst (λ n. RemovesRow c.args.nodes c.args.dir c.bucket_of-number.result n c.stamp-stamp.new.self c.remove_row.new.core) c.in_ok-ready.ensures.name_is c.remove_row.ensures) in
-    let change = c.removed_row-change.ensures ∙ ap (λ n. log_entry c.stamp-stamp.result.0 c.args.dir.0 n c.args.child.0 Directory Remove None [] ∷ []) c.in_ok-ready.ensures.name_is in
+    let gone = subst (λ n. RemovesRow c.args.nodes c.args.dir n c.args.name c.stamp-stamp.new.self c.remove_row.new.core) c.bucket_of-number.ensures
+    (subst (λ n. RemovesRow c.args.nodes c.args.dir c.bucket_of-number.result n c.stamp-stamp.new.self c.remove_row.new.core) c.in_ok-ready.ensures.name_is c.remove_row.ensures) in
+    let change = c.removed_row-change.ensures
+    ∙ ap (λ n. log_entry c.stamp-stamp.result.0 c.args.dir.0 n c.args.child.0 Directory Remove None [] ∷ []) c.in_ok-ready.ensures.name_is in
     let added = subst (λ l. IsAddedTo c.in_ok-ready.ready.part.value.log l c.with_entry.result.value.log) change c.with_entry.ensures.log in
     let puts = c.put_part.ensures.2
     ∙ ap (λ (n : ℕ). record c.place_directory.new.core

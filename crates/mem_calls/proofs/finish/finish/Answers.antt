@@ -9,8 +9,10 @@ use Rattle.mem_calls.proofs.finish.finish.Goals as goal
 
 pub stamp-requires-clause-may : goal.stamp-requires-clause-may
 stamp-requires-clause-may g c =
-    may_come g.T.Given.given c.args.shared.now c.args.nodes c.args.core.now c.requires.table c.requires.work c.args.call (answered c.args.reply) c.requires.call c.requires.due
-    (λ tree meets which is_cell. nothing_or_part c.args.nodes c.args.core.now tree c.args.call which (does_nothing (verdict tree c.args.core.now.view.core c.args.call) c.args.reply (c.requires.due tree meets)) c.requires.part)
+    may_come g.T.Given.given c.args.shared.now c.args.nodes c.args.core.now c.requires.table c.requires.work c.args.call
+    (answered c.args.reply) c.requires.call c.requires.due
+    (λ tree meets which is_cell. nothing_or_part c.args.nodes c.args.core.now tree c.args.call which
+    (does_nothing (verdict tree c.args.core.now.view.core c.args.call) c.args.reply (c.requires.due tree meets)) c.requires.part)
 
 pub add_entry-requires-clause-may : goal.add_entry-requires-clause-may
 add_entry-requires-clause-may g c =

@@ -21,13 +21,15 @@ returns-then-file_in-gt0-clause-fault c = λ tree meets.
 pub returns-then-is_standing-clause-fault : goal.returns-then-is_standing-clause-fault
 returns-then-is_standing-clause-fault c = λ tree meets.
     let within = c.if-node-nodes.false in
-    let shows = bucket_shows c.args.core.now c.args.nodes c.requires.counted tree meets c.args.node 0 c.bucket_in.result.now within (omega arith) c.bucket_in.ensures in
+    let shows = bucket_shows c.args.core.now c.args.nodes c.requires.counted tree meets c.args.node 0 c.bucket_in.result.now within
+    (omega arith) c.bucket_in.ensures in
     sym (file_fault_standing tree meets.sound c.args.node 0 c.bucket_in.result.now shows (sym c.if-is_standing.ensures))
 
 pub returns-else-is_standing-clause-fault : goal.returns-else-is_standing-clause-fault
 returns-else-is_standing-clause-fault c = λ tree meets.
     let within = c.if-node-nodes.false in
-    let shows = bucket_shows c.args.core.now c.args.nodes c.requires.counted tree meets c.args.node 0 c.bucket_in.result.now within (omega arith) c.bucket_in.ensures in
+    let shows = bucket_shows c.args.core.now c.args.nodes c.requires.counted tree meets c.args.node 0 c.bucket_in.result.now within
+    (omega arith) c.bucket_in.ensures in
     let file = file_shows c.args.core.now c.args.nodes c.requires.counted tree meets c.args.node c.file_in.result.now within c.file_in.ensures in
     let links = file.0 in
     let none = c.if-file_in-gt0.false in

@@ -18,7 +18,8 @@ loop-number-preserved g c =
       buckets = below_more (λ k. IsSome (bucket_held c.args.nodes c.hold_more.new.core.held c.args.node k)) c.loop-number.number
           (λ k lt.
           let b = is_value (bucket_held c.args.nodes c.loop-number.core.held c.args.node k) (inv.buckets k lt) in
-          some_of (bucket_held c.args.nodes c.hold_more.new.core.held c.args.node k) b.0 (still_bucket c.args.nodes c.loop-number.core c.hold_more.new.core c.args.node k b.0 gains.still b.1))
+          some_of (bucket_held c.args.nodes c.hold_more.new.core.held c.args.node k) b.0
+          (still_bucket c.args.nodes c.loop-number.core c.hold_more.new.core c.args.node k b.0 gains.still b.1))
           (holds_bucket c.args.nodes c.loop-number.core c.hold_more.new.core c.args.node c.loop-number.number gains);
       above = subst (LiesAbove (16 + 9 * c.args.node.0 + (c.loop-number.number + 1))) (sym gains.top) (next c.args.node.0 c.loop-number.number);
       low = subst (LiesAbove (32 + 10 * c.args.nodes)) (sym gains.top) (under c.args.node.0 c.args.nodes c.loop-number.number within less);

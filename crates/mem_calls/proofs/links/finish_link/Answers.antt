@@ -17,7 +17,7 @@ use Rattle.mem_values.specs.Stands.{StandsAt}
 use Rattle.mem_values.specs.Facts.{IsLawfulLog}
 use Rattle.mem_calls.specs.Held.{value_held}
 use Rattle.mem_calls.specs.Parts.{HasRoomFor}
-use Rattle.mem_calls.specs.Changes.{Puts}
+use Rattle.mem_calls.specs.Changes.{PutsValue}
 use Rattle.mem_calls.proofs.Stamped.{may_come}
 use Rattle.mem_calls.proofs.Comings.{out_is}
 use Rattle.mem_calls.proofs.Linked.{linking, keeps, bucket_out, has_room, file_there, links_few, part_there, goes_home, answers}
@@ -41,14 +41,16 @@ put_bucket-requires g c =
 pub raise_links-requires-clause-held : goal.raise_links-requires-clause-held
 raise_links-requires-clause-held g c =
     let r = linking c.requires.table c.requires.work c.requires.may c.requires.part c.requires.due c.in_ok-coming.ensures c.stamp-stamp.ensures in
-    let puts = subst (λ n. Puts c.args.nodes (id.Bucket c.args.dir n) (cell.Bucket c.in_ok-coming.coming.bucket) c.stamp-stamp.new.self c.put_bucket.new.core)
+    let puts = subst (λ n. PutsValue c.args.nodes (id.Bucket c.args.dir n)
+    (cell.Bucket c.in_ok-coming.coming.bucket) c.stamp-stamp.new.self c.put_bucket.new.core)
     c.bucket_of-number.ensures c.put_bucket.ensures in
     file_there r (cell.Bucket c.in_ok-coming.coming.bucket) c.put_bucket.new.core puts
 
 pub raise_links-requires-clause-links : goal.raise_links-requires-clause-links
 raise_links-requires-clause-links g c =
     let r = linking c.requires.table c.requires.work c.requires.may c.requires.part c.requires.due c.in_ok-coming.ensures c.stamp-stamp.ensures in
-    let puts = subst (λ n. Puts c.args.nodes (id.Bucket c.args.dir n) (cell.Bucket c.in_ok-coming.coming.bucket) c.stamp-stamp.new.self c.put_bucket.new.core)
+    let puts = subst (λ n. PutsValue c.args.nodes (id.Bucket c.args.dir n)
+    (cell.Bucket c.in_ok-coming.coming.bucket) c.stamp-stamp.new.self c.put_bucket.new.core)
     c.bucket_of-number.ensures c.put_bucket.ensures in
     links_few r (cell.Bucket c.in_ok-coming.coming.bucket) c.put_bucket.new.core puts
 
@@ -62,14 +64,16 @@ with_entry-requires g c =
 pub put_part-requires : goal.put_part-requires
 put_part-requires g c =
     let r = linking c.requires.table c.requires.work c.requires.may c.requires.part c.requires.due c.in_ok-coming.ensures c.stamp-stamp.ensures in
-    let puts = subst (λ n. Puts c.args.nodes (id.Bucket c.args.dir n) (cell.Bucket c.in_ok-coming.coming.bucket) c.stamp-stamp.new.self c.put_bucket.new.core)
+    let puts = subst (λ n. PutsValue c.args.nodes (id.Bucket c.args.dir n)
+    (cell.Bucket c.in_ok-coming.coming.bucket) c.stamp-stamp.new.self c.put_bucket.new.core)
     c.bucket_of-number.ensures c.put_bucket.ensures in
     part_there r (cell.Bucket c.in_ok-coming.coming.bucket) c.put_bucket.new.core puts c.raise_links.new.core c.raise_links.ensures
 
 pub let_go-requires-clause-home : goal.let_go-requires-clause-home
 let_go-requires-clause-home g c =
     let r = linking c.requires.table c.requires.work c.requires.may c.requires.part c.requires.due c.in_ok-coming.ensures c.stamp-stamp.ensures in
-    let puts = subst (λ n. Puts c.args.nodes (id.Bucket c.args.dir n) (cell.Bucket c.in_ok-coming.coming.bucket) c.stamp-stamp.new.self c.put_bucket.new.core)
+    let puts = subst (λ n. PutsValue c.args.nodes (id.Bucket c.args.dir n)
+    (cell.Bucket c.in_ok-coming.coming.bucket) c.stamp-stamp.new.self c.put_bucket.new.core)
     c.bucket_of-number.ensures c.put_bucket.ensures in
     let change = c.added_row-change.ensures
     ∙ ap (λ n. log_entry c.stamp-stamp.result.0 c.args.dir.0 n c.args.file.0 File Add None [] ∷ []) c.in_ok-coming.ensures.ready.name_is in
@@ -80,7 +84,8 @@ let_go-requires-clause-home g c =
 pub returns : goal.returns
 returns g c =
     let r = linking c.requires.table c.requires.work c.requires.may c.requires.part c.requires.due c.in_ok-coming.ensures c.stamp-stamp.ensures in
-    let puts = subst (λ n. Puts c.args.nodes (id.Bucket c.args.dir n) (cell.Bucket c.in_ok-coming.coming.bucket) c.stamp-stamp.new.self c.put_bucket.new.core)
+    let puts = subst (λ n. PutsValue c.args.nodes (id.Bucket c.args.dir n)
+    (cell.Bucket c.in_ok-coming.coming.bucket) c.stamp-stamp.new.self c.put_bucket.new.core)
     c.bucket_of-number.ensures c.put_bucket.ensures in
     let change = c.added_row-change.ensures
     ∙ ap (λ n. log_entry c.stamp-stamp.result.0 c.args.dir.0 n c.args.file.0 File Add None [] ∷ []) c.in_ok-coming.ensures.ready.name_is in

@@ -12,7 +12,8 @@ returns-then-file-dir-clause-held g c = record {
 
 pub returns-then-file-nodes-clause-held : goal.returns-then-file-nodes-clause-held
 returns-then-file-nodes-clause-held g c = record {
-  place = still_directory c.args.nodes c.hold_more.new.core c.hold_more-then-file-nodes.new.core c.args.dir (bucket c.args.name.now) c.hold_more-then-file-nodes.ensures.gains.still
+  place = still_directory c.args.nodes c.hold_more.new.core c.hold_more-then-file-nodes.new.core c.args.dir
+      (bucket c.args.name.now) c.hold_more-then-file-nodes.ensures.gains.still
       (still_directory c.args.nodes c.hold_directory-2.new.core c.hold_more.new.core c.args.dir (bucket c.args.name.now) c.hold_more.ensures.gains.still
       (subst (λ n. HoldsDirectory c.args.nodes c.hold_directory-2.new.core.held c.args.dir n) c.bucket_of-number.ensures c.hold_directory-2.ensures.directory));
   other = λ apart. first_and_file c.args.nodes c.hold_more.new.core c.hold_more-then-file-nodes.new.core c.args.file

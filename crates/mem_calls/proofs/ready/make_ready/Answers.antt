@@ -17,13 +17,16 @@ put-requires g c =
     let number : c.number.result.0 ≡ c.args.core.now.view.core = c.number.ensures ∙ ap (λ (h : Hand Cell Fact). h.view.core) c.take_part.ensures.held.1 in
     subst (λ (n : ℕ). IsSome (value_held c.args.nodes c.take_part.new.core.held (id.Part (record { 0 = n })))) (sym number)
     (put_there c.args.nodes c.args.core.now c.take_part.new.core (id.Part (record { 0 = c.args.core.now.view.core })) c.take_part.ensures.held.0
-    (some_first as_part (value_held c.args.nodes c.args.core.now.held (id.Part (record { 0 = c.args.core.now.view.core }))) c.requires.part) c.take_part.ensures.held.1)
+    (some_first as_part (value_held c.args.nodes c.args.core.now.held
+    (id.Part (record { 0 = c.args.core.now.view.core }))) c.requires.part) c.take_part.ensures.held.1)
 
 pub let_go-requires-clause-home : goal.let_go-requires-clause-home
 let_go-requires-clause-home g c =
     let number : c.number.result.0 ≡ c.args.core.now.view.core = c.number.ensures ∙ ap (λ (h : Hand Cell Fact). h.view.core) c.take_part.ensures.held.1 in
-    let puts = put_twice c.args.nodes c.args.core.now c.take_part.new.core c.put.new.core (id.Part (record { 0 = c.args.core.now.view.core })) c.take_part.ensures.held.0 (cell.Part c.with_room-part.result.0) c.take_part.ensures.held.1
-    (c.put.ensures ∙ ap (λ (n : ℕ). record c.take_part.new.core { held = with_value (32 + 10 * c.args.nodes + 16 * n) (cell.Part c.with_room-part.result.0) c.take_part.new.core.held }) number) in
+    let puts = put_twice c.args.nodes c.args.core.now c.take_part.new.core c.put.new.core
+    (id.Part (record { 0 = c.args.core.now.view.core })) c.take_part.ensures.held.0 (cell.Part c.with_room-part.result.0) c.take_part.ensures.held.1
+    (c.put.ensures ∙ ap (λ (n : ℕ). record c.take_part.new.core
+    { held = with_value (32 + 10 * c.args.nodes + 16 * n) (cell.Part c.with_room-part.result.0) c.take_part.new.core.held }) number) in
     known_home g.T.Given.given c.put.new.core.view c.put.new.core.held
     (works_ready g.T.Given.given c.args.shared.now c.args.nodes c.args.core.now c.requires.table c.requires.work c.take_part.result.value c.with_room-part.result.0.value c.take_part.ensures.part c.with_room-part.ensures.same c.with_room-part.ensures.made
     (cell.Part c.with_room-part.result.0) refl c.put.new.core puts).knows
@@ -31,8 +34,10 @@ let_go-requires-clause-home g c =
 pub returns-in-Err-outcome : goal.returns-in-Err-outcome
 returns-in-Err-outcome g c =
     let number : c.number.result.0 ≡ c.args.core.now.view.core = c.number.ensures ∙ ap (λ (h : Hand Cell Fact). h.view.core) c.take_part.ensures.held.1 in
-    let puts = put_twice c.args.nodes c.args.core.now c.take_part.new.core c.put.new.core (id.Part (record { 0 = c.args.core.now.view.core })) c.take_part.ensures.held.0 (cell.Part c.with_room-part.result.0) c.take_part.ensures.held.1
-    (c.put.ensures ∙ ap (λ (n : ℕ). record c.take_part.new.core { held = with_value (32 + 10 * c.args.nodes + 16 * n) (cell.Part c.with_room-part.result.0) c.take_part.new.core.held }) number) in
+    let puts = put_twice c.args.nodes c.args.core.now c.take_part.new.core c.put.new.core
+    (id.Part (record { 0 = c.args.core.now.view.core })) c.take_part.ensures.held.0 (cell.Part c.with_room-part.result.0) c.take_part.ensures.held.1
+    (c.put.ensures ∙ ap (λ (n : ℕ). record c.take_part.new.core
+    { held = with_value (32 + 10 * c.args.nodes + 16 * n) (cell.Part c.with_room-part.result.0) c.take_part.new.core.held }) number) in
     let works = works_ready g.T.Given.given c.args.shared.now c.args.nodes c.args.core.now c.requires.table c.requires.work c.take_part.result.value c.with_room-part.result.0.value c.take_part.ensures.part c.with_room-part.ensures.same c.with_room-part.ensures.made
     (cell.Part c.with_room-part.result.0) refl c.put.new.core puts in
     back_ready g.T.Given.given c.args.shared.now c.args.nodes c.args.core.now c.requires.table c.requires.work c.take_part.result.value c.with_room-part.result.0.value c.take_part.ensures.part c.with_room-part.ensures.same c.with_room-part.ensures.made

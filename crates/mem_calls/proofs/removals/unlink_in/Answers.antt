@@ -11,18 +11,21 @@ returns-in_default-get-clause-due c = λ tree meets.
     let within = c.directory_fault_in.ensures.within c.in_default.is in
     let shows = name_shows c.args.core.now c.args.nodes c.requires.counted tree meets c.args.dir c.args.name.now c.bucket_of-number.result c.bucket_in-bucket.result.now within c.bucket_of-number.ensures c.bucket_in-bucket.ensures in
     let fault = sym (c.directory_fault_in.ensures.fault tree meets) ∙ c.in_default.is in
-    unlink_missed tree c.args.core.now.view.core c.args.dir c.args.name.now c.bucket_in-bucket.result.now shows fault (sym c.get.ensures ∙ ap Rattle.sfs_tree.specs.NameRow.number_of c.in_default-get.is)
+    unlink_missed tree c.args.core.now.view.core c.args.dir c.args.name.now c.bucket_in-bucket.result.now shows fault
+    (sym c.get.ensures ∙ ap Rattle.sfs_tree.specs.NameRow.number_of c.in_default-get.is)
 
 pub returns-then-is_some-clause-due : goal.returns-then-is_some-clause-due
 returns-then-is_some-clause-due c = λ tree meets.
     let within = c.directory_fault_in.ensures.within c.in_default.is in
     let shows = name_shows c.args.core.now c.args.nodes c.requires.counted tree meets c.args.dir c.args.name.now c.bucket_of-number.result c.bucket_in-bucket.result.now within c.bucket_of-number.ensures c.bucket_in-bucket.ensures in
     let fault = sym (c.directory_fault_in.ensures.fault tree meets) ∙ c.in_default.is in
-    unlink_directory tree c.args.core.now.view.core c.args.dir c.args.name.now c.bucket_in-bucket.result.now shows fault c.in-Some-get.child.0 (sym c.in-Some-get.ensures) (same_some c.get-2.result _ c.get-2.ensures ∙ sym c.if-is_some.ensures)
+    unlink_directory tree c.args.core.now.view.core c.args.dir c.args.name.now c.bucket_in-bucket.result.now shows fault c.in-Some-get.child.0
+    (sym c.in-Some-get.ensures) (same_some c.get-2.result _ c.get-2.ensures ∙ sym c.if-is_some.ensures)
 
 pub returns-clause-names : goal.returns-clause-names
 returns-clause-names c =
-    let held = subst (λ n. bucket_held c.args.nodes c.args.core.now.held c.args.dir n ≡ Some c.bucket_in-bucket.result.now) c.bucket_of-number.ensures c.bucket_in-bucket.ensures in
+    let held = subst (λ n. bucket_held c.args.nodes c.args.core.now.held c.args.dir n
+    ≡ Some c.bucket_in-bucket.result.now) c.bucket_of-number.ensures c.bucket_in-bucket.ensures in
     record {
       within = c.directory_fault_in.ensures.within c.in_default.is;
       bucket = c.bucket_in-bucket.result.now;
@@ -37,4 +40,5 @@ returns-clause-due c = λ tree meets.
     let within = c.directory_fault_in.ensures.within c.in_default.is in
     let shows = name_shows c.args.core.now c.args.nodes c.requires.counted tree meets c.args.dir c.args.name.now c.bucket_of-number.result c.bucket_in-bucket.result.now within c.bucket_of-number.ensures c.bucket_in-bucket.ensures in
     let fault = sym (c.directory_fault_in.ensures.fault tree meets) ∙ c.in_default.is in
-    unlink_file tree c.args.core.now.view.core c.args.dir c.args.name.now c.bucket_in-bucket.result.now shows fault c.in-Some-get.child.0 (sym c.in-Some-get.ensures) (same_some c.get-2.result _ c.get-2.ensures ∙ sym c.if-is_some.ensures)
+    unlink_file tree c.args.core.now.view.core c.args.dir c.args.name.now c.bucket_in-bucket.result.now shows fault c.in-Some-get.child.0
+    (sym c.in-Some-get.ensures) (same_some c.get-2.result _ c.get-2.ensures ∙ sym c.if-is_some.ensures)

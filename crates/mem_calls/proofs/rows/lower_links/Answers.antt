@@ -7,7 +7,8 @@ use Rattle.mem_calls.proofs.Taken.{put_there, put_twice}
 use Rattle.mem_calls.proofs.rows.lower_links.Goals as goal
 
 pub put-requires : goal.put-requires
-put-requires c = put_there c.args.nodes c.args.core.now c.take_file.new.core (id.File c.args.node) c.take_file.ensures.held.0 (some_first as_file (value_held c.args.nodes c.args.core.now.held (id.File c.args.node)) c.requires.held) c.take_file.ensures.held.1
+put-requires c = put_there c.args.nodes c.args.core.now c.take_file.new.core (id.File c.args.node) c.take_file.ensures.held.0
+    (some_first as_file (value_held c.args.nodes c.args.core.now.held (id.File c.args.node)) c.requires.held) c.take_file.ensures.held.1
 
 pub returns : goal.returns
 returns c = record {
@@ -17,7 +18,8 @@ returns c = record {
     value = cell.File c.unlinked-file.result;
     new = c.unlinked-file.result.value;
     is = refl;
-    puts = put_twice c.args.nodes c.args.core.now c.take_file.new.core c.put.new.core (id.File c.args.node) c.take_file.ensures.held.0 (cell.File c.unlinked-file.result) c.take_file.ensures.held.1 c.put.ensures;
+    puts = put_twice c.args.nodes c.args.core.now c.take_file.new.core c.put.new.core (id.File c.args.node) c.take_file.ensures.held.0
+        (cell.File c.unlinked-file.result) c.take_file.ensures.held.1 c.put.ensures;
   };
   links = c.unlinked-file.ensures.links;
   file = c.unlinked-file.ensures.file;

@@ -7,7 +7,8 @@ use Rattle.mem_calls.proofs.Taken.{put_there, put_twice}
 use Rattle.mem_calls.proofs.rows.remove_row.Goals as goal
 
 pub put-requires : goal.put-requires
-put-requires c = put_there c.args.nodes c.args.core.now c.take_bucket.new.core (id.Bucket c.args.dir c.args.number) c.take_bucket.ensures.held.0 (some_first as_bucket (value_held c.args.nodes c.args.core.now.held (id.Bucket c.args.dir c.args.number)) c.requires.held) c.take_bucket.ensures.held.1
+put-requires c = put_there c.args.nodes c.args.core.now c.take_bucket.new.core (id.Bucket c.args.dir c.args.number) c.take_bucket.ensures.held.0
+    (some_first as_bucket (value_held c.args.nodes c.args.core.now.held (id.Bucket c.args.dir c.args.number)) c.requires.held) c.take_bucket.ensures.held.1
 
 pub returns : goal.returns
 returns c = record {
@@ -17,7 +18,8 @@ returns c = record {
     value = cell.Bucket c.without_row-bucket.result;
     new = c.without_row-bucket.result.value;
     is = refl;
-    puts = put_twice c.args.nodes c.args.core.now c.take_bucket.new.core c.put.new.core (id.Bucket c.args.dir c.args.number) c.take_bucket.ensures.held.0 (cell.Bucket c.without_row-bucket.result) c.take_bucket.ensures.held.1 c.put.ensures;
+    puts = put_twice c.args.nodes c.args.core.now c.take_bucket.new.core c.put.new.core (id.Bucket c.args.dir c.args.number) c.take_bucket.ensures.held.0
+        (cell.Bucket c.without_row-bucket.result) c.take_bucket.ensures.held.1 c.put.ensures;
   };
   row = c.without_row-bucket.ensures;
 }

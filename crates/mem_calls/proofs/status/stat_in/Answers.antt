@@ -20,18 +20,25 @@ pub returns-then-is_standing : goal.returns-then-is_standing
 returns-then-is_standing c = λ tree meets.
     let within = c.if-node-nodes.false in
     let stands = sym c.if-is_standing.ensures in
-    let shows = bucket_shows c.args.core.now c.args.nodes c.requires.counted tree meets c.args.node 0 c.bucket_in.result.now within (omega arith) c.bucket_in.ensures in
+    let shows = bucket_shows c.args.core.now c.args.nodes c.requires.counted tree meets c.args.node 0 c.bucket_in.result.now within
+    (omega arith) c.bucket_in.ensures in
     let holds = c.requires.held.buckets within (ap (λ o. option_map_or (is_standing c.args.node) o false) c.bucket_in.ensures ∙ stands) in
-    stat_directory tree c.args.core.now.view.core c.args.node c.directory_counts-links.result.0 c.directory_counts-links.result.1 (alive tree meets.sound c.args.node 0 c.bucket_in.result.now shows stands) (directory tree meets.sound c.args.node 0 c.bucket_in.result.now shows stands)
-    (c.directory_counts-links.ensures.links ∙ ap (λ n. 2 + n) (directories_are c.args.core.now c.args.nodes c.requires.counted c.args.node within tree meets c.args.core.now.view.core holds))
-    (c.directory_counts-links.ensures.size ∙ rows_are c.args.core.now c.args.nodes c.requires.counted c.args.node within tree meets c.args.core.now.view.core holds)
+    stat_directory tree c.args.core.now.view.core c.args.node c.directory_counts-links.result.0 c.directory_counts-links.result.1
+    (alive tree meets.sound c.args.node 0 c.bucket_in.result.now shows stands)
+    (directory tree meets.sound c.args.node 0 c.bucket_in.result.now shows stands)
+    (c.directory_counts-links.ensures.links
+    ∙ ap (λ n. 2 + n) (directories_are c.args.core.now c.args.nodes c.requires.counted c.args.node within tree meets c.args.core.now.view.core holds))
+    (c.directory_counts-links.ensures.size
+    ∙ rows_are c.args.core.now c.args.nodes c.requires.counted c.args.node within tree meets c.args.core.now.view.core holds)
 
 pub returns-then-file-eq0 : goal.returns-then-file-eq0
 returns-then-file-eq0 c = λ tree meets.
     let within = c.if-node-nodes.false in
-    let shows = bucket_shows c.args.core.now c.args.nodes c.requires.counted tree meets c.args.node 0 c.bucket_in.result.now within (omega arith) c.bucket_in.ensures in
+    let shows = bucket_shows c.args.core.now c.args.nodes c.requires.counted tree meets c.args.node 0 c.bucket_in.result.now within
+    (omega arith) c.bucket_in.ensures in
     let file = file_shows c.args.core.now c.args.nodes c.requires.counted tree meets c.args.node c.file_in-file.result.now within c.file_in-file.ensures in
-    stat_dead tree c.args.core.now.view.core c.args.node (fallen tree meets.sound c.args.node 0 c.bucket_in.result.now shows (sym c.if-is_standing.ensures) (sym file.0 ∙ c.if-file-eq0.true))
+    stat_dead tree c.args.core.now.view.core c.args.node
+    (fallen tree meets.sound c.args.node 0 c.bucket_in.result.now shows (sym c.if-is_standing.ensures) (sym file.0 ∙ c.if-file-eq0.true))
 
 pub returns : goal.returns
 returns c = λ tree meets.
@@ -39,8 +46,10 @@ returns c = λ tree meets.
     let file = file_shows c.args.core.now c.args.nodes c.requires.counted tree meets c.args.node c.file_in-file.result.now within c.file_in-file.ensures in
     let links = file.0 in
     let some : 0 < Rattle.mem_values.specs.Stands.file_links tree c.args.node.0 = positive c.file_in-file.result.now.links _ file.0 c.if-file-eq0.false in
-    stat_file tree c.args.core.now.view.core c.args.node c.file_in-file.result.now.links c.size.result (linked_alive tree meets.sound c.args.node.0 some) (linked_file tree meets.sound c.args.node.0 some)
-    (links ∙ links_counted tree meets.sound c.args.node.0 (linked_file tree meets.sound c.args.node.0 some)) (c.size.ensures ∙ ap (λ (l : List ℕ). length l) file.1)
+    stat_file tree c.args.core.now.view.core c.args.node c.file_in-file.result.now.links c.size.result (linked_alive tree meets.sound c.args.node.0 some)
+    (linked_file tree meets.sound c.args.node.0 some)
+    (links ∙ links_counted tree meets.sound c.args.node.0 (linked_file tree meets.sound c.args.node.0 some))
+    (c.size.ensures ∙ ap (λ (l : List ℕ). length l) file.1)
   where
     positive : (a b : ℕ) → a ≡ b → (a ≡ 0 → ⊥) → 0 < b
     positive Rattle.std.proofs.Common.zero b same not = absurd (not refl)

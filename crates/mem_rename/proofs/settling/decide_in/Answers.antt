@@ -15,4 +15,5 @@ look_in-look-requires-clause-new c = new_there c.args.nodes c.args.core.now c.ar
 pub returns : goal.returns
 returns c =
     sym (decided (seen_of c.args.nodes c.args.core.now.held c.args.move_.now c.args.plan (map node_number c.args.above.now)) c.args.move_.now)
-    ∙ ap (verdict_of c.args.move_.now) ((λ i. decision_by (sym c.look_in-look.ensures i) (sym c.reads_in-reads.ensures i) c.args.move_.now) ∙ sym c.decide.ensures)
+    ∙ ap (verdict_of c.args.move_.now)
+    ((λ i. decision_by (sym c.look_in-look.ensures i) (sym c.reads_in-reads.ensures i) c.args.move_.now) ∙ sym c.decide.ensures)
