@@ -14,8 +14,7 @@ use Rattle.sfs_tree.specs.declared.reply.Code.TheVariants.{NoEntry, NotDir, Exis
 use Rattle.sfs_tree.specs.declared.reply.Reply.TheVariants as reply
 use Rattle.sfs_tree.specs.Tree.{TreeState, row_of, is_alive, is_directory, made_by, next_number}
 use Rattle.sfs_tree.specs.Effect.{Adds}
-use Rattle.sfs_tree.specs.Verdict.{Verdict, verdict, refused, or_else, directory_fault, make_fault, make_node, is_full}
-use Rattle.sfs_tree.specs.Laws.{IsSoundTree}
+use Rattle.sfs_tree.specs.Verdict.{verdict, refused, or_else, directory_fault, make_fault, make_node, is_full}
 use Rattle.sfs_tree.proofs.Numbers.{fresh_number}
 use Rattle.sfs_tree.proofs.KeepsNodes.{directory_node}
 use Rattle.stamp_table.specs.Hand.{Hand}

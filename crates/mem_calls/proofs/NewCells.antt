@@ -1,5 +1,5 @@
 -- The cells of a node that is made, as a core holds them.
-use Rattle.std.proofs.Common.{◌≡◌, ◌≢◌, ◌<◌, ℕ, Bool, true, false, ◌==◌, List, Option, Some, None, IsSome, ◌⊎◌, inl, inr, refl, sym, ap, subst, ◌∙◌, eq-eqb}
+use Rattle.std.proofs.Common.{◌≡◌, ◌≢◌, ◌<◌, ℕ, Bool, true, false, ◌==◌, List, Option, Some, IsSome, ◌⊎◌, inl, inr, refl, sym, ap, subst, ◌∙◌, eq-eqb}
 use borrow.Author.Tests.{eqb-true}
 use Rattle.std.specs.Prelude.{◌||◌}
 use Rattle.std.specs.Option.{option_and_then}
@@ -16,7 +16,7 @@ use Rattle.mem_values.specs.declared.cell_id.CellId.TheVariants as id
 use Rattle.mem_values.specs.declared.fact.Fact.{Fact}
 use Rattle.mem_values.specs.Places.{cell_place, IsCell}
 use Rattle.mem_values.proofs.Places.{places_apart}
-use Rattle.mem_calls.specs.Held.{value_held, as_bucket, as_file, as_pending, bucket_held, file_held, pending_held, HoldsDirectory}
+use Rattle.mem_calls.specs.Held.{value_held, as_bucket, as_file, as_pending, file_held, pending_held, HoldsDirectory}
 use Rattle.mem_calls.specs.Working.{StillHolds, Gains}
 use Rattle.mem_calls.specs.Creations.{HoldsOwn, HoldsNew, HoldsCreation, is_new_cell}
 use Rattle.mem_calls.proofs.Nothing.{some_first}

@@ -40,7 +40,7 @@ use Rattle.mem_values.specs.Facts.{IsLawfulLog}
 use Rattle.mem_values.specs.Touches.{KeepsCell}
 use Rattle.mem_values.proofs.Kept.{same_tree}
 use Rattle.mem_calls.specs.Table.{IsFileTable}
-use Rattle.mem_calls.specs.Held.{value_held, as_part, part_held, HoldsPart, InEach}
+use Rattle.mem_calls.specs.Held.{value_held, as_part, part_held, HoldsPart}
 use Rattle.mem_calls.specs.Working.{IsWorking}
 use Rattle.mem_calls.specs.Parts.{HasRoomFor, MayTake, TakesEntry}
 use Rattle.mem_calls.proofs.Finished.{of_changed, held_mid, view_held_mid, core_mid, part_stood, part_home, few_entries}

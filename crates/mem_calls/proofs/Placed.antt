@@ -1,5 +1,5 @@
 -- A bucket of a directory that stands elsewhere after a call which touches none of its rows.
-use Rattle.std.proofs.Common.{◌≡◌, ◌<◌, ℕ, false, ◌==◌, List, length, Option, refl, sym, ap, ◌∙◌}
+use Rattle.std.proofs.Common.{◌≡◌, ◌<◌, ℕ, false, ◌==◌, length, Option, refl, sym, ap, ◌∙◌}
 use Rattle.std.specs.FinMap.{get}
 use Rattle.sfs_base.specs.Name.{bucket}
 use Rattle.sfs_base.specs.declared.numbers.NodeId.{NodeId}

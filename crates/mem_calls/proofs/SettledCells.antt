@@ -1,5 +1,5 @@
 -- Cells of a node that get what its creation makes of them.
-use Rattle.std.proofs.Common.{◌≡◌, ◌<◌, ◌+◌, ℕ, Bool, true, false, ◌==◌, nat_eq, List, Option, Some, None, IsSome, refl, sym, ap, subst, ◌∙◌, eq-eqb, ⊎_elim}
+use Rattle.std.proofs.Common.{◌≡◌, ◌<◌, ◌+◌, ℕ, Bool, true, false, Some, IsSome, refl, sym, ap, subst, ◌∙◌, eq-eqb, ⊎_elim}
 use borrow.Author.Tests.{eqb-true}
 use Rattle.std.specs.Prelude.{◌||◌}
 use Rattle.std.specs.Option.{option_and_then}
@@ -8,7 +8,6 @@ use Rattle.sfs_base.proofs.BasicTruth.{or_first, or_second}
 use Rattle.sfs_base.specs.declared.numbers.NodeId.{NodeId}
 use Rattle.sfs_base.specs.declared.numbers.Kind.{Kind}
 use Rattle.sfs_base.specs.declared.numbers.Kind.TheVariants.{File, Directory}
-use Rattle.stamp_table.specs.declared.held.HeldCell.{HeldCell}
 use Rattle.stamp_table.specs.Hand.{Hand, places_of}
 use Rattle.stamp_table.proofs.Replacing.{same_places}
 use Rattle.mem_values.specs.declared.cell.Cell.{Cell}

@@ -1,5 +1,5 @@
 -- A bucket of a directory whose row went.
-use Rattle.std.proofs.Common.{◌≡◌, ◌≢◌, ◌<◌, ℕ, true, false, ◌&&◌, ◌==◌, List, length, Some, None, inl, inr, refl, sym, ap, subst, ◌∙◌, ⊎_elim}
+use Rattle.std.proofs.Common.{◌≡◌, ◌≢◌, ◌<◌, ℕ, true, false, ◌&&◌, ◌==◌, List, length, Some, None, inl, inr, sym, ap, subst, ◌∙◌, ⊎_elim}
 use borrow.Author.Tests.{eqb-true}
 use Rattle.std.specs.Prelude.{if◌then◌else◌}
 use Rattle.std.specs.FinMap.{get}

@@ -1,7 +1,6 @@
 use Rattle.std.proofs.Common.{◌≡◌, Some, refl, sym, ap, subst, ◌∙◌, IsSome}
 use Rattle.std.specs.Prelude.{OnOk, OnErr}
 use Rattle.std.specs.FinMap.{get}
-use Rattle.sfs_base.specs.Name.{bucket}
 use Rattle.mem_values.specs.declared.cell.Cell.TheVariants as cell
 use Rattle.mem_values.specs.declared.cell_id.CellId.TheVariants as id
 use Rattle.mem_values.specs.declared.bucket.Bucket.{Bucket}

@@ -1,4 +1,4 @@
-use Rattle.std.proofs.Common.{◌≡◌, ◌<◌, [], ◌∷◌, None, refl, sym, ap, subst, ◌∙◌, IsSome}
+use Rattle.std.proofs.Common.{◌<◌, [], ◌∷◌, None, refl, sym, ap, subst, ◌∙◌, IsSome}
 use Rattle.sfs_tree.specs.declared.changes.Act.TheVariants.{Add}
 use Rattle.sfs_tree.specs.declared.call.Call.TheVariants as call
 use Rattle.sfs_tree.specs.declared.reply.Reply.TheVariants as reply

@@ -1,4 +1,4 @@
-use Rattle.std.proofs.Common.{◌≡◌, ◌<◌, ◌≤◌, Some, refl, sym, ◌∙◌, subst, arith}
+use Rattle.std.proofs.Common.{◌≡◌, ◌<◌, ◌≤◌, Some, sym, ◌∙◌, subst, arith}
 use Rattle.std.specs.FinMap.{get, len}
 use Rattle.mem_calls.specs.Held.{bucket_held}
 use Rattle.mem_calls.proofs.Shown.{name_shows}

@@ -1,4 +1,4 @@
-use Rattle.std.proofs.Common.{◌≡◌, sym, ap, subst, ◌∙◌, IsSome}
+use Rattle.std.proofs.Common.{sym, ap, subst, ◌∙◌, IsSome}
 use Rattle.std.specs.FinMap.{get, remove}
 use Rattle.mem_calls.proofs.RowsBack.{row_there, undone}
 use Rattle.mem_calls.proofs.rows.add_child.Goals as goal
