@@ -66,15 +66,15 @@ use Rattle.mem_calls.proofs.Unlinked.{value_of_bucket, apart_value}
 use Rattle.mem_calls.proofs.Ending.{named_row, not_itself}
 use Rattle.mem_calls.proofs.StandsNowhere.{not_equal, kind_next, stays, nowhere_after}
 
-or_both : (a b : Bool) → a ≡ false → b ≡ false → (a || b) ≡ false
+pub or_both : (a b : Bool) → a ≡ false → b ≡ false → (a || b) ≡ false
 or_both true b one two = one
 or_both false b one two = two
 
-and_first : (a b : Bool) → a ≡ false → (a && b) ≡ false
+pub and_first : (a b : Bool) → a ≡ false → (a && b) ≡ false
 and_first true b is = absurd (cc (is))
 and_first false b is = refl
 
-and_second : (a b : Bool) → b ≡ false → (a && b) ≡ false
+pub and_second : (a b : Bool) → b ≡ false → (a && b) ≡ false
 and_second true b is = is
 and_second false b is = refl
 

@@ -36,8 +36,8 @@ pub mod Ended
 pub mod Uniquely
 pub mod Listing
 pub mod SettledCells
-pub mod MakeFaults
 pub mod NewNodes
+pub mod MakeFaults
 pub mod NewCells
 pub mod SettledHome
 pub mod Creation

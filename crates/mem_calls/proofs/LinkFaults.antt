@@ -29,10 +29,10 @@ is_below a b is = grind (arith, nat_tests)
 pub linked_of : (o : Option FileCell) (f : FileCell) → o ≡ Some f → option_map_or is_linked o false ≡ true → 0 < f.links
 linked_of o f is linked = is_below 0 f.links (sym (ap (λ x. option_map_or is_linked x false) is) ∙ linked)
 
-at_most : (a n : ℕ) → a ≤ n → nat_le a n ≡ true
+pub at_most : (a n : ℕ) → a ≤ n → nat_le a n ≡ true
 at_most a n le = grind (arith, nat_tests)
 
-above : (a n : ℕ) → n < a → nat_le a n ≡ false
+pub above : (a n : ℕ) → n < a → nat_le a n ≡ false
 above a n lt = grind (arith, nat_tests)
 
 module _ (tree : TreeState) (core : ℕ) (file dir : NodeId) (name : List ℕ) where

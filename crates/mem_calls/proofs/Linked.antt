@@ -3,7 +3,6 @@ use Rattle.std.proofs.Common.{◌≡◌, ◌<◌, ◌≤◌, ◌+◌, ◌*◌, �
 use borrow.Author.Tests.{eqb-true}
 use Rattle.std.specs.Prelude.{if◌then◌else◌}
 use Rattle.std.specs.Option.{option_and_then}
-use Rattle.std.specs.FinMap.{get}
 use Rattle.std.proofs.lemmas.Bool.{cases_Bool}
 use Rattle.std.proofs.lemmas.Option.{option_and_then_some}
 use Rattle.disk_change.specs.OldKept.{OldKept}
@@ -80,10 +79,12 @@ and_false false b is = refl
 
 -- It keeps each cell but the bucket of the name, the file and the own log.
 link_keeps : (nodes : ℕ) (tree : TreeState) (core : ℕ) (file dir : NodeId) (name : List ℕ) (which : CellId) → verdict tree core (call.Link file dir name) ≡ done (Adds dir.0 name file.0)
-    → (cell_place nodes (id.Part (record { 0 = core })) ≡ cell_place nodes which → ⊥) → (cell_place nodes (id.File file) ≡ cell_place nodes which → ⊥) → (cell_place nodes (id.Bucket dir (bucket name)) ≡ cell_place nodes which → ⊥)
+    → (cell_place nodes (id.Part (record { 0 = core })) ≡ cell_place nodes which → ⊥) → (cell_place nodes (id.File file) ≡ cell_place nodes which → ⊥)
+    → (cell_place nodes (id.Bucket dir (bucket name)) ≡ cell_place nodes which → ⊥)
     → KeepsCell tree core (call.Link file dir name) which
 link_keeps nodes tree core file dir name id.Lock does part not_file here = inl (ap (λ (v : Verdict). moves_between tree v.effect) does)
-link_keeps nodes tree core file dir name (id.Bucket node number) does part not_file here = inl (or_false (is_in_part node.0 (λ n. bucket n == number) dir.0 name) (apart (dir.0 == node.0) (bucket name == number) refl refl))
+link_keeps nodes tree core file dir name (id.Bucket node number) does part not_file here = inl
+    (or_false (is_in_part node.0 (λ n. bucket n == number) dir.0 name) (apart (dir.0 == node.0) (bucket name == number) refl refl))
   where
     apart : (a b : Bool) → (dir.0 == node.0) ≡ a → (bucket name == number) ≡ b → (a && b) ≡ false
     apart true true one two = absurd (here (λ i. 16 + 9 * eqb-true dir.0 node.0 one i + eqb-true (bucket name) number two i))
@@ -375,15 +376,16 @@ module _ {given : ℕ → Option OldKept} {t : TableState} {nodes : ℕ} {before
                 (file_home raised.change.new raised.change.value raised.change.is raised_links raised_file)
             | inr not_file ↦ elim (of_changed nodes (length t.first.made) which at x vb _ is_cell (r.may.place.within, bucket_small name) not_file.1) [
               | inl three_is ↦ stood_by which at x vb three_is.0 three_is.1 (bucket_home vb is_b)
-              | inr not_bucket ↦ elim (of_changed nodes (length t.first.made) which at x none_b _ is_cell (r.may.place.within, bucket_small name) not_bucket.1) [
-                | inl again ↦ absurd (not_bucket.0 (ap (cell_place nodes) (sym again.0)))
-                | inr not_again ↦ elim (of_changed nodes (length t.first.made) which mine x none_p _ is_cell r.work.core not_again.1) [
-                  | inl own_again ↦ absurd (not_own.0 (ap (cell_place nodes) (sym own_again.0)))
-                  | inr last ↦ changed.kept given t nodes before c v number mid turn which x is_cell last.1
-                      (link_keeps nodes S before.view.core file dir name which
-                      (changed.verdict_is given t nodes before c v number mid turn) not_own.0 not_file.0 not_bucket.0)
-                ]
-              ]
+              | inr not_bucket ↦ elim (of_changed nodes (length t.first.made) which at x none_b _ is_cell (r.may.place.within, bucket_small name)
+                  not_bucket.1) [
+                    | inl again ↦ absurd (not_bucket.0 (ap (cell_place nodes) (sym again.0)))
+                    | inr not_again ↦ elim (of_changed nodes (length t.first.made) which mine x none_p _ is_cell r.work.core not_again.1) [
+                      | inl own_again ↦ absurd (not_own.0 (ap (cell_place nodes) (sym own_again.0)))
+                      | inr last ↦ changed.kept given t nodes before c v number mid turn which x is_cell last.1
+                          (link_keeps nodes S before.view.core file dir name which
+                          (changed.verdict_is given t nodes before c v number mid turn) not_own.0 not_file.0 not_bucket.0)
+                    ]
+                  ]
             ]
           ]
         ]

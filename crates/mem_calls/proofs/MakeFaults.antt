@@ -1,10 +1,9 @@
 -- Why a node can't be made, by the values that are held, and its number.
-use Rattle.std.proofs.Common.{◌≡◌, ◌≢◌, ◌<◌, ◌≤◌, ◌+◌, ◌*◌, ℕ, Bool, true, false, not, length, List, Option, Some, None, IsSome, refl, sym, ap, subst, ◌∙◌, arith}
+use Rattle.std.proofs.Common.{◌≡◌, ◌≢◌, ◌<◌, ◌≤◌, ◌+◌, ◌*◌, ℕ, Bool, true, false, not, length, List, Option, Some, None, refl, sym, ap, subst, ◌∙◌, arith}
 use Rattle.std.specs.Prelude.{is_some, nat_le, IfSome, if◌then◌else◌}
 use Rattle.std.specs.Option.{option_or}
 use Rattle.std.specs.FinMap.{get, len}
 use Rattle.std.proofs.Math.Nat.{mul-le-mul_left}
-use Rattle.std.proofs.lemmas.Bool.Decides.{nat_tests}
 use Rattle.sfs_base.specs.Name.{bucket}
 use Rattle.sfs_base.specs.declared.numbers.NodeId.{NodeId}
 use Rattle.sfs_base.specs.declared.numbers.Kind.{Kind}
@@ -32,12 +31,8 @@ use Rattle.mem_calls.specs.declared.numbers.Numbers.{Numbers}
 use Rattle.mem_calls.specs.Creations.{creates, IsNext, HasNext}
 use Rattle.mem_calls.proofs.Shown.{part_shows}
 use Rattle.mem_calls.proofs.NamedRows.{row_in}
-
-at_most : (a n : ℕ) → a ≤ n → nat_le a n ≡ true
-at_most a n le = grind (arith, nat_tests)
-
-above : (a n : ℕ) → n < a → nat_le a n ≡ false
-above a n lt = grind (arith, nat_tests)
+use Rattle.mem_calls.proofs.LinkFaults.{at_most, above}
+use Rattle.mem_calls.proofs.NewNodes.{no_some}
 
 module _ (tree : TreeState) (core : ℕ) (dir : NodeId) (name : List ℕ) (kind : Kind) where
   abbrev rest : Option Code
@@ -128,16 +123,12 @@ module _ (hand : Hand Cell Fact) (nodes : ℕ) (counted : nodes ≡ node_count h
         let known : hand.view.core < length tree.made = (let k = has.known in let cores = meets.cores in omega (arith, k, cores)) in
         let fresh = fresh_number tree hand.view.core meets.sound.numbered known (some_left child is) in
         let node = directory_node tree dir.0 (is_one (is_alive tree dir.0) (is_directory tree dir.0) place) in
-        lacks (get tree.nodes dir.0) (ap (get tree.nodes) (sym same ∙ sym (number_is child is)) ∙ fresh) node
+        no_some (get tree.nodes dir.0) (ap (get tree.nodes) (sym same ∙ sym (number_is child is)) ∙ fresh) node
       where
         is_one : (a d : Bool) → ◌≡◌ {A = Option Code} (if not a then Some NoEntry else if not d then Some NotDir else None) None → d ≡ true
         is_one false d is = absurd (cc (is))
         is_one true false is = absurd (cc (is))
         is_one true true is = refl
-
-        lacks : {X : Type 0} (o : Option X) → o ≡ None → IsSome o → ⊥
-        lacks None none some = absurd cc
-        lacks (Some x) none some = absurd (cc (none))
 
 -- the numbers of a table's cores
 module _ (t : TableState) (nodes : ℕ) (table : IsFileTable t nodes) (numbers : Numbers) (are : AreNumbersOf t.first numbers) (core : ℕ)

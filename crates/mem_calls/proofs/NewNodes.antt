@@ -1,7 +1,7 @@
 -- The node that a call makes, in the tree before it and after it.
 use Rattle.std.proofs.Common.{◌≡◌, ◌≢◌, ◌<◌, ◌+◌, ◌*◌, ℕ, Bool, true, false, not, ◌==◌, List, [], ◌∷◌, ◌++◌, length, Option, Some, None, IsSome, option_map, inl, inr, refl, sym, ap, subst, ◌∙◌, eq-eqb, ⊎_elim}
 use borrow.Author.Tests.{eqb-true}
-use Rattle.std.specs.Prelude.{◌||◌, ◌&&◌, if◌then◌else◌}
+use Rattle.std.specs.Prelude.{◌&&◌, if◌then◌else◌}
 use Rattle.std.specs.List.{find}
 use Rattle.std.specs.Option.{option_map_or, option_or}
 use Rattle.std.proofs.lemmas.Bool.{cases_Bool, both_ways}
@@ -43,22 +43,11 @@ use Rattle.mem_calls.specs.Ends.{IsPlaced}
 use Rattle.mem_calls.specs.Creations.{creates, is_new_cell}
 use Rattle.mem_calls.proofs.Placed.{placed_after}
 use Rattle.mem_calls.proofs.StandsNowhere.{not_equal}
+use Rattle.mem_calls.proofs.Ended.{or_both, and_first, and_second}
 
-no_some : {X : Type 0} (o : Option X) → o ≡ None → IsSome o → ⊥
+pub no_some : {X : Type 0} (o : Option X) → o ≡ None → IsSome o → ⊥
 no_some None none some = absurd cc
 no_some (Some x) none some = absurd (cc (none))
-
-and_first : (a b : Bool) → a ≡ false → (a && b) ≡ false
-and_first true b is = absurd (cc (is))
-and_first false b is = refl
-
-and_second : (a b : Bool) → b ≡ false → (a && b) ≡ false
-and_second true b is = is
-and_second false b is = refl
-
-both_false : (a b : Bool) → a ≡ false → b ≡ false → (a || b) ≡ false
-both_false true b one two = one
-both_false false b one two = two
 
 -- cells that a creation does not change
 old_bucket : (child node : NodeId) (kind : Kind) (k : ℕ) → is_new_cell child kind (id.Bucket node k) ≡ false
@@ -172,7 +161,7 @@ module _ (tree : TreeState) (core : ℕ) (dir : NodeId) (name : List ℕ) (child
       → is_new_cell child kind which ≡ false → KeepsCell tree core (call.Make dir name kind) which
   make_keeps nodes id.Lock part there new = inl (ap (λ (v : Verdict). moves_between tree v.effect) does)
   make_keeps nodes (id.Bucket node k) part there new = inl
-      (both_false (is_in_part node.0 (λ n. bucket n == k) dir.0 name) (is_directory_kind kind && (next_number tree core == node.0))
+      (or_both (is_in_part node.0 (λ n. bucket n == k) dir.0 name) (is_directory_kind kind && (next_number tree core == node.0))
       (outside (dir.0 == node.0) (bucket name == k) refl refl) (ap (λ n. is_directory_kind kind && (n == node.0)) number ∙ old_bucket child node kind k new))
     where
       outside : (a b : Bool) → (dir.0 == node.0) ≡ a → (bucket name == k) ≡ b → (a && b) ≡ false

@@ -1,5 +1,5 @@
 -- Buckets by which a directory stands elsewhere, one after the other.
-use Rattle.std.proofs.Common.{◌≡◌, ◌<◌, ◌≤◌, ◌+◌, ◌*◌, ℕ, List, Option, Some, None, IsSome, refl, sym, ap, subst, ◌∙◌, arith, ⊎_elim, nat_eq, true, false, ◌==◌}
+use Rattle.std.proofs.Common.{◌≡◌, ◌<◌, ◌≤◌, ◌+◌, ◌*◌, ℕ, List, Option, Some, IsSome, refl, sym, ap, subst, ◌∙◌, arith, ⊎_elim, true, false, ◌==◌}
 use borrow.Author.Tests.{eqb-true}
 use Rattle.std.specs.Option.{option_and_then}
 use Rattle.std.proofs.lemmas.Bool.{cases_Bool, both_ways}

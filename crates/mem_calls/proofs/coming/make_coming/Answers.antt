@@ -14,13 +14,15 @@ use Rattle.mem_calls.proofs.coming.make_coming.Goals as goal
 pub take_bucket-taken-requires : goal.take_bucket-taken-requires
 take_bucket-taken-requires g c =
     subst (λ n. IsSome (bucket_held c.args.nodes c.make_ready.new.core.held c.args.dir n)) (sym c.bucket_of-number.ensures)
-    (bucket_there c.args.nodes c.args.core.now c.args.dir c.args.name.now c.requires.free c.requires.part c.in_ok-ready.ready c.make_ready.new.core c.in_ok-ready.ensures)
+    (bucket_there c.args.nodes c.args.core.now c.args.dir c.args.name.now c.requires.free c.requires.part c.in_ok-ready.ready c.make_ready.new.core
+    c.in_ok-ready.ensures)
 
 pub with_row-bucket-requires-clause-row : goal.with_row-bucket-requires-clause-row
 with_row-bucket-requires-clause-row g c =
     let was = subst (λ n. bucket_held c.args.nodes c.make_ready.new.core.held c.args.dir n
     ≡ Some c.take_bucket-taken.result.value) c.bucket_of-number.ensures c.take_bucket-taken.ensures.bucket in
-    row_free c.args.nodes c.args.core.now c.args.dir c.args.name.now c.requires.free c.requires.part c.in_ok-ready.ready c.make_ready.new.core c.in_ok-ready.ensures c.take_bucket-taken.result.value was
+    row_free c.args.nodes c.args.core.now c.args.dir c.args.name.now c.requires.free c.requires.part c.in_ok-ready.ready c.make_ready.new.core
+    c.in_ok-ready.ensures c.take_bucket-taken.result.value was
 
 pub with_row-bucket-requires-clause-directory : goal.with_row-bucket-requires-clause-directory
 with_row-bucket-requires-clause-directory g c =
@@ -37,7 +39,8 @@ put_bucket-requires g c =
     (id.Bucket c.args.dir n) c.take_bucket-taken.ensures.held.0 c.make_ready.new.core c.take_bucket-taken.new.core)
     c.bucket_of-number.ensures c.take_bucket-taken.ensures.held.1 in
     subst (λ n. IsSome (value_held c.args.nodes c.take_bucket-taken.new.core.held (id.Bucket c.args.dir n))) (sym c.bucket_of-number.ensures)
-    (at_there c.args.nodes c.args.core.now c.args.dir c.args.name.now c.requires.free c.requires.part c.in_ok-ready.ready c.make_ready.new.core c.in_ok-ready.ensures
+    (at_there c.args.nodes c.args.core.now c.args.dir c.args.name.now c.requires.free c.requires.part c.in_ok-ready.ready c.make_ready.new.core
+    c.in_ok-ready.ensures
     c.take_bucket-taken.new.core c.take_bucket-taken.ensures.held.0 taken c.take_bucket-taken.new.core refl)
 
 pub put_part-requires : goal.put_part-requires
@@ -48,7 +51,8 @@ put_part-requires g c =
     let puts = subst (λ n. PutsValue c.args.nodes (id.Bucket c.args.dir n)
     (cell.Bucket c.with_row-bucket.result.0) c.take_bucket-taken.new.core c.put_bucket.new.core)
     c.bucket_of-number.ensures c.put_bucket.ensures in
-    part_back c.args.nodes c.args.core.now c.args.dir c.args.name.now c.requires.free c.requires.part c.in_ok-ready.ready c.make_ready.new.core c.in_ok-ready.ensures
+    part_back c.args.nodes c.args.core.now c.args.dir c.args.name.now c.requires.free c.requires.part c.in_ok-ready.ready c.make_ready.new.core
+    c.in_ok-ready.ensures
     c.take_bucket-taken.new.core c.take_bucket-taken.ensures.held.0 taken (cell.Bucket c.with_row-bucket.result.0) c.put_bucket.new.core puts
 
 pub let_go-requires-clause-home : goal.let_go-requires-clause-home
@@ -75,7 +79,8 @@ let_go-requires-clause-home g c =
       puts_p = c.put_part.ensures.2;
     } in
     known_home g.T.Given.given c.put_part.new.core.view c.put_part.new.core.held
-    (works_again g.T.Given.given c.args.shared.now c.args.nodes c.args.core.now c.requires.table c.requires.work c.args.dir c.args.name.now c.requires.free c.requires.part
+    (works_again g.T.Given.given c.args.shared.now c.args.nodes c.args.core.now c.requires.table c.requires.work c.args.dir c.args.name.now c.requires.free
+    c.requires.part
     c.in_ok-ready.ready c.make_ready.new.core c.in_ok-ready.ensures c.put_part.new.core back).knows
 
 pub returns-in-Err : goal.returns-in-Err
@@ -101,17 +106,21 @@ returns-in-Err g c =
       is_p = c.put_part.ensures.1;
       puts_p = c.put_part.ensures.2;
     } in
-    let works = works_again g.T.Given.given c.args.shared.now c.args.nodes c.args.core.now c.requires.table c.requires.work c.args.dir c.args.name.now c.requires.free c.requires.part
+    let works = works_again g.T.Given.given c.args.shared.now c.args.nodes c.args.core.now c.requires.table c.requires.work c.args.dir c.args.name.now
+    c.requires.free c.requires.part
     c.in_ok-ready.ready c.make_ready.new.core c.in_ok-ready.ensures c.put_part.new.core back in
-    back_again g.T.Given.given c.args.shared.now c.args.nodes c.args.core.now c.requires.table c.requires.work c.args.dir c.args.name.now c.requires.free c.requires.part
+    back_again g.T.Given.given c.args.shared.now c.args.nodes c.args.core.now c.requires.table c.requires.work c.args.dir c.args.name.now c.requires.free
+    c.requires.part
     c.in_ok-ready.ready c.make_ready.new.core c.in_ok-ready.ensures c.put_part.new.core back c.let_go.new.self
-    (refused g.T.Given.given c.args.shared.now c.put_part.new.core c.let_go.new.self works c.let_go.ensures.lets_go c.let_go.ensures.left c.let_go.ensures.places)
+    (refused g.T.Given.given c.args.shared.now c.put_part.new.core c.let_go.new.self works c.let_go.ensures.lets_go c.let_go.ensures.left
+    c.let_go.ensures.places)
 
 pub returns-in-Ok : goal.returns-in-Ok
 returns-in-Ok g c =
     let was = subst (λ n. bucket_held c.args.nodes c.make_ready.new.core.held c.args.dir n
     ≡ Some c.take_bucket-taken.result.value) c.bucket_of-number.ensures c.take_bucket-taken.ensures.bucket in
-    let same = same_bucket c.args.nodes c.args.core.now c.args.dir c.args.name.now c.requires.free c.requires.part c.in_ok-ready.ready c.make_ready.new.core c.in_ok-ready.ensures c.take_bucket-taken.result.value was in
+    let same = same_bucket c.args.nodes c.args.core.now c.args.dir c.args.name.now c.requires.free c.requires.part c.in_ok-ready.ready c.make_ready.new.core
+    c.in_ok-ready.ensures c.take_bucket-taken.result.value was in
     record {
       mid = c.make_ready.new.core;
       ready = c.in_ok-ready.ensures;
@@ -123,5 +132,6 @@ returns-in-Ok g c =
       old = c.requires.free.bucket_of;
       was = c.requires.free.bucket_is;
       row = subst (λ (b : Bucket). IsWithRow c.args.name.now c.args.child.0.0 c.args.child.1 b c.with_row-bucket.result.0.value) (sym same)
-          (subst (λ r. OnOk r (IsWithRow c.args.name.now c.args.child.0.0 c.args.child.1 c.take_bucket-taken.result.value c.with_row-bucket.result.0.value)) c.in-Ok.is c.with_row-bucket.ensures.ok);
+          (subst (λ r. OnOk r (IsWithRow c.args.name.now c.args.child.0.0 c.args.child.1 c.take_bucket-taken.result.value c.with_row-bucket.result.0.value))
+          c.in-Ok.is c.with_row-bucket.ensures.ok);
     }

@@ -11,4 +11,5 @@ hold_places-requires-clause-within g c =
 
 pub returns-then-part_in-made-clause-held : goal.returns-then-part_in-made-clause-held
 returns-then-part_in-made-clause-held g c =
-    still_creation c.args.nodes c.hold_places.new.core c.hold_part.new.core c.hold_part.ensures.still c.args.dir c.args.name.now c.args.kind c.next-next.result c.hold_places.ensures.held
+    still_creation c.args.nodes c.hold_places.new.core c.hold_part.new.core c.hold_part.ensures.still c.args.dir c.args.name.now c.args.kind c.next-next.result
+    c.hold_places.ensures.held

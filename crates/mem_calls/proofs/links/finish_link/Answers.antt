@@ -28,10 +28,12 @@ stamp-stamp-requires-clause-may g c =
     let is = c.in_ok-coming.ensures in
     subst (λ (h : Hand Cell Fact). MayCall (IsLawfulLog g.T.Given.given) (StandsAt g.T.Given.given) h.view
     (call.Link c.args.file c.args.dir c.args.name) reply.Ok)
-    (sym (out_is c.args.nodes c.args.core.now c.args.dir c.args.name c.requires.may.place c.requires.part c.in_ok-coming.coming.ready is.mid is.ready c.make_coming.new.core is.out.0 is.out.1))
+    (sym (out_is c.args.nodes c.args.core.now c.args.dir c.args.name c.requires.may.place c.requires.part c.in_ok-coming.coming.ready is.mid is.ready
+    c.make_coming.new.core is.out.0 is.out.1))
     (may_come g.T.Given.given c.args.shared.now c.args.nodes c.args.core.now c.requires.table c.requires.work (call.Link c.args.file c.args.dir c.args.name)
     (done (Adds c.args.dir.0 c.args.name c.args.file.0)) refl c.requires.due
-    (keeps g.T.Given.given c.args.shared.now c.args.nodes c.args.core.now c.requires.table c.requires.work c.args.file c.args.dir c.args.name c.requires.may c.requires.part c.requires.due))
+    (keeps g.T.Given.given c.args.shared.now c.args.nodes c.args.core.now c.requires.table c.requires.work c.args.file c.args.dir c.args.name c.requires.may
+    c.requires.part c.requires.due))
 
 pub put_bucket-requires : goal.put_bucket-requires
 put_bucket-requires g c =
@@ -78,7 +80,8 @@ let_go-requires-clause-home g c =
     let change = c.added_row-change.ensures
     ∙ ap (λ n. log_entry c.stamp-stamp.result.0 c.args.dir.0 n c.args.file.0 File Add None [] ∷ []) c.in_ok-coming.ensures.ready.name_is in
     let added = subst (λ l. IsAddedTo c.in_ok-coming.coming.ready.part.value.log l c.with_entry.result.value.log) change c.with_entry.ensures.log in
-    goes_home r (cell.Bucket c.in_ok-coming.coming.bucket) c.put_bucket.new.core puts c.raise_links.new.core c.raise_links.ensures refl c.with_entry.result.value
+    goes_home r (cell.Bucket c.in_ok-coming.coming.bucket) c.put_bucket.new.core puts c.raise_links.new.core c.raise_links.ensures refl
+    c.with_entry.result.value
     c.put_part.ensures.0 c.put_part.ensures.1 added c.with_entry.ensures.made c.put_part.new.core c.put_part.ensures.2
 
 pub returns : goal.returns

@@ -15,7 +15,8 @@ returns-in-Some-clause-due c = λ tree meets.
 pub returns-then-is_some-clause-due : goal.returns-then-is_some-clause-due
 returns-then-is_some-clause-due c = λ tree meets.
     let within = c.directory_fault_in.ensures.within c.in_default.is in
-    let shows = name_shows c.args.core.now c.args.nodes c.requires.counted tree meets c.args.dir c.args.name.now c.bucket_of-number.result c.bucket_in-bucket.result.now within
+    let shows = name_shows c.args.core.now c.args.nodes c.requires.counted tree meets c.args.dir c.args.name.now c.bucket_of-number.result
+    c.bucket_in-bucket.result.now within
     c.bucket_of-number.ensures c.bucket_in-bucket.ensures in
     let place = sym (c.directory_fault_in.ensures.fault tree meets) ∙ c.in_default.is in
     make_exists tree c.args.core.now.view.core c.args.dir c.args.name.now c.args.kind place c.bucket_in-bucket.result.now shows
@@ -24,7 +25,8 @@ returns-then-is_some-clause-due c = λ tree meets.
 pub returns-then-len-ge-BUCKET_ROWS-clause-due : goal.returns-then-len-ge-BUCKET_ROWS-clause-due
 returns-then-len-ge-BUCKET_ROWS-clause-due c = λ tree meets.
     let within = c.directory_fault_in.ensures.within c.in_default.is in
-    let shows = name_shows c.args.core.now c.args.nodes c.requires.counted tree meets c.args.dir c.args.name.now c.bucket_of-number.result c.bucket_in-bucket.result.now within
+    let shows = name_shows c.args.core.now c.args.nodes c.requires.counted tree meets c.args.dir c.args.name.now c.bucket_of-number.result
+    c.bucket_in-bucket.result.now within
     c.bucket_of-number.ensures c.bucket_in-bucket.ensures in
     let place = sym (c.directory_fault_in.ensures.fault tree meets) ∙ c.in_default.is in
     let full : 4096 ≤ len c.bucket_in-bucket.result.now.rows = (let l = c.len.ensures in let le = c.if-len-ge-BUCKET_ROWS.true in omega (arith, l, le)) in
@@ -34,7 +36,8 @@ returns-then-len-ge-BUCKET_ROWS-clause-due c = λ tree meets.
 pub returns-in-None-clause-due : goal.returns-in-None-clause-due
 returns-in-None-clause-due c = λ tree meets.
     let within = c.directory_fault_in.ensures.within c.in_default.is in
-    let shows = name_shows c.args.core.now c.args.nodes c.requires.counted tree meets c.args.dir c.args.name.now c.bucket_of-number.result c.bucket_in-bucket.result.now within
+    let shows = name_shows c.args.core.now c.args.nodes c.requires.counted tree meets c.args.dir c.args.name.now c.bucket_of-number.result
+    c.bucket_in-bucket.result.now within
     c.bucket_of-number.ensures c.bucket_in-bucket.ensures in
     let place = sym (c.directory_fault_in.ensures.fault tree meets) ∙ c.in_default.is in
     let free : len c.bucket_in-bucket.result.now.rows < 4096 = (let l = c.len.ensures in let lt = c.if-len-ge-BUCKET_ROWS.false in omega (arith, l, lt)) in
@@ -45,7 +48,8 @@ returns-in-None-clause-due c = λ tree meets.
 pub returns-in-Some-next-clause-due : goal.returns-in-Some-next-clause-due
 returns-in-Some-next-clause-due c = λ tree meets.
     let within = c.directory_fault_in.ensures.within c.in_default.is in
-    let shows = name_shows c.args.core.now c.args.nodes c.requires.counted tree meets c.args.dir c.args.name.now c.bucket_of-number.result c.bucket_in-bucket.result.now within
+    let shows = name_shows c.args.core.now c.args.nodes c.requires.counted tree meets c.args.dir c.args.name.now c.bucket_of-number.result
+    c.bucket_in-bucket.result.now within
     c.bucket_of-number.ensures c.bucket_in-bucket.ensures in
     let place = sym (c.directory_fault_in.ensures.fault tree meets) ∙ c.in_default.is in
     let free : len c.bucket_in-bucket.result.now.rows < 4096 = (let l = c.len.ensures in let lt = c.if-len-ge-BUCKET_ROWS.false in omega (arith, l, lt)) in
@@ -58,7 +62,8 @@ pub returns-in-Some-next-clause-may : goal.returns-in-Some-next-clause-may
 returns-in-Some-next-clause-may c =
     let within = c.directory_fault_in.ensures.within c.in_default.is in
     let met = c.requires.met in
-    let apart = not_there c.args.core.now c.args.nodes c.requires.counted c.args.next c.requires.next met.0 met.1 c.in-Some-next.child c.args.dir c.in-Some-next.is
+    let apart = not_there c.args.core.now c.args.nodes c.requires.counted c.args.next c.requires.next met.0 met.1 c.in-Some-next.child c.args.dir
+    c.in-Some-next.is
     (sym (c.directory_fault_in.ensures.fault met.0 met.1) ∙ c.in_default.is) in
     record {
       place = record {

@@ -6,4 +6,5 @@ place_bucket-requires c = still_there c.args.nodes c.args.node c.loop-number.num
     (c.requires c.loop-number.number c.loop-number-test.true)
 
 pub loop-number-preserved : goal.loop-number-preserved
-loop-number-preserved c = one_more c.args.nodes c.args.node c.loop-number.number c.args.place c.args.core.now c.loop-number.core c.loop-number.invariant c.place_bucket.new.core c.loop-number-test.true c.place_bucket.ensures
+loop-number-preserved c = one_more c.args.nodes c.args.node c.loop-number.number c.args.place c.args.core.now c.loop-number.core c.loop-number.invariant
+    c.place_bucket.new.core c.loop-number-test.true c.place_bucket.ensures

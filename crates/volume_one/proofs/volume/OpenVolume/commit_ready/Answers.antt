@@ -27,6 +27,7 @@ returns-in-Ok-clause-ends g c =
       cuts = done.cuts;
       births = done.births;
       logs = done.logs;
+      numbered = done.numbered;
       others = done.others;
     }))
 
