@@ -1,2 +1,1 @@
-pub mod SmallTrees
 pub mod Written

@@ -16,8 +16,6 @@ mod images;
 #[cfg(test)]
 mod rows;
 #[cfg(test)]
-mod small_trees;
-#[cfg(test)]
 mod space;
 #[cfg(test)]
 mod statuses;

@@ -2,9 +2,10 @@
 ghost use Rattle.std.specs.Prelude.{◌≡◌, ◌<◌, ℕ, All, IfOk, length, slice_index_or};
 ghost use Rattle.stamp_table.specs.Table.{IsBetweenCalls, IsSameCore};
 ghost use Rattle.mem_values.specs.Places.{node_count};
-ghost use Rattle.mem_begin.specs.Beginning.{CanBeginTable, given_in};
+ghost use Rattle.mem_begin.specs.Beginning.{given_in};
+ghost use Rattle.begun_tables.specs.Begun.{IsBuilt};
 
-use crate::small_trees::{put_node, put_row};
+use begun_tables::{put_node, put_row, root_alone};
 use disk_change::OldDisk;
 use fmt_inode::{Inode, Tables};
 use fmt_slots::SlotList;
@@ -51,35 +52,20 @@ enum Shown {
 
 // A directory `d` in the root, and a file with the names `a` in the root and `b` in the directory.
 fn small_tree(rt: &impl Abort, alloc: Global) -> Result<Tree, Fail>
-    ensures begins { IfOk result CanBeginTable }
+    ensures built { IfOk result IsBuilt }
     ensures nodes { IfOk result (λ tree. node_count tree ≡ NODES) }
     ensures cores { IfOk result (λ tree. length tree.made ≡ CORES) }
 {
-    let mut tree = Tree::empty(alloc, 4, 2, CORES)?;
-    put_node(rt, &mut tree, BELOW, Kind::Directory, Vec::new(alloc))?;
+    let mut tree = root_alone(alloc, 4, 2, CORES)?;
+    assert!(rt; put_node(&mut tree, BELOW, Kind::Directory, Vec::new(alloc))?);
     let bytes = b"some bytes".as_slice().to_vec(alloc)?;
-    put_node(rt, &mut tree, FILE, Kind::File, bytes)?;
-    put_row(
-        rt,
-        &mut tree,
-        ROOT,
-        Name::new(alloc, b"d".as_slice())?,
-        BELOW,
-    )?;
-    put_row(
-        rt,
-        &mut tree,
-        ROOT,
-        Name::new(alloc, b"a".as_slice())?,
-        FILE,
-    )?;
-    put_row(
-        rt,
-        &mut tree,
-        BELOW,
-        Name::new(alloc, b"b".as_slice())?,
-        FILE,
-    )?;
+    assert!(rt; put_node(&mut tree, FILE, Kind::File, bytes)?);
+    let name = Name::new(alloc, b"d".as_slice())?;
+    assert!(rt; put_row(&mut tree, ROOT, name, BELOW)?);
+    let name = Name::new(alloc, b"a".as_slice())?;
+    assert!(rt; put_row(&mut tree, ROOT, name, FILE)?);
+    let name = Name::new(alloc, b"b".as_slice())?;
+    assert!(rt; put_row(&mut tree, BELOW, name, FILE)?);
     Ok(tree)
 }
 
@@ -230,7 +216,7 @@ fn begins_and_ends<T: Given, R: Wait>(
     given: OldDisk,
     all: &[Shown],
 ) -> Result<bool, NoMemory>
-    requires begins { CanBeginTable tree.now }
+    requires built { IsBuilt tree.now }
     requires nodes { node_count tree.now ≡ NODES }
     requires cores { length tree.now.made ≡ CORES }
     requires given { T.given ≡ given_in given.items }

@@ -1,18 +1,16 @@
 // A core that is held inside a call while another one makes calls.
-ghost use Rattle.std.specs.Prelude.{◌≡◌, ◌+◌, ◌*◌, All, length};
-ghost use Rattle.sfs_tree.specs.Sound.{IsNumbered, IsWithinLimits};
-ghost use Rattle.stamp_table.specs.Table.{IsBetweenCalls};
-ghost use Rattle.mem_values.specs.Places.{node_count};
-ghost use Rattle.mem_begin.specs.Beginning.{CanBeginTable};
-ghost use Rattle.mem_calls.specs.Table.{IsFileTable};
+ghost use Rattle.stamp_table.specs.Table.{IsBetweenCalls, IsSameCore};
+ghost use Rattle.begun_tables.specs.Begun.{IsCallTable};
 
 use crate::table_calls::ask;
-use crate::table_calls::asked::Asked::{self, Look, Read, Trunc, Unlink, Write};
-use crate::table_calls::begun::{FIRST, Files, SHARE, begun, begun_tree};
+use crate::table_calls::asked::Asked::{self, Link, Look, Read, Rename, Trunc, Unlink, Write};
+use crate::table_calls::begun::{FIRST, SHARE, begun_tree};
+use crate::table_calls::tasks::{Task, shared_history};
+use begun_tables::Files;
 use mem_values::FileCore;
-use sfs_base::{CoreId, Gate, NoMemory, Place};
-use sfs_tree::Tree;
+use sfs_base::{CoreId, Gate, Place};
 use std::alloc::Global;
+use std::process::Abort;
 use std::sync::Wait;
 use std::sync::atomic::{AtomicU64, Ordering};
 use std::test::*;
@@ -22,11 +20,41 @@ use std::thread::Threads;
 // How often a core looks for the other one.
 const TURNS: u64 = 10_000_000;
 
-// Holds core 0 inside its first call until the other core has come so often to the same place inside its own calls.
+// What a core calls while another one is held inside a call.
+#[derive(Clone, Copy)]
+enum Scene {
+    TwoDirectories,
+    TwoFiles,
+    FileMoves,
+    DirectoryMoves,
+}
+
+impl Scene {
+    // The call inside which core 0 is held.
+    fn held(self) -> Asked {
+        match self {
+            Scene::TwoDirectories => Unlink(1, "b"),
+            Scene::TwoFiles => Write(3, 0, "x"),
+            Scene::FileMoves => Rename(1, "b", 0, "y"),
+            Scene::DirectoryMoves => Rename(0, "d", 2, "d"),
+        }
+    }
+
+    // The calls of the other core, on cells that core 0 does not hold.
+    fn beside(self) -> [Asked; 3] {
+        match self {
+            Scene::TwoDirectories => [Look(2, "a"), Unlink(2, "a"), Look(2, "b")],
+            Scene::TwoFiles => [Write(4, 0, "x"), Read(4, 0, 1), Trunc(4, 9)],
+            Scene::FileMoves => [Look(0, "d"), Link(4, 2, "z"), Unlink(2, "a")],
+            Scene::DirectoryMoves => [Look(2, "a"), Write(4, 0, "x"), Link(3, 2, "z")],
+        }
+    }
+}
+
+// Holds core 0 inside its call until the other core has come three times to the same place inside its own calls.
 #[derive(Drop)]
-struct Meeting {
-    // How often the other core has to come.
-    due: u64,
+pub(crate) struct Meeting {
+    scene: Scene,
     // How often each core has come.
     first: AtomicU64,
     others: AtomicU64,
@@ -37,9 +65,9 @@ struct Meeting {
 }
 
 impl Meeting {
-    fn new(due: u64) -> Meeting {
+    fn new(scene: Scene) -> Meeting {
         Meeting {
-            due,
+            scene,
             first: AtomicU64::new(0),
             others: AtomicU64::new(0),
             met: AtomicU64::new(0),
@@ -47,7 +75,7 @@ impl Meeting {
         }
     }
 
-    // Waits until core 0 is inside its call, and says whether it is.
+    // Waits until core 0 is held, and says whether it is.
     fn waits_for_first(&self) -> bool {
         comes_to(&self.first, 1)
     }
@@ -60,7 +88,7 @@ impl Meeting {
     // Holds core 0.
     fn hold(&self) {
         self.first.fetch_add(1, Ordering::SeqCst);
-        if comes_to(&self.others, self.due) {
+        if comes_to(&self.others, 3) {
             self.met.store(1, Ordering::SeqCst);
         }
     }
@@ -80,7 +108,7 @@ impl Gate for Meeting {
 }
 
 // Waits until a word has this value or a greater one, and says whether it has.
-fn comes_to(word: &AtomicU64, value: u64) -> bool {
+pub(crate) fn comes_to(word: &AtomicU64, value: u64) -> bool {
     for _ in 0..TURNS {
         if word.load(Ordering::SeqCst) >= value {
             return true;
@@ -97,16 +125,17 @@ fn calls_beside<R: Wait>(
     shared: &Files,
     core: &mut FileCore,
     nodes: u32,
-    calls: [Asked; 3],
     gate: &Meeting,
 ) -> bool
-    requires table { IsFileTable shared.now nodes }
+    requires table { IsCallTable shared.now FIRST SHARE nodes }
     requires core { IsBetweenCalls shared.now core.old }
+    ensures same { IsSameCore core.old core.new }
+    ensures between { IsBetweenCalls shared.now core.new }
 {
     if !gate.waits_for_first() {
         return false;
     }
-    for asked in calls {
+    for asked in gate.scene.beside() {
         if ask(rt, alloc, shared, core, nodes, asked, gate).is_none() {
             return false;
         }
@@ -114,108 +143,59 @@ fn calls_beside<R: Wait>(
     true
 }
 
-// Makes the call inside which the core is held. Says whether it was made.
-fn call_held<R: Wait>(
-    rt: &R,
-    alloc: Global,
-    shared: &Files,
-    core: &mut FileCore,
-    nodes: u32,
-    held: Asked,
-    gate: &Meeting,
-) -> bool
-    requires table { IsFileTable shared.now nodes }
-    requires core { IsBetweenCalls shared.now core.old }
-{
-    ask(rt, alloc, shared, core, nodes, held, gate).is_some()
-}
-
 // Core 0 makes the call inside which it is held, and the other one its calls beside it. What is made is counted.
-fn call_as_due<R: Wait>(
+pub(crate) fn call_as_due<R: Wait>(
     rt: &R,
     alloc: Global,
     shared: &Files,
     core: &mut FileCore,
     nodes: u32,
-    held: Asked,
-    beside: [Asked; 3],
     gate: &Meeting,
 )
-    requires table { IsFileTable shared.now nodes }
+    requires table { IsCallTable shared.now FIRST SHARE nodes }
     requires core { IsBetweenCalls shared.now core.old }
+    ensures same { IsSameCore core.old core.new }
+    ensures between { IsBetweenCalls shared.now core.new }
 {
     let made = if core.number().0 == 0 {
-        call_held(rt, alloc, shared, core, nodes, held, gate)
+        ask(rt, alloc, shared, core, nodes, gate.scene.held(), gate).is_some()
     } else {
-        calls_beside(rt, alloc, shared, core, nodes, beside, gate)
+        calls_beside(rt, alloc, shared, core, nodes, gate)
     };
     if made {
         gate.made.fetch_add(1, Ordering::SeqCst);
     }
 }
 
-// Both cores call, each in a thread of its own.
-fn call_both<R: Threads + Wait + Sync>(
+// Asserts that a core comes three times to the place before its stamp while another one is held there.
+fn assert_meets<R: Threads + Wait + Sync + Abort>(
     rt: &R,
     alloc: Global,
-    shared: &Files,
-    cores: &mut [FileCore],
-    nodes: u32,
-    held: Asked,
-    beside: [Asked; 3],
-    gate: &Meeting,
-)
-    requires table { IsFileTable shared.now nodes }
-    requires cores { All (IsBetweenCalls shared.now) cores.old }
-{
-    thread::for_each_mut(
-        rt,
-        cores,
-        2,
-        &|_number, core: &mut FileCore|
-            requires { IsBetweenCalls shared.now core.now × IsFileTable shared.now nodes }
-        { call_as_due(rt, alloc, shared, core, nodes, held, beside, gate) },
-    );
-}
-
-// Whether a core comes three times to the place before its stamp while another one is held there, inside this call.
-fn comes_in_beside<R: Threads + Wait + Sync>(
-    rt: &R,
-    alloc: Global,
-    tree: &Tree,
-    held: Asked,
-    beside: [Asked; 3],
-) -> Result<bool, NoMemory>
-    requires begins { CanBeginTable tree.now }
-    requires within { IsWithinLimits tree.now }
-    requires numbered { IsNumbered tree.now }
-    requires nodes { node_count tree.now ≡ FIRST + SHARE * 2 }
-    requires cores { length tree.now.made ≡ 2 }
-{
-    let nodes = FIRST + SHARE * 2;
-    let (shared, mut hands) = begun(alloc, tree, 2)?;
-    let gate = Meeting::new(3);
-    let cores = hands.as_mut_slice();
-    call_both(rt, alloc, &shared, cores, nodes, held, beside, &gate);
-    Ok(gate.has_met())
+    scene: Scene,
+) -> Result<(), Fail> {
+    let tree = begun_tree(rt, alloc, 2)?;
+    let gate = Meeting::new(scene);
+    shared_history(rt, alloc, &tree, 2, &Task::Meets { gate: &gate })?;
+    assert!(rt; gate.has_met());
+    Ok(())
 }
 
 #[test]
 fn calls_in_two_directories_are_inside_at_once(rt: HostRuntime) -> Result<(), Fail> {
-    let alloc = rt.alloc();
-    let tree = begun_tree(&rt, alloc, 2)?;
-    let beside = [Look(2, "a"), Unlink(2, "x"), Look(2, "b")];
-    let met = comes_in_beside(&rt, alloc, &tree, Unlink(1, "b"), beside)?;
-    assert!(rt; met);
-    Ok(())
+    assert_meets(&rt, rt.alloc(), Scene::TwoDirectories)
 }
 
 #[test]
 fn writes_to_two_files_are_inside_at_once(rt: HostRuntime) -> Result<(), Fail> {
-    let alloc = rt.alloc();
-    let tree = begun_tree(&rt, alloc, 2)?;
-    let beside = [Write(4, 0, "x"), Read(4, 0, 1), Trunc(4, 9)];
-    let met = comes_in_beside(&rt, alloc, &tree, Write(3, 0, "x"), beside)?;
-    assert!(rt; met);
-    Ok(())
+    assert_meets(&rt, rt.alloc(), Scene::TwoFiles)
+}
+
+#[test]
+fn a_file_moves_beside_calls_on_other_rows(rt: HostRuntime) -> Result<(), Fail> {
+    assert_meets(&rt, rt.alloc(), Scene::FileMoves)
+}
+
+#[test]
+fn a_directory_moves_beside_calls_that_need_no_lock(rt: HostRuntime) -> Result<(), Fail> {
+    assert_meets(&rt, rt.alloc(), Scene::DirectoryMoves)
 }

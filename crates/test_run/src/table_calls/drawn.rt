@@ -2,7 +2,8 @@
 ghost use Rattle.std.specs.Prelude.{◌≡◌, IfOk, length};
 
 use crate::table_calls::asked::Asked;
-use sfs_base::{CoreId, NoMemory};
+use sfs_base::{CoreId, Kind, NoMemory};
+use sfs_tree::Reply;
 use std::alloc::Global;
 
 // Names that calls ask for.
@@ -14,13 +15,35 @@ static TEXTS: [&str; 4] = ["x", "some bytes", "", "bytes that lie in two blocks"
 // Places at which calls begin, and sizes: some lie at the ends of blocks, and the last one past the largest file.
 static PLACES: [u64; 8] = [0, 1, 9, 300, 4_090, 4_096, 8_190, 67_551_233];
 
-// Nodes that calls ask for: the root, two directories, two files, a file and a directory that no row names, and two that are not there.
-static NODES: [u32; 9] = [0, 1, 2, 3, 4, 5, 6, 7, 1_000];
+// Nodes that calls ask for besides those that a core was told of: the root, a directory, a file and a directory that no row names, and one
+// that is not there.
+static NODES: [u32; 5] = [0, 1, 5, 6, 70_000];
 
-// Numbers that look like random ones and are the same each time, and how many calls were drawn.
+// The nodes of a kind that a core was told of last.
+#[derive(Drop)]
+struct Known {
+    nodes: [u32; 8],
+    told: usize,
+}
+
+impl Known {
+    fn new(nodes: [u32; 8]) -> Known {
+        Known { nodes, told: 0 }
+    }
+
+    // Keeps a node, in place of the one that was kept longest.
+    fn keep(&mut self, node: u32) {
+        self.nodes[self.told % 8] = node;
+        self.told = self.told.wrapping_add(1);
+    }
+}
+
+// Numbers that look like random ones and are the same each time, what the replies told, and how many calls were drawn.
 #[derive(Drop)]
 pub(crate) struct Draw {
     state: u64,
+    files: Known,
+    directories: Known,
     pub(crate) calls: u64,
 }
 
@@ -29,7 +52,24 @@ impl Draw {
     pub(crate) fn of(core: CoreId) -> Draw {
         Draw {
             state: 1 + core.0 as u64,
+            files: Known::new([3, 4, 3, 4, 3, 4, 3, 4]),
+            directories: Known::new([0, 1, 2, 7, 0, 1, 2, 7]),
             calls: 0,
+        }
+    }
+
+    // Keeps the node that a reply tells of.
+    pub(crate) fn note(&mut self, reply: &Reply) {
+        match reply {
+            Reply::Node {
+                node,
+                kind: Kind::File,
+            } => self.files.keep(node.0),
+            Reply::Node {
+                node,
+                kind: Kind::Directory,
+            } => self.directories.keep(node.0),
+            _ => {}
         }
     }
 
@@ -42,9 +82,31 @@ impl Draw {
         (self.state >> 33) % most.saturating_add(1)
     }
 
-    fn node(&mut self) -> u32 {
-        let place = self.up_to(8) as usize;
-        NODES.get(place).copied().unwrap_or(0)
+    // A node, mostly one that the core was told of: of this kind, or seldom of the other one.
+    fn node(&mut self, kind: Kind) -> u32 {
+        let place = self.up_to(31) as usize;
+        let files = (kind == Kind::File) != (place == 5);
+        match NODES.get(place) {
+            Some(node) => *node,
+            None if files => self.files.nodes[place % 8],
+            None => self.directories.nodes[place % 8],
+        }
+    }
+
+    fn file(&mut self) -> u32 {
+        self.node(Kind::File)
+    }
+
+    fn dir(&mut self) -> u32 {
+        self.node(Kind::Directory)
+    }
+
+    fn any(&mut self) -> u32 {
+        if self.up_to(1) == 0 {
+            self.file()
+        } else {
+            self.dir()
+        }
     }
 
     fn name(&mut self) -> &'static str {
@@ -65,12 +127,19 @@ impl Draw {
     // The next call.
     pub(crate) fn asked(&mut self) -> Asked {
         self.calls = self.calls.saturating_add(1);
-        match self.up_to(11) {
-            0..=3 => Asked::Look(self.node(), self.name()),
-            4..=5 => Asked::Write(self.node(), self.place(), self.text()),
-            6..=8 => Asked::Read(self.node(), self.place(), 12),
-            9..=10 => Asked::Stat(self.node()),
-            _ => Asked::Trunc(self.node(), self.place()),
+        match self.up_to(63) {
+            0..=9 => Asked::Look(self.dir(), self.name()),
+            10..=14 => Asked::Write(self.file(), self.place(), self.text()),
+            15..=21 => Asked::Read(self.file(), self.place(), 12),
+            22..=25 => Asked::Stat(self.any()),
+            26..=27 => Asked::Trunc(self.file(), self.place()),
+            28..=30 => Asked::List(self.dir()),
+            31..=35 => Asked::Make(self.dir(), self.name(), Kind::File),
+            36..=39 => Asked::Make(self.dir(), self.name(), Kind::Directory),
+            40..=43 => Asked::Link(self.file(), self.dir(), self.name()),
+            44..=49 => Asked::Unlink(self.dir(), self.name()),
+            50..=55 => Asked::Rmdir(self.dir(), self.name()),
+            _ => Asked::Rename(self.dir(), self.name(), self.dir(), self.name()),
         }
     }
 }

@@ -5,44 +5,102 @@ ghost use Rattle.sfs_tree.specs.Sound.{IsSound};
 use crate::table_calls::asked::{Asked, is_asked};
 use crate::table_calls::drawn::{Draw, draws};
 use sfs_base::{CoreId, NoMemory};
-use sfs_tree::{Code, Entry, History, Reply, Tree};
+use sfs_tree::{Call, Code, Entry, History, Reply, Tree};
 use std::alloc::Global;
 
-// How many replies of each kind a history has.
+// How many calls of each kind a history has that were done, and how many that were refused.
 #[derive(Drop)]
 pub(crate) struct Met {
-    pub(crate) done: u64,
-    pub(crate) nodes: u64,
-    pub(crate) bytes: u64,
-    pub(crate) stats: u64,
-    pub(crate) errors: u64,
+    looks: u64,
+    makes: u64,
+    links: u64,
+    unlinks: u64,
+    rmdirs: u64,
+    renames: u64,
+    writes: u64,
+    reads: u64,
+    truncs: u64,
+    stats: u64,
+    lists: u64,
+    others: u64,
+    refused: u64,
 }
 
 impl Met {
     fn new() -> Met {
         Met {
-            done: 0,
-            nodes: 0,
-            bytes: 0,
+            looks: 0,
+            makes: 0,
+            links: 0,
+            unlinks: 0,
+            rmdirs: 0,
+            renames: 0,
+            writes: 0,
+            reads: 0,
+            truncs: 0,
             stats: 0,
-            errors: 0,
+            lists: 0,
+            others: 0,
+            refused: 0,
         }
     }
 
-    fn count(&mut self, reply: &Reply) {
-        let count = match reply {
-            Reply::Node { .. } => &mut self.nodes,
-            Reply::Bytes { .. } => &mut self.bytes,
-            Reply::Stat { .. } => &mut self.stats,
-            Reply::Error { .. } => &mut self.errors,
-            _ => &mut self.done,
+    // How many there are of a call's kind.
+    fn of(&mut self, call: &Call) -> &mut u64 {
+        match call {
+            Call::Look { .. } => &mut self.looks,
+            Call::Make { .. } => &mut self.makes,
+            Call::Link { .. } => &mut self.links,
+            Call::Unlink { .. } => &mut self.unlinks,
+            Call::Rmdir { .. } => &mut self.rmdirs,
+            Call::Rename { .. } => &mut self.renames,
+            Call::Write { .. } => &mut self.writes,
+            Call::Read { .. } => &mut self.reads,
+            Call::Trunc { .. } => &mut self.truncs,
+            Call::Stat { .. } => &mut self.stats,
+            Call::List { .. } => &mut self.lists,
+            Call::Fsync { .. } => &mut self.others,
+        }
+    }
+
+    fn count(&mut self, entry: &Entry) {
+        let count = match &entry.reply {
+            Reply::Error { .. } => &mut self.refused,
+            _ => self.of(&entry.call),
         };
         *count = count.saturating_add(1);
+    }
+
+    // Whether of each kind but one, which is asked of no core, at least so many were done, and so many were refused.
+    pub(crate) fn has_each(&self, least: u64) -> bool {
+        let changes = self
+            .makes
+            .min(self.links)
+            .min(self.unlinks)
+            .min(self.rmdirs)
+            .min(self.renames);
+        let files = self.writes.min(self.reads).min(self.truncs);
+        let sights = self.looks.min(self.stats).min(self.lists);
+        changes.min(files).min(sights).min(self.refused) >= least && self.others == 0
+    }
+}
+
+// Whether a reply is an error with this code, or none.
+pub(crate) fn is_code(reply: &Reply, code: Option<Code>) -> bool {
+    match (reply, code) {
+        (Reply::Error { code: own }, Some(code)) => *own == code,
+        (Reply::Error { .. }, None) => false,
+        (_, code) => code.is_none(),
     }
 }
 
 // Whether an entry is the call that was asked, with the reply of a plain tree to it.
-fn is_due(tree: &mut Tree, entry: &Entry, core: CoreId, asked: Asked) -> Result<bool, NoMemory>
+pub(crate) fn is_due(
+    tree: &mut Tree,
+    entry: &Entry,
+    core: CoreId,
+    asked: Asked,
+) -> Result<bool, NoMemory>
     requires sound { IsSound tree.old }
     requires known { core.0 < length tree.old.made }
     ensures sound { IsSound tree.new }
@@ -67,6 +125,7 @@ fn is_next(tree: &mut Tree, draws: &mut [Draw], entry: &Entry, stamp: u64) -> Re
         return Ok(false);
     }
     let asked = draws[core].asked();
+    draws[core].note(&entry.reply);
     is_due(tree, entry, entry.core, asked)
 }
 
@@ -81,7 +140,7 @@ fn have_drawn(draws: &[Draw], each: u32) -> bool {
 }
 
 // Whether each entry stands at its stamp, is the next of its core's drawn calls, of which each core has so many, and has the reply that a
-// plain tree gives there. Says how many replies of each kind there are, if so.
+// plain tree gives there. Says how many calls of each kind there are, if so.
 pub(crate) fn judged(
     alloc: Global,
     history: &History,
@@ -102,7 +161,7 @@ pub(crate) fn judged(
         if !is_next(&mut tree, &mut draws, entry, stamp)? {
             return Ok(None);
         }
-        met.count(&entry.reply);
+        met.count(entry);
     }
     if have_drawn(&draws, each) {
         Ok(Some(met))

@@ -1,4 +1,4 @@
-use Rattle.std.proofs.Common.{ℕ, ◌<◌, length}
+use Rattle.std.proofs.Common.{◌<◌, length}
 use Rattle.sfs_tree.specs.Sound.{IsSound}
 use Rattle.stamp_table.specs.Table.{IsBetweenCalls, IsSameCore}
 use Rattle.test_run.proofs.table_calls.make_drawn.Given as goal

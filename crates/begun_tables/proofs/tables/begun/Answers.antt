@@ -1,0 +1,21 @@
+use Rattle.std.proofs.Common.{◌∙◌, sym, ap, subst, ◌+◌, ◌*◌, length}
+use Rattle.sfs_tree.specs.Laws.{IsSoundTree}
+use Rattle.sfs_tree.specs.Sound.{IsWithinLimits}
+use Rattle.mem_values.specs.Places.{node_count, place_count}
+use Rattle.begun_tables.proofs.tables.begun.Goals as goal
+
+pub returns-clause-table : goal.returns-clause-table
+returns-clause-table c =
+    let made = c.in_ok-shared.ensures in
+    let tree = c.requires.tree in
+    record {
+      table = record {
+        sound = subst IsSoundTree (sym made.first) (record { sound = tree.built.begins.sound; numbered = tree.numbered });
+        within = subst IsWithinLimits (sym made.first) tree.built.within;
+        counted = sym tree.nodes ∙ ap node_count (sym made.first);
+        slots = made.slots ∙ ap (λ k. place_count (c.args.first + c.args.share * c.args.cores) k)
+            (sym tree.cores_are ∙ ap (λ t. length t.made) (sym made.first));
+      };
+      first_is = ap (λ t. t.first) made.first ∙ tree.first_is;
+      share_is = ap (λ t. t.share) made.first ∙ tree.share_is;
+    }

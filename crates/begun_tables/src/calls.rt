@@ -1,0 +1,76 @@
+// One call of a core on a table.
+ghost use Rattle.std.specs.Prelude.{◌<◌, ◌≤◌};
+ghost use Rattle.sfs_tree.specs.Step.{IsReadable};
+ghost use Rattle.stamp_table.specs.Table.{IsBetweenCalls, IsSameCore};
+ghost use Rattle.mem_calls.specs.Table.{IsFileTable, AreNumbersOf};
+ghost use Rattle.begun_tables.specs.Begun.{IsCallTable};
+
+use crate::tables::Files;
+use mem_calls::{Numbers, call};
+use mem_rename::{Move, RENAME_CELLS, rename};
+use mem_values::FileCore;
+use sfs_base::Gate;
+use sfs_tree::{Call, Reply};
+use std::alloc::Global;
+use std::sync::Wait;
+
+// Makes a call for which the core has room.
+fn make_ready<R: Wait, G: Gate>(
+    rt: &R,
+    alloc: Global,
+    shared: &Files,
+    core: &mut FileCore,
+    nodes: u32,
+    numbers: Numbers,
+    asked: Call,
+    gate: &G,
+) -> Option<Reply>
+    requires table { IsFileTable shared.now nodes }
+    requires core { IsBetweenCalls shared.now core.old }
+    requires numbers { AreNumbersOf shared.now.first numbers }
+    requires readable { IsReadable asked }
+    requires spare { 0 < core.old.spare }
+    requires room { RENAME_CELLS ≤ core.old.room }
+    ensures same { IsSameCore core.old core.new }
+    ensures between { IsBetweenCalls shared.now core.new }
+{
+    match asked {
+        Call::Rename {
+            dir: directory,
+            name,
+            to_dir: to_directory,
+            to_name,
+        } => {
+            let mv = Move {
+                directory,
+                name,
+                to_directory,
+                to_name,
+            };
+            rename(rt, alloc, shared, core, nodes, mv, gate).ok()
+        }
+        Call::Fsync { node: _ } => None,
+        other => call(rt, alloc, shared, core, nodes, numbers, other, gate).ok(),
+    }
+}
+
+/// Makes a call. None, where memory is refused, or the call is an fsync, which is not made here.
+pub fn make_call<R: Wait, G: Gate>(
+    rt: &R,
+    alloc: Global,
+    shared: &Files,
+    core: &mut FileCore,
+    nodes: u32,
+    numbers: Numbers,
+    asked: Call,
+    gate: &G,
+) -> Option<Reply>
+    requires table { IsCallTable shared.now numbers.first numbers.share nodes }
+    requires core { IsBetweenCalls shared.now core.old }
+    requires readable { IsReadable asked }
+    ensures same { IsSameCore core.old core.new }
+    ensures between { IsBetweenCalls shared.now core.new }
+{
+    core.reserve(1, RENAME_CELLS).ok()?;
+    make_ready(rt, alloc, shared, core, nodes, numbers, asked, gate)
+}

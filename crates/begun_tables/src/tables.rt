@@ -1,0 +1,42 @@
+// A table over a tree, of which the disk has nothing.
+ghost use Rattle.std.specs.Prelude.{◌≡◌, ◌+◌, ◌*◌, ◌<◌, ◌≤◌, All, IfOk, None};
+ghost use Rattle.stamp_table.specs.Table.{AreAllCores, IsBetweenCalls};
+ghost use Rattle.begun_tables.specs.Begun.{IsBegun, IsCallTable};
+
+use disk_change::OldDisk;
+use mem_begin::make;
+use mem_values::{FileCore, FileShared, Given};
+use sfs_base::NoMemory;
+use sfs_tree::Tree;
+use std::alloc::Global;
+
+/// The disk has nothing of a node as the table begins.
+pub struct Nothing;
+
+impl Given for Nothing {
+    ghost given = { λ node. None };
+}
+
+/// A table of which the disk has nothing.
+pub type Files = FileShared<Nothing>;
+
+/// A table over a tree, and its cores.
+pub fn begun(
+    alloc: Global,
+    tree: &Tree,
+    first: u32,
+    share: u32,
+    cores: u8,
+) -> Result<(Files, Vec<FileCore>), NoMemory>
+    requires tree { IsBegun tree.now first share cores }
+    requires cores { 0 < cores }
+    requires few { first + share * cores ≤ 81920 }
+    ensures first { IfOk result (λ made. made.0.first ≡ tree.now) }
+    ensures table { IfOk result (λ made. IsCallTable made.0 first share (first + share * cores)) }
+    ensures cores { IfOk result (λ made. AreAllCores made.0 made.1.items) }
+    ensures between { IfOk result (λ made. All (IsBetweenCalls made.0) made.1.items) }
+{
+    let nodes = first + share * cores as u32;
+    let (shared, hands) = make::<Nothing>(alloc, tree, OldDisk::new(alloc), nodes, cores)?;
+    Ok((shared, hands))
+}
