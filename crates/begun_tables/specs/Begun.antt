@@ -8,7 +8,7 @@ use Rattle.mem_begin.specs.Beginning.{CanBeginTable}
 use Rattle.mem_calls.specs.Table.{IsFileTable}
 
 -- A table can begin with the tree, which is within the limits of trees.
-pub record IsBuilt (tree : TreeState) : Type 0 where
+pub record IsBuiltTree (tree : TreeState) : Type 0 where
   pub begins : CanBeginTable tree
   pub within : IsWithinLimits tree
 
@@ -19,8 +19,8 @@ pub record KeepsNumbers (before after : TreeState) : Type 0 where
   pub made : after.made ≡ before.made
 
 -- A table can begin with the tree, in which each of so many cores may make `share` nodes, the first of them numbered `first`.
-pub record IsBegun (tree : TreeState) (first share cores : ℕ) : Type 0 where
-  pub built : IsBuilt tree
+pub record BeginsTable (tree : TreeState) (first share cores : ℕ) : Type 0 where
+  pub built : IsBuiltTree tree
   pub numbered : IsNumbered tree
   pub nodes : node_count tree ≡ first + share * cores
   pub first_is : tree.first ≡ first

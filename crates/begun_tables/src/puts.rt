@@ -6,7 +6,7 @@ ghost use Rattle.sfs_tree.specs.Tree.{is_directory};
 ghost use Rattle.sfs_tree.specs.Fits.{IsUnnamed, MayHold};
 ghost use Rattle.sfs_tree.specs.Sound.{IsSound};
 ghost use Rattle.sfs_tree.specs.Verdict.{LARGEST_FILE};
-ghost use Rattle.begun_tables.specs.Begun.{IsBuilt, KeepsNumbers};
+ghost use Rattle.begun_tables.specs.Begun.{IsBuiltTree, KeepsNumbers};
 
 use sfs_base::{Kind, Name, NoMemory, NodeId};
 use sfs_tree::Tree;
@@ -16,7 +16,7 @@ use std::alloc::Global;
 pub fn root_alone(alloc: Global, first: u32, share: u32, cores: u8) -> Result<Tree, NoMemory>
     requires first { (1 ≤ first) × (first ≤ 16384) }
     requires shares { share * cores ≤ 65536 }
-    ensures built { IfOk result IsBuilt }
+    ensures built { IfOk result IsBuiltTree }
     ensures first { IfOk result (λ tree. tree.first ≡ first) }
     ensures share { IfOk result (λ tree. tree.share ≡ share) }
     ensures made { IfOk result (λ tree. length tree.made ≡ cores) }
@@ -27,11 +27,11 @@ pub fn root_alone(alloc: Global, first: u32, share: u32, cores: u8) -> Result<Tr
 
 /// Puts a node, where the tree does not have it. Says whether it was put.
 pub fn put_node(tree: &mut Tree, node: NodeId, kind: Kind, bytes: Vec<u8>) -> Result<bool, NoMemory>
-    requires built { IsBuilt tree.old }
+    requires built { IsBuiltTree tree.old }
     requires low { node.0 < tree.old.first }
     requires directory { kind ≡ Directory → bytes.items ≡ [] }
     requires size { length bytes.items ≤ LARGEST_FILE }
-    ensures built { OnOk result (IsBuilt tree.new) }
+    ensures built { OnOk result (IsBuiltTree tree.new) }
     ensures numbers { OnOk result (KeepsNumbers tree.old tree.new) }
 {
     if tree.kind(node).is_some() {
@@ -44,8 +44,8 @@ pub fn put_node(tree: &mut Tree, node: NodeId, kind: Kind, bytes: Vec<u8>) -> Re
 /// Puts a row where none is, if the directory has fewer than 4,096 rows. Its child is a file, or a directory that no row names yet. Says
 /// whether it was put.
 pub fn put_row(tree: &mut Tree, dir: NodeId, name: Name, child: NodeId) -> Result<bool, NoMemory>
-    requires built { IsBuilt tree.old }
-    ensures built { OnOk result (IsBuilt tree.new) }
+    requires built { IsBuiltTree tree.old }
+    ensures built { OnOk result (IsBuiltTree tree.new) }
     ensures numbers { OnOk result (KeepsNumbers tree.old tree.new) }
 {
     if !may_hold(tree, dir) || tree.child(dir, &name).is_some() {

@@ -1,7 +1,7 @@
 // A table over a tree, of which the disk has nothing.
 ghost use Rattle.std.specs.Prelude.{◌≡◌, ◌+◌, ◌*◌, ◌<◌, ◌≤◌, All, IfOk, None};
 ghost use Rattle.stamp_table.specs.Table.{AreAllCores, IsBetweenCalls};
-ghost use Rattle.begun_tables.specs.Begun.{IsBegun, IsCallTable};
+ghost use Rattle.begun_tables.specs.Begun.{BeginsTable, IsCallTable};
 
 use disk_change::OldDisk;
 use mem_begin::make;
@@ -28,7 +28,7 @@ pub fn begun(
     share: u32,
     cores: u8,
 ) -> Result<(Files, Vec<FileCore>), NoMemory>
-    requires tree { IsBegun tree.now first share cores }
+    requires tree { BeginsTable tree.now first share cores }
     requires cores { 0 < cores }
     requires few { first + share * cores ≤ 81920 }
     ensures first { IfOk result (λ made. made.0.first ≡ tree.now) }

@@ -1,6 +1,6 @@
 // The tree with which each table begins: four directories, in each of which one file has many names.
 ghost use Rattle.std.specs.Prelude.{◌≡◌, ◌<◌, ◌≤◌, IfSome};
-ghost use Rattle.begun_tables.specs.Begun.{IsBegun, IsBuilt, KeepsNumbers};
+ghost use Rattle.begun_tables.specs.Begun.{BeginsTable, IsBuiltTree, KeepsNumbers};
 
 use crate::loads::{Load, first_name, own_name};
 use begun_tables::{put_node, put_row, root_alone};
@@ -24,8 +24,8 @@ const FILE: NodeId = NodeId(5);
 
 // Puts a row. None, where it can't be put.
 fn add_row(tree: &mut Tree, dir: NodeId, name: Name, child: NodeId) -> Option<()>
-    requires built { IsBuilt tree.old }
-    ensures built { IfSome result (λ _. IsBuilt tree.new) }
+    requires built { IsBuiltTree tree.old }
+    ensures built { IfSome result (λ _. IsBuiltTree tree.new) }
     ensures numbers { IfSome result (λ _. KeepsNumbers tree.old tree.new) }
 {
     if put_row(tree, dir, name, child).ok()? {
@@ -37,9 +37,9 @@ fn add_row(tree: &mut Tree, dir: NodeId, name: Name, child: NodeId) -> Option<()
 
 // Puts a node without bytes. None, where it can't be put.
 fn add_node(alloc: Global, tree: &mut Tree, node: NodeId, kind: Kind) -> Option<()>
-    requires built { IsBuilt tree.old }
+    requires built { IsBuiltTree tree.old }
     requires low { node.0 < tree.old.first }
-    ensures built { IfSome result (λ _. IsBuilt tree.new) }
+    ensures built { IfSome result (λ _. IsBuiltTree tree.new) }
     ensures numbers { IfSome result (λ _. KeepsNumbers tree.old tree.new) }
 {
     if put_node(tree, node, kind, Vec::new(alloc)).ok()? {
@@ -51,8 +51,8 @@ fn add_node(alloc: Global, tree: &mut Tree, node: NodeId, kind: Kind) -> Option<
 
 // Gives the file the names in a directory that are looked up.
 fn add_names(alloc: Global, tree: &mut Tree, dir: NodeId) -> Option<()>
-    requires built { IsBuilt tree.old }
-    ensures built { IfSome result (λ _. IsBuilt tree.new) }
+    requires built { IsBuiltTree tree.old }
+    ensures built { IfSome result (λ _. IsBuiltTree tree.new) }
     ensures numbers { IfSome result (λ _. KeepsNumbers tree.old tree.new) }
 {
     for number in 0..NAMES {
@@ -63,8 +63,8 @@ fn add_names(alloc: Global, tree: &mut Tree, dir: NodeId) -> Option<()>
 
 // Gives the file the first name in a directory that each core renames.
 fn add_own_names(alloc: Global, tree: &mut Tree, dir: NodeId) -> Option<()>
-    requires built { IsBuilt tree.old }
-    ensures built { IfSome result (λ _. IsBuilt tree.new) }
+    requires built { IsBuiltTree tree.old }
+    ensures built { IfSome result (λ _. IsBuiltTree tree.new) }
     ensures numbers { IfSome result (λ _. KeepsNumbers tree.old tree.new) }
 {
     for core in 0..DIRECTORIES {
@@ -80,9 +80,9 @@ fn add_own_names(alloc: Global, tree: &mut Tree, dir: NodeId) -> Option<()>
 
 // Puts the directories into the root, with their rows.
 fn add_directories(alloc: Global, tree: &mut Tree) -> Option<()>
-    requires built { IsBuilt tree.old }
+    requires built { IsBuiltTree tree.old }
     requires first { tree.old.first ≡ FIRST }
-    ensures built { IfSome result (λ _. IsBuilt tree.new) }
+    ensures built { IfSome result (λ _. IsBuiltTree tree.new) }
     ensures numbers { IfSome result (λ _. KeepsNumbers tree.old tree.new) }
 {
     for number in 0..DIRECTORIES {
@@ -103,7 +103,7 @@ fn add_directories(alloc: Global, tree: &mut Tree) -> Option<()>
 /// The tree. None, where there is no memory for it.
 pub(crate) fn begun_tree(alloc: Global, cores: u8) -> Option<Tree>
     requires { cores ≤ 4 }
-    ensures { IfSome result (λ tree. IsBegun tree FIRST SHARE cores) }
+    ensures { IfSome result (λ tree. BeginsTable tree FIRST SHARE cores) }
 {
     let mut tree = root_alone(alloc, FIRST, SHARE, cores).ok()?;
     add_node(alloc, &mut tree, FILE, Kind::File)?;

@@ -16,7 +16,7 @@ use Rattle.mem_calls.specs.Held.{as_bucket, as_part, bucket_held, part_held}
 use Rattle.mem_calls.specs.Working.{IsWorking}
 use Rattle.mem_calls.specs.Outcome.{IsRefusedMemory}
 use Rattle.mem_calls.specs.declared.ready.Ready.{Ready}
-use Rattle.mem_calls.specs.Changes.{PutsValue, IsFree, IsReadyForRow}
+use Rattle.mem_calls.specs.Changes.{PutsValue, IsFreePlace, IsReadyForRow}
 use Rattle.mem_calls.proofs.Shown.{bucket_small}
 use Rattle.mem_calls.proofs.LinkBack.{works_both, back_both}
 use Rattle.mem_calls.proofs.Comings.{same_bucket, out_is}
@@ -38,7 +38,7 @@ pub record IsBack (nodes : ℕ) (before : Hand Cell Fact) (dir : NodeId) (name :
 
 module _ (given : ℕ → Option OldKept) (t : TableState) (nodes : ℕ) (before : Hand Cell Fact) (table : IsFileTable t nodes) (work : IsWorking given t before)
     (dir : NodeId) (name : List ℕ)
-    (free : IsFree nodes before.held dir name) (part : IsSome (part_held nodes before.held before.view.core)) (ready : Ready) (mid : Hand Cell Fact)
+    (free : IsFreePlace nodes before.held dir name) (part : IsSome (part_held nodes before.held before.view.core)) (ready : Ready) (mid : Hand Cell Fact)
     (is : IsReadyForRow nodes dir name before ready mid)
     (put : Hand Cell Fact) (back : IsBack nodes before dir name ready mid put) where
   abbrev mine : CellId

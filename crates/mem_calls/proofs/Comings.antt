@@ -22,7 +22,7 @@ use Rattle.mem_calls.specs.Table.{IsFileTable}
 use Rattle.mem_calls.specs.Held.{value_held, as_bucket, as_part, bucket_held, part_held}
 use Rattle.mem_calls.specs.Working.{IsWorking}
 use Rattle.mem_calls.specs.declared.ready.Ready.{Ready}
-use Rattle.mem_calls.specs.Changes.{PutsValue, IsFree, IsReadyForRow}
+use Rattle.mem_calls.specs.Changes.{PutsValue, IsFreePlace, IsReadyForRow}
 use Rattle.mem_calls.proofs.Shown.{bucket_small}
 use Rattle.mem_calls.proofs.Nothing.{some_first}
 use Rattle.mem_calls.proofs.HeldKinds.{some_of}
@@ -31,7 +31,7 @@ use Rattle.mem_calls.proofs.PutBack.{stands_now}
 use Rattle.mem_calls.proofs.LinkBack.{bucket_of_value}
 use Rattle.mem_calls.proofs.Unlinked.{apart_value}
 
-module _ (nodes : ℕ) (before : Hand Cell Fact) (dir : NodeId) (name : List ℕ) (free : IsFree nodes before.held dir name)
+module _ (nodes : ℕ) (before : Hand Cell Fact) (dir : NodeId) (name : List ℕ) (free : IsFreePlace nodes before.held dir name)
     (part : IsSome (part_held nodes before.held before.view.core)) where
   abbrev mine : CellId
   mine = id.Part (record { 0 = before.view.core })
@@ -94,7 +94,7 @@ module _ (nodes : ℕ) (before : Hand Cell Fact) (dir : NodeId) (name : List ℕ
           ∙ (apart_value nodes out_held at mine vb bucket_below ∙ part_out)))
 
 module _ (given : ℕ → Option OldKept) (t : TableState) (nodes : ℕ) (before : Hand Cell Fact) (table : IsFileTable t nodes) (work : IsWorking given t before)
-    (dir : NodeId) (name : List ℕ) (free : IsFree nodes before.held dir name) where
+    (dir : NodeId) (name : List ℕ) (free : IsFreePlace nodes before.held dir name) where
   shows : ShowsBucket (tree_after before.view.first (calls_in before.view.seen)) dir.0 (bucket name) free.bucket_of
   shows = option_and_then_some as_bucket (value_held nodes before.held (id.Bucket dir (bucket name))) free.bucket_of free.bucket_is
       (λ v found kind. bucket_of_value given before.view.first before.view.seen dir (bucket name) v free.bucket_of kind

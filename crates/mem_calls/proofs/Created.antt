@@ -50,8 +50,8 @@ use Rattle.mem_calls.specs.Outcome.{IsAnswered}
 use Rattle.mem_calls.specs.Parts.{HasRoomFor}
 use Rattle.mem_calls.specs.declared.coming.Coming.{Coming}
 use Rattle.mem_calls.specs.Changes.{PutsValue, IsWithRow}
-use Rattle.mem_calls.specs.Ends.{IsPlaced}
-use Rattle.mem_calls.specs.Creations.{creates, HoldsNew, is_new_cell, IsSettled, Settles}
+use Rattle.mem_calls.specs.Ends.{IsPlacedBucket}
+use Rattle.mem_calls.specs.Creations.{creates, HoldsCreated, is_new_cell, IsSettled, SettlesCreation}
 use Rattle.mem_calls.proofs.Shown.{name_shows, bucket_small}
 use Rattle.mem_calls.proofs.RowsCome.{bucket_after}
 use Rattle.mem_calls.proofs.Comings.{out_is, at_there, part_out}
@@ -167,7 +167,7 @@ module _ {given : ℕ → Option OldKept} {t : TableState} {nodes : ℕ} {before
         ∙ ap (λ l. last_touch before.view.first None l child.0 block) (sym (calls_snoc log entry))));
   }
 
-  place_home : (k : ℕ) (old new : Bucket) → kind ≡ Directory → ShowsBucket S child.0 k old → IsPlaced (Some dir) old new
+  place_home : (k : ℕ) (old new : Bucket) → kind ≡ Directory → ShowsBucket S child.0 k old → IsPlacedBucket (Some dir) old new
       → ShowsBucket (tree_after before.view.first (calls_in after_log)) child.0 k new
   place_home k old new is_directory shows placed = subst (λ x. ShowsBucket x child.0 k new) (sym (changed.next_is given t nodes before c v number mid turn))
       (new_node.placed_next S before.view.core dir name child kind sound core_known does r.may.apart k old new is_directory shows placed)
@@ -250,7 +250,7 @@ module _ {given : ℕ → Option OldKept} {t : TableState} {nodes : ℕ} {before
         → value_held nodes three.held which ≡ value_held nodes before.held which
     same_new which is_cell new = same_by which (not_at which is_cell new) (not_mine which is_cell new)
 
-    pub new_there : HoldsNew nodes three.held child kind
+    pub new_there : HoldsCreated nodes three.held child kind
     new_there = new_again nodes before.held child kind r.may.new three.held (λ other which is_cell new. same_new which (to_cell other which is_cell new) new)
       where
         to_cell : (other : ℕ) (which : CellId) → IsCell nodes other which → is_new_cell child kind which ≡ true → IsCell nodes cores which
@@ -280,7 +280,7 @@ module _ {given : ℕ → Option OldKept} {t : TableState} {nodes : ℕ} {before
         file_mine same = let never : mine ≡ id.File child = places_apart nodes cores mine (id.File child) r.work.core r.may.new.within same in
             absurd (cc (never))
 
-    module _ (four : Hand Cell Fact) (settles : Settles nodes (is_new_cell child kind) dir three four) where
+    module _ (four : Hand Cell Fact) (settles : SettlesCreation nodes (is_new_cell child kind) dir three four) where
       four_is : four ≡ record three { held = four.held }
       four_is = ap (λ (h : Hand Cell Fact). record h { held = four.held }) settles.frame
 

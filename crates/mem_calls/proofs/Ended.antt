@@ -49,7 +49,7 @@ use Rattle.mem_calls.specs.Outcome.{IsAnswered}
 use Rattle.mem_calls.specs.Parts.{HasRoomFor}
 use Rattle.mem_calls.specs.Sums.{HoldsBuckets}
 use Rattle.mem_calls.specs.Changes.{IsWithoutRow, RemovesRow, IsReadyForRow}
-use Rattle.mem_calls.specs.Ends.{NamesDirectory, IsPlaced, PlacesDirectory}
+use Rattle.mem_calls.specs.Ends.{NamesDirectory, IsPlacedBucket, PlacesDirectory}
 use Rattle.mem_calls.specs.declared.ready.Ready.{Ready}
 use Rattle.mem_calls.proofs.PartKept.{same_part_stands, room_for_one}
 use Rattle.mem_calls.proofs.Nothing.{some_first}
@@ -269,7 +269,7 @@ module _ (given : ℕ → Option OldKept) (t : TableState) (nodes : ℕ) (before
 
   -- and of the directory's own
   own_home : (k : ℕ) (value : Cell) (old new : Bucket) → k < 8 → bucket_held nodes before.held child k ≡ Some old → as_bucket value ≡ Some new
-      → IsPlaced None old new → StandsForCell given before.view.first (account_of after_log) (id.Bucket child k) value
+      → IsPlacedBucket None old new → StandsForCell given before.view.first (account_of after_log) (id.Bucket child k) value
   own_home k value old new lt was is nowhere = value_of_bucket given before.view.first after_log child k value new is
       (subst (λ x. Rattle.mem_values.specs.Stands.ShowsBucket x child.0 k new) (sym (changed.next_is given t nodes before c v number mid turn))
       (nowhere_after S before.view.core dir name child (changed.sound given t nodes before c v number mid turn)

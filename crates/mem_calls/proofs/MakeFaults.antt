@@ -28,7 +28,7 @@ use Rattle.mem_values.specs.Laws.{MayMeet}
 use Rattle.mem_calls.specs.Table.{IsFileTable, AreNumbersOf}
 use Rattle.mem_calls.specs.Held.{part_held}
 use Rattle.mem_calls.specs.declared.numbers.Numbers.{Numbers}
-use Rattle.mem_calls.specs.Creations.{creates, IsNext, HasNext}
+use Rattle.mem_calls.specs.Creations.{creates, IsNextNumber, HasNext}
 use Rattle.mem_calls.proofs.Shown.{part_shows}
 use Rattle.mem_calls.proofs.NamedRows.{row_in}
 use Rattle.mem_calls.proofs.LinkFaults.{at_most, above}
@@ -83,7 +83,7 @@ module _ (hand : Hand Cell Fact) (nodes : ℕ) (counted : nodes ≡ node_count h
   -- a core counts fewer nodes than there are numbers
   made_below : (child : NodeId) → next ≡ Some child → has.part.made < nodes
   made_below child is =
-      let n = subst (λ o. IsNext hand.view.first.first hand.view.first.share hand.view.core has.part.made o) is has.next_is in
+      let n = subst (λ o. IsNextNumber hand.view.first.first hand.view.first.share hand.view.core has.part.made o) is has.next_is in
       let below = count_below has.part.made n.0 in
       omega (arith, below)
 
@@ -99,14 +99,14 @@ module _ (hand : Hand Cell Fact) (nodes : ℕ) (counted : nodes ≡ node_count h
 
     pub none_left : next ≡ None → tree.share ≤ made_by tree hand.view.core
     none_left is =
-        let n = subst (λ o. IsNext hand.view.first.first hand.view.first.share hand.view.core has.part.made o) is has.next_is in
+        let n = subst (λ o. IsNextNumber hand.view.first.first hand.view.first.share hand.view.core has.part.made o) is has.next_is in
         let share = meets.share in
         let made = made_is in
         omega (arith, n, share, made)
 
     pub some_left : (child : NodeId) → next ≡ Some child → made_by tree hand.view.core < tree.share
     some_left child is =
-        let n = subst (λ o. IsNext hand.view.first.first hand.view.first.share hand.view.core has.part.made o) is has.next_is in
+        let n = subst (λ o. IsNextNumber hand.view.first.first hand.view.first.share hand.view.core has.part.made o) is has.next_is in
         let few = n.0 in
         let share = meets.share in
         let made = made_is in
@@ -114,7 +114,7 @@ module _ (hand : Hand Cell Fact) (nodes : ℕ) (counted : nodes ≡ node_count h
 
     pub number_is : (child : NodeId) → next ≡ Some child → next_number tree hand.view.core ≡ child.0
     number_is child is =
-        let n = subst (λ o. IsNext hand.view.first.first hand.view.first.share hand.view.core has.part.made o) is has.next_is in
+        let n = subst (λ o. IsNextNumber hand.view.first.first hand.view.first.share hand.view.core has.part.made o) is has.next_is in
         (λ i. meets.first i + hand.view.core * meets.share i + sym made_is i) ∙ sym n.1
 
     -- no node has it yet, so it is not that of a directory
@@ -141,6 +141,6 @@ module _ (t : TableState) (nodes : ℕ) (table : IsFileTable t nodes) (numbers :
       let all : t.first.first + core * t.first.share + t.first.share ≤ nodes = omega (arith, most, count) in
       subst (λ (n : ℕ × ℕ). n.0 + core * n.1 + n.1 ≤ nodes) (λ i. (sym are.first_is i, sym are.share_is i)) all
 
-  pub next_below : (made : ℕ) (next : Option NodeId) → IsNext numbers.first numbers.share core made next → IfSome next (λ child. child.0 < nodes)
+  pub next_below : (made : ℕ) (next : Option NodeId) → IsNextNumber numbers.first numbers.share core made next → IfSome next (λ child. child.0 < nodes)
   next_below made None is = tt
   next_below made (Some child) is = let below = shares_below in let few = is.0 in let number = is.1 in omega (arith, below, few, number)

@@ -18,7 +18,7 @@ use Rattle.mem_values.specs.Places.{cell_place, IsCell}
 use Rattle.mem_values.proofs.Places.{places_apart}
 use Rattle.mem_calls.specs.Held.{value_held, as_bucket, as_file, as_pending, file_held, pending_held, HoldsDirectory}
 use Rattle.mem_calls.specs.Working.{StillHolds, Gains}
-use Rattle.mem_calls.specs.Creations.{HoldsOwn, HoldsNew, HoldsCreation, is_new_cell}
+use Rattle.mem_calls.specs.Creations.{HoldsOwn, HoldsCreated, HoldsCreation, is_new_cell}
 use Rattle.mem_calls.proofs.Nothing.{some_first}
 use Rattle.mem_calls.proofs.HeldKinds.{is_value, some_of, still_file, still_pending, still_directory, holds_pending}
 use Rattle.mem_calls.proofs.Statuses.{still_buckets}
@@ -63,7 +63,7 @@ module _ (nodes cores : ℕ) (test : CellId → Bool) (one other : CellId) where
   pub apart_by : IsCell nodes cores one → IsCell nodes cores other → test one ≡ false → test other ≡ true → cell_place nodes one ≡ cell_place nodes other → ⊥
   apart_by first second fails passes same = both_ways (test one) fails (ap test (places_apart nodes cores one other first second same) ∙ passes)
 
-module _ (nodes : ℕ) (held : List (HeldCell Cell)) (child : NodeId) (kind : Kind) (holds : HoldsNew nodes held child kind) where
+module _ (nodes : ℕ) (held : List (HeldCell Cell)) (child : NodeId) (kind : Kind) (holds : HoldsCreated nodes held child kind) where
   -- they are held
   pub new_held : (cores : ℕ) (which : CellId) → IsCell nodes cores which → is_new_cell child kind which ≡ true → IsSome (value_held nodes held which)
   new_held cores which is_cell new = elim (new_is child kind which new) [
@@ -84,7 +84,7 @@ module _ (nodes : ℕ) (held : List (HeldCell Cell)) (child : NodeId) (kind : Ki
   pub new_again : (other : List (HeldCell Cell))
       → ((cores : ℕ) (which : CellId) → IsCell nodes cores which → is_new_cell child kind which ≡ true
       → value_held nodes other which ≡ value_held nodes held which)
-      → HoldsNew nodes other child kind
+      → HoldsCreated nodes other child kind
   new_again other same = record {
     within = holds.within;
     own = by kind refl;
@@ -131,7 +131,7 @@ module _ (nodes : ℕ) (before after : Hand Cell Fact) (dir : NodeId) (name : Li
       → child.0 < nodes → next ≡ Some child → HoldsCreation nodes after.held dir name kind next
   creation_held place own gains within is = record {
     place = still_directory nodes before after dir (bucket name) gains.still place;
-    new = λ other is_other lt apart. subst (λ n. HoldsNew nodes after.held n kind) (some_node child other (sym is ∙ is_other))
+    new = λ other is_other lt apart. subst (λ n. HoldsCreated nodes after.held n kind) (some_node child other (sym is ∙ is_other))
         (record { within = within; own = still_own nodes before after gains.still child kind own; pending = holds_pending nodes before after child gains });
   }
     where

@@ -39,7 +39,7 @@ use Rattle.mem_values.specs.Places.{cell_place}
 use Rattle.mem_values.specs.Stands.{ShowsBucket, file_links}
 use Rattle.mem_values.specs.Touches.{KeepsCell, touches_standing}
 use Rattle.mem_values.proofs.Moves.{sound_after}
-use Rattle.mem_calls.specs.Ends.{IsPlaced}
+use Rattle.mem_calls.specs.Ends.{IsPlacedBucket}
 use Rattle.mem_calls.specs.Creations.{creates, is_new_cell}
 use Rattle.mem_calls.proofs.Placed.{placed_after}
 use Rattle.mem_calls.proofs.StandsNowhere.{not_equal}
@@ -149,7 +149,7 @@ module _ (tree : TreeState) (core : ℕ) (dir : NodeId) (name : List ℕ) (child
     stays = and_second (is_directory_kind kind) (next_number tree core == dir.0) (ap (λ n. n == dir.0) number ∙ not_equal child.0 dir.0 apart)
 
     -- a bucket of the new directory
-    pub placed_next : (k : ℕ) (old new : Bucket) → kind ≡ Directory → ShowsBucket tree child.0 k old → IsPlaced (Some dir) old new
+    pub placed_next : (k : ℕ) (old new : Bucket) → kind ≡ Directory → ShowsBucket tree child.0 k old → IsPlacedBucket (Some dir) old new
         → ShowsBucket (tree_after_call tree core (call.Make dir name kind)) child.0 k new
     placed_next k old new directory shows placed =
         placed_after tree core c is lt child.0 k (and_first (dir.0 == child.0) (bucket name == k) (not_equal dir.0 child.0 (λ same. apart (sym same))))

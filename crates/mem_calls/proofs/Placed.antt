@@ -13,7 +13,7 @@ use Rattle.sfs_tree.specs.Verdict.{tree_after_call}
 use Rattle.sfs_tree.proofs.KeepsRest.{calls_keep_the_rest}
 use Rattle.mem_values.specs.declared.bucket.Bucket.{Bucket}
 use Rattle.mem_values.specs.Stands.{ShowsBucket, if_directory}
-use Rattle.mem_calls.specs.Ends.{IsPlaced}
+use Rattle.mem_calls.specs.Ends.{IsPlacedBucket}
 use Rattle.mem_calls.proofs.RowsGo.{directories_kept, old_directory}
 
 module _ (tree : TreeState) (core : ℕ) (c : Call) (is : IsSoundTree tree) (lt : core < length tree.made) (node number : ℕ)
@@ -25,7 +25,7 @@ module _ (tree : TreeState) (core : ℕ) (c : Call) (is : IsSoundTree tree) (lt 
   rows_same = (calls_keep_the_rest tree core c is lt).rows node (λ n. bucket n == number) apart
 
   -- It shows the directory after the call.
-  pub placed_after : (place : Option NodeId) (old new : Bucket) → ShowsBucket tree node number old → IsPlaced place old new
+  pub placed_after : (place : Option NodeId) (old new : Bucket) → ShowsBucket tree node number old → IsPlacedBucket place old new
       → number_of place ≡ stands_of next node → ShowsBucket next node number new
   placed_after place old new shows placed stands = record {
     rows = placed.rows ∙ (shows.rows ∙ sym rows_same);

@@ -15,7 +15,7 @@ use Rattle.mem_values.specs.declared.cell_id.CellId.TheVariants as id
 use Rattle.mem_values.specs.declared.fact.Fact.{Fact}
 use Rattle.mem_values.specs.Places.{cell_place}
 use Rattle.mem_calls.specs.Held.{value_held, as_bucket, bucket_held}
-use Rattle.mem_calls.specs.Ends.{IsPlaced, PlacesBucket, PlacesDirectory}
+use Rattle.mem_calls.specs.Ends.{IsPlacedBucket, PlacesBucket, PlacesDirectory}
 use Rattle.mem_calls.proofs.Nothing.{some_first}
 use Rattle.mem_calls.proofs.HeldKinds.{some_of}
 use Rattle.mem_calls.proofs.Taken.{value_with}
@@ -68,10 +68,14 @@ module _ (nodes : ℕ) (node : NodeId) (count : ℕ) (place : Option NodeId) (be
           ∙ leaves.change.is)
 
       this : (k : ℕ) (old : Bucket) → count ≡ k → bucket_held nodes before.held node k ≡ Some old → (new : Bucket)
-          × (bucket_held nodes after.held node k ≡ Some new) × IsPlaced place old new
+          × (bucket_held nodes after.held node k ≡ Some new) × IsPlacedBucket place old new
       this k old here was =
-          let same : leaves.change.old ≡ old = cc (sym leaves.change.was ∙ (same_next ∙ (ap (bucket_held nodes before.held node) here ∙ was))) in
-          (leaves.change.new, ap (bucket_held nodes after.held node) (sym here) ∙ found_new, subst (λ b. IsPlaced place b leaves.change.new) same leaves.placed)
+          let same : leaves.change.old ≡ old = cc (sym leaves.change.was ∙ (same_next ∙ (ap (bucket_held nodes before.held node) here ∙ was))) in (
+            leaves.change.new,
+            ap (bucket_held nodes after.held node) (sym here)
+                ∙ found_new,
+            subst (λ b. IsPlacedBucket place b leaves.change.new) same leaves.placed,
+          )
 
 -- before the first bucket nothing has changed
 pub at_first : (nodes : ℕ) (node : NodeId) (place : Option NodeId) (hand : Hand Cell Fact) → PlacesDirectory nodes node 0 place hand hand

@@ -23,20 +23,20 @@ use Rattle.mem_values.proofs.Places.{places_apart}
 use Rattle.mem_calls.specs.Held.{value_held, as_bucket, as_file, as_pending, bucket_held, file_held, pending_held}
 use Rattle.mem_calls.specs.Sums.{HoldsBuckets}
 use Rattle.mem_calls.specs.Changes.{PutsValue, RaisesLinks}
-use Rattle.mem_calls.specs.Ends.{IsPlaced, PlacesDirectory}
-use Rattle.mem_calls.specs.Creations.{is_own_cell, is_flushed_cell, IsSettled, Settles}
+use Rattle.mem_calls.specs.Ends.{IsPlacedBucket, PlacesDirectory}
+use Rattle.mem_calls.specs.Creations.{is_own_cell, is_flushed_cell, IsSettled, SettlesCreation}
 use Rattle.mem_calls.proofs.Nothing.{some_first}
 use Rattle.mem_calls.proofs.HeldKinds.{is_value, some_of}
 use Rattle.mem_calls.proofs.Taken.{value_with}
 use Rattle.mem_calls.proofs.Unlinked.{apart_value}
 
 -- what becomes of a value by what becomes of the bucket, the file or the flushed node that it is
-settled_bucket : (dir : NodeId) (x y : Cell) (old new : Bucket) → as_bucket x ≡ Some old → as_bucket y ≡ Some new → IsPlaced (Some dir) old new
+settled_bucket : (dir : NodeId) (x y : Cell) (old new : Bucket) → as_bucket x ≡ Some old → as_bucket y ≡ Some new → IsPlacedBucket (Some dir) old new
     → IsSettled dir x y
 settled_bucket dir (cell.Bucket p) (cell.Bucket q) old new one two placed =
     let was : old ≡ p.value = cc (one) in
     let is : new ≡ q.value = cc (two) in
-    subst (λ (b : Bucket × Bucket). IsPlaced (Some dir) b.0 b.1) (λ i. (was i, is i)) placed
+    subst (λ (b : Bucket × Bucket). IsPlacedBucket (Some dir) b.0 b.1) (λ i. (was i, is i)) placed
 settled_bucket dir (cell.Bucket p) (cell.Lock q) old new one two placed = absurd (cc (two))
 settled_bucket dir (cell.Bucket p) (cell.File q) old new one two placed = absurd (cc (two))
 settled_bucket dir (cell.Bucket p) (cell.Pending q) old new one two placed = absurd (cc (two))
@@ -104,7 +104,7 @@ module _ (nodes : ℕ) (dir : NodeId) (before after : Hand Cell Fact) where
   -- one cell alone
   settles_one : (test : CellId → Bool) (one : CellId) (old new : Cell) → ((cores : ℕ) → IsCell nodes cores one) → test one ≡ true
       → ((which : CellId) → test which ≡ true → which ≡ one)
-      → value_held nodes before.held one ≡ Some old → PutsValue nodes one new before after → IsSettled dir old new → Settles nodes test dir before after
+      → value_held nodes before.held one ≡ Some old → PutsValue nodes one new before after → IsSettled dir old new → SettlesCreation nodes test dir before after
   settles_one test one old new is_one passes only was puts is = record {
     frame = ap (λ (h : Hand Cell Fact). record h { held = before.held }) puts;
     places = ap (λ (h : Hand Cell Fact). places_of h.held) puts ∙ same_places (cell_place nodes one) before.held new;
@@ -121,7 +121,7 @@ module _ (nodes : ℕ) (dir : NodeId) (before after : Hand Cell Fact) where
         (λ at. both_ways (test which) fails (ap test (places_apart nodes cores which one is_cell (is_one cores) (sym at)) ∙ passes));
   }
 
-  pub settles_file : (child : NodeId) → child.0 < nodes → RaisesLinks nodes child before after → Settles nodes (is_own_cell child File) dir before after
+  pub settles_file : (child : NodeId) → child.0 < nodes → RaisesLinks nodes child before after → SettlesCreation nodes (is_own_cell child File) dir before after
   settles_file child within raised =
       let there = is_value (value_held nodes before.held (id.File child)) (some_first as_file (value_held nodes before.held (id.File child))
       (some_of (file_held nodes before.held child) raised.change.old raised.change.was)) in
@@ -132,7 +132,8 @@ module _ (nodes : ℕ) (dir : NodeId) (before after : Hand Cell Fact) where
 
   pub settles_pending : (child : NodeId) (old new : Pending) (value : Cell) → child.0 < nodes → pending_held nodes before.held child ≡ Some old
       → as_pending value ≡ Some new
-      → new ≡ record old { made_in = Some dir } → PutsValue nodes (id.Pending child) value before after → Settles nodes (is_flushed_cell child) dir before after
+      → new ≡ record old { made_in = Some dir } → PutsValue nodes (id.Pending child) value before after
+      → SettlesCreation nodes (is_flushed_cell child) dir before after
   settles_pending child old new value within was is made puts =
       let there = is_value (value_held nodes before.held (id.Pending child)) (some_first as_pending (value_held nodes before.held (id.Pending child))
       (some_of (pending_held nodes before.held child) old was)) in
@@ -166,7 +167,7 @@ module _ (nodes : ℕ) (dir : NodeId) (before after : Hand Cell Fact) where
     one_bucket cores (id.Pending node) x is_cell passes found = absurd (cc (passes))
     one_bucket cores (id.Part core) x is_cell passes found = absurd (cc (passes))
 
-    pub settles_directory : Settles nodes (is_own_cell child Directory) dir before after
+    pub settles_directory : SettlesCreation nodes (is_own_cell child Directory) dir before after
     settles_directory = record {
       frame = all.frame;
       places = all.places;
@@ -178,8 +179,8 @@ module _ (nodes : ℕ) (dir : NodeId) (before after : Hand Cell Fact) where
 
 module _ (nodes : ℕ) (dir : NodeId) (before mid after : Hand Cell Fact) where
   -- cells of one sort and then those of another
-  pub settles_both : (one two : CellId → Bool) → ((which : CellId) → one which ≡ true → two which ≡ false) → Settles nodes one dir before mid
-      → Settles nodes two dir mid after → Settles nodes (λ which. one which || two which) dir before after
+  pub settles_both : (one two : CellId → Bool) → ((which : CellId) → one which ≡ true → two which ≡ false) → SettlesCreation nodes one dir before mid
+      → SettlesCreation nodes two dir mid after → SettlesCreation nodes (λ which. one which || two which) dir before after
   settles_both one two apart first second = record {
     frame = ap (λ (h : Hand Cell Fact). record h { held = before.held }) second.frame ∙ first.frame;
     places = second.places ∙ first.places;
@@ -192,7 +193,7 @@ module _ (nodes : ℕ) (dir : NodeId) (before mid after : Hand Cell Fact) where
   }
 
   -- what was flushed of a node is still held when its own cells have changed
-  pub flushed_still : (child : NodeId) (kind : Kind) → child.0 < nodes → Settles nodes (is_own_cell child kind) dir before mid
+  pub flushed_still : (child : NodeId) (kind : Kind) → child.0 < nodes → SettlesCreation nodes (is_own_cell child kind) dir before mid
       → IsSome (pending_held nodes before.held child) → IsSome (pending_held nodes mid.held child)
   flushed_still child kind within settles some =
       subst (λ o. IsSome (option_and_then as_pending o)) (sym (settles.rest 0 (id.Pending child) within (by kind))) some

@@ -15,12 +15,12 @@ use Rattle.mem_values.specs.declared.cell_id.CellId.TheVariants as id
 use Rattle.mem_values.specs.declared.fact.Fact.{Fact}
 use Rattle.mem_values.specs.Account.{account_of}
 use Rattle.mem_values.specs.Stands.{ShowsBucket, StandsFile, StandsPending, StandsForCell}
-use Rattle.mem_calls.specs.Ends.{IsPlaced}
+use Rattle.mem_calls.specs.Ends.{IsPlacedBucket}
 use Rattle.mem_calls.specs.Creations.{IsSettled}
 
 module _ (given : ℕ → Option OldKept) (first : TreeState) (log later : List (Event Fact)) (dir child : NodeId) where
   pub bucket_settled : (k : ℕ) (x y : Cell)
-      → ((old new : Bucket) → ShowsBucket (tree_after first (calls_in log)) child.0 k old → IsPlaced (Some dir) old new
+      → ((old new : Bucket) → ShowsBucket (tree_after first (calls_in log)) child.0 k old → IsPlacedBucket (Some dir) old new
       → ShowsBucket (tree_after first (calls_in later)) child.0 k new)
       → StandsForCell given first (account_of log) (id.Bucket child k) x → IsSettled dir x y
       → StandsForCell given first (account_of later) (id.Bucket child k) y

@@ -18,7 +18,7 @@ use Rattle.sfs_tree.proofs.RowFacts.{holder_found, removed_cases}
 use Rattle.mem_values.specs.declared.bucket.Bucket.{Bucket}
 use Rattle.mem_values.specs.Stands.{ShowsBucket}
 use Rattle.mem_values.specs.Touches.{touches_standing}
-use Rattle.mem_calls.specs.Ends.{IsPlaced}
+use Rattle.mem_calls.specs.Ends.{IsPlacedBucket}
 use Rattle.mem_calls.proofs.RowsGo.{directory_kept}
 use Rattle.mem_calls.proofs.Placed.{placed_after}
 
@@ -55,7 +55,7 @@ module _ (tree : TreeState) (core : ℕ) (dir : NodeId) (name : List ℕ) (child
     pub stays : touches_standing tree core c dir.0 ≡ false
     stays = ap (is_this dir.0) row ∙ not_equal child.0 dir.0 apart
 
-    module _ (number : ℕ) (old new : Bucket) (shows : ShowsBucket tree child.0 number old) (nowhere : IsPlaced None old new) where
+    module _ (number : ℕ) (old new : Bucket) (shows : ShowsBucket tree child.0 number old) (nowhere : IsPlacedBucket None old new) where
       outside : is_in_part child.0 (λ n. bucket n == number) dir.0 name ≡ false
       outside = ap (λ b. b && (bucket name == number)) (not_equal dir.0 child.0 (λ same. apart (sym same)))
 

@@ -3,10 +3,10 @@ use Rattle.sfs_tree.specs.declared.call.Call.{Call}
 use Rattle.sfs_tree.specs.declared.call.Call.TheVariants as call
 
 -- A plain call: neither a rename nor an fsync.
-abbrev pub IsPlain : Call → Type 0
-IsPlain (call.Rename dir name to_dir to_name) = ⊥
-IsPlain (call.Fsync node) = ⊥
-IsPlain _ = Unit {0}
+abbrev pub IsPlainCall : Call → Type 0
+IsPlainCall (call.Rename dir name to_dir to_name) = ⊥
+IsPlainCall (call.Fsync node) = ⊥
+IsPlainCall _ = Unit {0}
 
 -- A plain call that may change the tree.
 abbrev pub IsPlainChange : Call → Type 0

@@ -92,7 +92,7 @@ pub record IsReadyForRow (nodes : ℕ) (node : NodeId) (name : List ℕ) (before
   pub out : (value : Cell) × PutsValue nodes (id.Part (record { 0 = before.view.core })) value before after
 
 -- The place of a name is held, and has no row.
-pub record IsFree (nodes : ℕ) (held : List (HeldCell Cell)) (node : NodeId) (name : List ℕ) : Type 0 where
+pub record IsFreePlace (nodes : ℕ) (held : List (HeldCell Cell)) (node : NodeId) (name : List ℕ) : Type 0 where
   pub within : node.0 < nodes
   pub bucket_of : Bucket
   pub bucket_is : bucket_held nodes held node (bucket name) ≡ Some bucket_of
@@ -124,7 +124,7 @@ pub record RaisesLinks (nodes : ℕ) (node : NodeId) (before after : Hand Cell F
 -- A file that is held has names, and may have one more; the place of a name is free.
 pub record MayLink (nodes : ℕ) (held : List (HeldCell Cell)) (file node : NodeId) (name : List ℕ) : Type 0 where
   pub file_within : file.0 < nodes
-  pub place : IsFree nodes held node name
+  pub place : IsFreePlace nodes held node name
   pub file_of : FileCell
   pub file_is : file_held nodes held file ≡ Some file_of
   pub linked : 0 < file_of.links

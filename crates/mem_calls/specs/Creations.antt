@@ -18,24 +18,24 @@ use Rattle.mem_values.specs.declared.fact.Fact.{Fact}
 use Rattle.mem_values.specs.Places.{IsCell}
 use Rattle.mem_calls.specs.Held.{value_held, file_held, part_held, pending_held, HoldsDirectory}
 use Rattle.mem_calls.specs.Sums.{HoldsBuckets}
-use Rattle.mem_calls.specs.Changes.{IsFree}
-use Rattle.mem_calls.specs.Ends.{IsPlaced}
+use Rattle.mem_calls.specs.Changes.{IsFreePlace}
+use Rattle.mem_calls.specs.Ends.{IsPlacedBucket}
 
 -- a node of this number and kind comes with a row, and is the reply
 abbrev pub creates : NodeId → NodeId → List ℕ → Kind → Verdict
 creates child dir name kind = record { reply = reply.Node child kind; effect = Adds dir.0 name child.0; makes = Some kind }
 
 -- the number that a core gives next, by the first of all, the share of each and how many it has given; none once its share is given
-abbrev pub IsNext : ℕ → ℕ → ℕ → ℕ → Option NodeId → Type 0
-IsNext first share core made None = share ≤ made
-IsNext first share core made (Some node) = (made < share) × (node.0 ≡ first + core * share + made)
+abbrev pub IsNextNumber : ℕ → ℕ → ℕ → ℕ → Option NodeId → Type 0
+IsNextNumber first share core made None = share ≤ made
+IsNextNumber first share core made (Some node) = (made < share) × (node.0 ≡ first + core * share + made)
 
 -- This is the number that a core gives next by its own log, which it holds.
 pub record HasNext (nodes : ℕ) (hand : Hand Cell Fact) (next : Option NodeId) : Type 0 where
   pub known : hand.view.core < length hand.view.first.made
   pub part : PartCell
   pub held : part_held nodes hand.held hand.view.core ≡ Some part
-  pub next_is : IsNext hand.view.first.first hand.view.first.share hand.view.core part.made next
+  pub next_is : IsNextNumber hand.view.first.first hand.view.first.share hand.view.core part.made next
 
 -- the file of a node is held, or its buckets
 abbrev pub HoldsOwn : ℕ → List (HeldCell Cell) → NodeId → Kind → Type 0
@@ -43,7 +43,7 @@ HoldsOwn nodes held node File = IsSome (file_held nodes held node)
 HoldsOwn nodes held node Directory = HoldsBuckets nodes held node
 
 -- All cells are held that a creation changes of the node that it makes.
-pub record HoldsNew (nodes : ℕ) (held : List (HeldCell Cell)) (child : NodeId) (kind : Kind) : Type 0 where
+pub record HoldsCreated (nodes : ℕ) (held : List (HeldCell Cell)) (child : NodeId) (kind : Kind) : Type 0 where
   pub within : child.0 < nodes
   pub own : HoldsOwn nodes held child kind
   pub pending : IsSome (pending_held nodes held child)
@@ -51,13 +51,13 @@ pub record HoldsNew (nodes : ℕ) (held : List (HeldCell Cell)) (child : NodeId)
 -- The place of a name is held, and of the node that is made there what the creation changes, where the directory is another node.
 pub record HoldsCreation (nodes : ℕ) (held : List (HeldCell Cell)) (dir : NodeId) (name : List ℕ) (kind : Kind) (next : Option NodeId) : Type 0 where
   pub place : HoldsDirectory nodes held dir (bucket name)
-  pub new : (child : NodeId) → next ≡ Some child → dir.0 < nodes → child.0 ≢ dir.0 → HoldsNew nodes held child kind
+  pub new : (child : NodeId) → next ≡ Some child → dir.0 < nodes → child.0 ≢ dir.0 → HoldsCreated nodes held child kind
 
 -- A node may be made: the place of its name is free, its cells are held, it is not the directory itself, and the core counts fewer nodes
 -- than it can.
 pub record MayMake (nodes : ℕ) (hand : Hand Cell Fact) (dir : NodeId) (name : List ℕ) (child : NodeId) (kind : Kind) : Type 0 where
-  pub place : IsFree nodes hand.held dir name
-  pub new : HoldsNew nodes hand.held child kind
+  pub place : IsFreePlace nodes hand.held dir name
+  pub new : HoldsCreated nodes hand.held child kind
   pub apart : child.0 ≢ dir.0
   pub few : (part : PartCell) → part_held nodes hand.held hand.view.core ≡ Some part → part.made < 4294967295
 
@@ -78,13 +78,13 @@ is_new_cell child kind which = is_own_cell child kind which || is_flushed_cell c
 
 -- what a creation in a directory makes of the value of such a cell
 abbrev pub IsSettled : NodeId → Cell → Cell → Type 0
-IsSettled dir (cell.Bucket old) (cell.Bucket new) = IsPlaced (Some dir) old.value new.value
+IsSettled dir (cell.Bucket old) (cell.Bucket new) = IsPlacedBucket (Some dir) old.value new.value
 IsSettled dir (cell.File old) (cell.File new) = (new.value.links ≡ old.value.links + 1) × (new.value.file ≡ old.value.file)
 IsSettled dir (cell.Pending old) (cell.Pending new) = new.value ≡ record old.value { made_in = Some dir }
 IsSettled dir _ _ = ⊥
 
 -- Cells that pass a test get what a creation in a directory makes of them, and nothing else changes.
-pub record Settles (nodes : ℕ) (test : CellId → Bool) (dir : NodeId) (before after : Hand Cell Fact) : Type 0 where
+pub record SettlesCreation (nodes : ℕ) (test : CellId → Bool) (dir : NodeId) (before after : Hand Cell Fact) : Type 0 where
   pub frame : record after { held = before.held } ≡ before
   pub places : places_of after.held ≡ places_of before.held
   pub settled : (cores : ℕ) (which : CellId) (old : Cell) → IsCell nodes cores which → test which ≡ true → value_held nodes before.held which ≡ Some old

@@ -37,7 +37,7 @@ pub record HoldsEnding (nodes : ℕ) (node : NodeId) (name : List ℕ) (hand : H
   pub few : length hand.held ≤ 10
 
 -- A bucket of a directory that stands here, with the same rows.
-pub record IsPlaced (place : Option NodeId) (old new : Bucket) : Type 0 where
+pub record IsPlacedBucket (place : Option NodeId) (old new : Bucket) : Type 0 where
   pub rows : new.rows ≡ old.rows
   pub directories : new.directories ≡ old.directories
   pub stands : new.stands ≡ place
@@ -45,13 +45,13 @@ pub record IsPlaced (place : Option NodeId) (old new : Bucket) : Type 0 where
 -- by a bucket that is held its directory stands here
 pub record PlacesBucket (nodes : ℕ) (node : NodeId) (number : ℕ) (place : Option NodeId) (before after : Hand Cell Fact) : Type 0 where
   pub change : ReplacesBucket nodes node number before after
-  pub placed : IsPlaced place change.old change.new
+  pub placed : IsPlacedBucket place change.old change.new
 
 -- By so many buckets that are held a directory stands here, and nothing else changes.
 pub record PlacesDirectory (nodes : ℕ) (node : NodeId) (count : ℕ) (place : Option NodeId) (before after : Hand Cell Fact) : Type 0 where
   pub frame : record after { held = before.held } ≡ before
   pub places : places_of after.held ≡ places_of before.held
   pub placed : (number : ℕ) (old : Bucket) → number < count → bucket_held nodes before.held node number ≡ Some old
-      → (new : Bucket) × (bucket_held nodes after.held node number ≡ Some new) × IsPlaced place old new
+      → (new : Bucket) × (bucket_held nodes after.held node number ≡ Some new) × IsPlacedBucket place old new
   pub rest : (which : CellId) → ((number : ℕ) → number < count → cell_place nodes (id.Bucket node number) ≡ cell_place nodes which → ⊥)
       → value_held nodes after.held which ≡ value_held nodes before.held which

@@ -3,7 +3,7 @@ ghost use Rattle.std.specs.Prelude.{◌<◌, ◌≤◌};
 ghost use Rattle.sfs_tree.specs.Step.{IsReadable};
 ghost use Rattle.stamp_table.specs.Table.{IsBetweenCalls};
 ghost use Rattle.mem_calls.specs.Table.{IsFileTable, AreNumbersOf};
-ghost use Rattle.mem_calls.specs.Calls.{IsPlain, IsPlainChange};
+ghost use Rattle.mem_calls.specs.Calls.{IsPlainCall, IsPlainChange};
 ghost use Rattle.mem_calls.specs.Outcome.{ComesTo};
 
 use crate::holding::CALL_CELLS;
@@ -32,7 +32,7 @@ pub fn call<R: Wait, T: Given, G: Gate>(
     requires spare { 0 < core.old.spare }
     requires room { CALL_CELLS ≤ core.old.room }
     requires readable { IsReadable call }
-    requires plain { IsPlain call }
+    requires plain { IsPlainCall call }
     ensures { ComesTo shared.now call core.old core.new result }
 {
     match call {

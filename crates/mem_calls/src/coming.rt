@@ -3,7 +3,7 @@ ghost use Rattle.std.specs.Prelude.{MatchResult};
 ghost use Rattle.mem_calls.specs.Table.{IsFileTable};
 ghost use Rattle.mem_calls.specs.Held.{HoldsPart};
 ghost use Rattle.mem_calls.specs.Working.{IsWorking};
-ghost use Rattle.mem_calls.specs.Changes.{IsFree, IsComing};
+ghost use Rattle.mem_calls.specs.Changes.{IsFreePlace, IsComing};
 ghost use Rattle.mem_calls.specs.Outcome.{IsRefusedMemory};
 
 use crate::ready::{Ready, make_ready};
@@ -33,7 +33,7 @@ pub(crate) fn make_coming<T: Given>(
     requires table { IsFileTable shared.now nodes }
     requires work { IsWorking T.given shared.now core.old }
     requires part { HoldsPart nodes core.old }
-    requires free { IsFree nodes core.old.held dir name.now }
+    requires free { IsFreePlace nodes core.old.held dir name.now }
     ensures { MatchResult result (λ coming. IsComing nodes dir name.now child.0.0 child.1 core.old coming core.new)
         (λ _. IsRefusedMemory shared.now core.old core.new) }
 {

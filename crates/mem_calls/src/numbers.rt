@@ -1,6 +1,6 @@
 // The numbers of the nodes that cores make.
 ghost use Rattle.std.specs.Prelude.{◌+◌, ◌*◌, ◌<◌};
-ghost use Rattle.mem_calls.specs.Creations.{IsNext};
+ghost use Rattle.mem_calls.specs.Creations.{IsNextNumber};
 
 use sfs_base::{CoreId, NodeId};
 
@@ -16,7 +16,7 @@ impl Numbers {
     /// The number that a core gives next, once it has made so many nodes; none once it has made its share.
     pub(crate) fn next(self, core: CoreId, made: u32) -> Option<NodeId>
         requires { self.first + core.0 * self.share + self.share < 4294967296 }
-        ensures { IsNext self.first self.share core.0 made result }
+        ensures { IsNextNumber self.first self.share core.0 made result }
     {
         if made >= self.share {
             return None;

@@ -2,7 +2,7 @@
 ghost use Rattle.std.specs.Prelude.{◌≡◌, ◌<◌, Some, IsSome};
 ghost use Rattle.mem_values.specs.declared.cell.FileCell.{FileCell as FileValue};
 ghost use Rattle.mem_calls.specs.Held.{file_held, pending_held};
-ghost use Rattle.mem_calls.specs.Creations.{HoldsOwn, HoldsNew, is_own_cell, is_flushed_cell, is_new_cell, Settles};
+ghost use Rattle.mem_calls.specs.Creations.{HoldsOwn, HoldsCreated, is_own_cell, is_flushed_cell, is_new_cell, SettlesCreation};
 
 use crate::rows::raise_links;
 use crate::standing::place_directory;
@@ -15,7 +15,7 @@ fn settle_own(core: &mut FileCore, nodes: u32, child: NodeId, kind: Kind, dir: N
     requires within { child.0 < nodes }
     requires own { HoldsOwn nodes core.old.held child kind }
     requires links { (file : FileValue) → file_held nodes core.old.held child ≡ Some file → file.links < 65535 }
-    ensures { Settles nodes (is_own_cell child kind) dir core.old core.new }
+    ensures { SettlesCreation nodes (is_own_cell child kind) dir core.old core.new }
 {
     match kind {
         Kind::File => raise_links(core, nodes, child),
@@ -36,7 +36,7 @@ fn made_in(pending: Box<Pending>, dir: NodeId) -> Box<Pending>
 fn settle_flushed(core: &mut FileCore, nodes: u32, child: NodeId, dir: NodeId)
     requires within { child.0 < nodes }
     requires held { IsSome (pending_held nodes core.old.held child) }
-    ensures { Settles nodes (is_flushed_cell child) dir core.old core.new }
+    ensures { SettlesCreation nodes (is_flushed_cell child) dir core.old core.new }
 {
     let pending = made_in(take_pending(core, nodes, child), dir);
     let cell = CellId::Pending { node: child };
@@ -45,9 +45,9 @@ fn settle_flushed(core: &mut FileCore, nodes: u32, child: NodeId, dir: NodeId)
 
 /// Gives the cells of a node, which are held, what its creation in a directory makes of them.
 pub(crate) fn settle(core: &mut FileCore, nodes: u32, child: NodeId, kind: Kind, dir: NodeId)
-    requires new { HoldsNew nodes core.old.held child kind }
+    requires new { HoldsCreated nodes core.old.held child kind }
     requires links { (file : FileValue) → file_held nodes core.old.held child ≡ Some file → file.links < 65535 }
-    ensures { Settles nodes (is_new_cell child kind) dir core.old core.new }
+    ensures { SettlesCreation nodes (is_new_cell child kind) dir core.old core.new }
 {
     settle_own(core, nodes, child, kind, dir);
     settle_flushed(core, nodes, child, dir);

@@ -2,7 +2,7 @@
 ghost use Rattle.std.specs.Prelude.{IsSome};
 ghost use Rattle.mem_calls.specs.Held.{bucket_held};
 ghost use Rattle.mem_calls.specs.Sums.{HoldsBuckets};
-ghost use Rattle.mem_calls.specs.Ends.{IsPlaced, PlacesBucket, PlacesDirectory};
+ghost use Rattle.mem_calls.specs.Ends.{IsPlacedBucket, PlacesBucket, PlacesDirectory};
 
 use crate::taking::{put_bucket, take_bucket};
 use mem_values::{Bucket, FileCore};
@@ -10,7 +10,7 @@ use sfs_base::NodeId;
 
 // The bucket of a directory that stands here.
 fn placed(bucket: Box<Bucket>, place: Option<NodeId>) -> Box<Bucket>
-    ensures { IsPlaced place bucket.value result.value }
+    ensures { IsPlacedBucket place bucket.value result.value }
 {
     let mut bucket = bucket;
     bucket.stands = place;

@@ -13,7 +13,7 @@ use Rattle.mem_rename.specs.declared.looking.Look.{Look}
 use Rattle.mem_rename.specs.declared.looking.Reads.{Reads}
 use Rattle.mem_rename.specs.declared.looking.Decision.{Decision}
 use Rattle.mem_rename.specs.declared.looking.Decision.TheVariants.{Answers, Moves}
-use Rattle.mem_rename.specs.Sights.{Sight, fault_by, child_seen, there_seen, place_fault_by, move_fault_by, move_by, rename_by}
+use Rattle.mem_rename.specs.Sights.{Sight, fault_seen, child_seen, there_seen, place_fault_by, move_fault_by, move_by, rename_by}
 use Rattle.mem_rename.specs.Decisions.{look_of, reads_of, same_child, place_fault_of, move_fault_of, refused_or, child_decision, decision_by, verdict_of, is_at_or_below}
 
 module _ (seen : Sight) (move : Move) where
@@ -67,7 +67,7 @@ module _ (seen : Sight) (move : Move) where
   -- What is decided by what the values tell is what they say.
   pub decided : verdict_of move (decision_by look reads move) ≡ rename_by seen move
   decided =
-      refused_told (option_or (fault_by move.directory.0 seen.old seen.old_links) (fault_by move.to_directory.0 seen.new seen.new_links))
+      refused_told (option_or (fault_seen move.directory.0 seen.old seen.old_links) (fault_seen move.to_directory.0 seen.new seen.new_links))
       (child_decision look reads move look.child)
-      ∙ ap (or_else (option_or (fault_by move.directory.0 seen.old seen.old_links) (fault_by move.to_directory.0 seen.new seen.new_links)))
+      ∙ ap (or_else (option_or (fault_seen move.directory.0 seen.old seen.old_links) (fault_seen move.to_directory.0 seen.new seen.new_links)))
       (child_told (child_seen seen move) refl)

@@ -21,7 +21,7 @@ use Rattle.mem_calls.specs.Held.{value_held, as_bucket, as_file, bucket_held, fi
 use Rattle.mem_calls.specs.Changes.{PutsValue}
 use Rattle.mem_calls.proofs.Taken.{value_with, put_twice, some_and_then}
 use Rattle.mem_calls.proofs.Unlinked.{apart_value}
-use Rattle.mem_rename.specs.Moving.{same_bucket, same_file, at_bucket, in_directory, at_file, PutsBucket, PutsFile, IsOther, ChangesHeld}
+use Rattle.mem_rename.specs.Moving.{same_bucket, same_file, at_bucket, in_buckets_of, at_file, PutsBucket, PutsFile, IsOther, ChangesHeld}
 
 mapped_same : {X : Type 0} (o : Option X) → option_map (λ x. x) o ≡ o
 mapped_same None = refl
@@ -278,9 +278,9 @@ module _ (nodes : ℕ) (node : NodeId) (by : Bucket → Bucket) (before : Hand C
       end n is = let same = eqb-true k n is in lt-true n (k + 1) (omega (arith, same))
 
   pub below_ends : (k : ℕ) (after : Hand Cell Fact) → 8 ≤ k → ChangesHeld nodes (below_in node k by) same_file before after
-      → ChangesHeld nodes (in_directory (Some node) by) same_file before after
+      → ChangesHeld nodes (in_buckets_of (Some node) by) same_file before after
   below_ends k after all one =
-      like_held nodes (below_in node k by) (in_directory (Some node) by) same_file same_file before after
+      like_held nodes (below_in node k by) (in_buckets_of (Some node) by) same_file same_file before after
       (λ at n x small. ap (λ b. cond (nat_eq node.0 at.0 && b) (by x) x) (lt-true n k (omega (arith, small, all))) ∙ drop (nat_eq node.0 at.0) (by x) x)
       (λ at x. refl) one
     where

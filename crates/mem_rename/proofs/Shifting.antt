@@ -14,7 +14,7 @@ use Rattle.mem_rename.specs.declared.sides.Move.{Move}
 use Rattle.mem_rename.specs.declared.plans.Plan.{Plan}
 use Rattle.mem_rename.specs.Sights.{Sight, there_seen, moves_directory, meets_directory, goes_between}
 use Rattle.mem_rename.specs.After.{rows_moved, directories_moved, IsMovedBucket, IsMovedFile}
-use Rattle.mem_rename.specs.Moving.{with_row, without_row, standing, less_one, at_bucket, in_directory, at_file, bucket_moved}
+use Rattle.mem_rename.specs.Moving.{with_row, without_row, standing, less_one, at_bucket, in_buckets_of, at_file, bucket_moved}
 use Rattle.mem_rename.proofs.RowsBack.{come_then_go}
 
 -- What a plan has where a child moves.
@@ -33,11 +33,11 @@ module _ (s : Option NodeId) (at : NodeId) (n : ℕ) (b : Bucket) where
   directories_if true = refl
   directories_if false = refl
 
-  in_rows : (o : Option NodeId) → (in_directory o (standing s) at n b).rows ≡ b.rows
+  in_rows : (o : Option NodeId) → (in_buckets_of o (standing s) at n b).rows ≡ b.rows
   in_rows None = refl
   in_rows (Some node) = rows_if (nat_eq node.0 at.0)
 
-  in_directories : (o : Option NodeId) → (in_directory o (standing s) at n b).directories ≡ b.directories
+  in_directories : (o : Option NodeId) → (in_buckets_of o (standing s) at n b).directories ≡ b.directories
   in_directories None = refl
   in_directories (Some node) = directories_if (nat_eq node.0 at.0)
 
@@ -94,13 +94,13 @@ module _ (move : Move) (child : NodeId) (at : NodeId) (n : ℕ) (b : Bucket) whe
   stands_if s false = refl
 
   comes_stand : (between : Bool)
-      → number_of (in_directory (cond between (Some child) None) (standing (Some move.to_directory)) at n b).stands ≡ cond (between && nat_eq child.0 at.0)
+      → number_of (in_buckets_of (cond between (Some child) None) (standing (Some move.to_directory)) at n b).stands ≡ cond (between && nat_eq child.0 at.0)
       (Some move.to_directory.0) (number_of b.stands)
   comes_stand true = stands_if (Some move.to_directory) (nat_eq child.0 at.0)
   comes_stand false = refl
 
   gone_stand : (meets : Bool) (there : Option ℕ)
-      → number_of (in_directory (cond meets (option_map numbered_node there) None) (standing None) at n b).stands ≡ cond (meets && is_this at.0 there) None
+      → number_of (in_buckets_of (cond meets (option_map numbered_node there) None) (standing None) at n b).stands ≡ cond (meets && is_this at.0 there) None
       (number_of b.stands)
   gone_stand true None = refl
   gone_stand true (Some there) = stands_if None (nat_eq there at.0)
@@ -115,15 +115,15 @@ module _ (seen : Sight) (move : Move) (plan : Plan) (child : NodeId) (plans : Pl
   bucket_is_moved at n b =
       let moves = moves_directory seen move in
       let inner : Bucket = rowed move child at n b moves (comes_here move child at n b) (goes_here move child at n b) in
-      let mid : Bucket = in_directory plan.directory (standing None) at n inner in
+      let mid : Bucket = in_buckets_of plan.directory (standing None) at n inner in
       record {
         rows = in_rows (Some move.to_directory) at n mid plan.comes ∙ (in_rows None at n inner plan.directory ∙ moved_rows move child at n b plans.apart moves);
         directories = in_directories (Some move.to_directory) at n mid plan.comes
             ∙ (in_directories None at n inner plan.directory ∙ moved_directories move child at n b plans.apart moves);
-        stands = ap (λ o. number_of (in_directory o (standing (Some move.to_directory)) at n mid).stands) plans.comes
+        stands = ap (λ o. number_of (in_buckets_of o (standing (Some move.to_directory)) at n mid).stands) plans.comes
             ∙ (comes_stand move child at n mid (goes_between seen move)
             ∙ ap (cond (goes_between seen move && nat_eq child.0 at.0) (Some move.to_directory.0))
-            (ap (λ o. number_of (in_directory o (standing None) at n inner).stands) plans.directory
+            (ap (λ o. number_of (in_buckets_of o (standing None) at n inner).stands) plans.directory
             ∙ (gone_stand move child at n inner (meets_directory seen move) (there_seen seen move)
             ∙ ap (λ s. cond (meets_directory seen move && is_this at.0 (there_seen seen move)) None (number_of s))
             (same_stands move child at n b moves (comes_here move child at n b) (goes_here move child at n b)))));

@@ -21,7 +21,7 @@ use Rattle.mem_rename.specs.Sights.{Sight, child_seen, are_bare}
 use Rattle.mem_rename.specs.Decisions.{look_of, reads_of, is_at_or_below}
 use Rattle.mem_rename.specs.Holding.{HoldsCells}
 use Rattle.mem_rename.specs.Plans.{asked_cells}
-use Rattle.mem_rename.specs.Ready.{bucket_or, links_if, buckets_held, is_at_or_in, is_listed, seen_of}
+use Rattle.mem_rename.specs.Ready.{bucket_or, links_if, buckets_held, is_at_or_in, is_among_nodes, seen_of}
 use Rattle.mem_rename.proofs.Kept.{bucket_in}
 use Rattle.mem_rename.proofs.Readies.{held_bucket, held_file, old_file_asked, new_file_asked, directory_asked}
 
@@ -68,6 +68,6 @@ reads_same nodes hand move plan above reads old new full bare below = λ i. reco
 }
 
 -- a node is one of some by their numbers
-pub listed_same : (node : ℕ) (nodes : List NodeId) → list_any (λ (y : NodeId). nat_eq y.0 node) nodes ≡ is_listed node (map node_number nodes)
+pub listed_same : (node : ℕ) (nodes : List NodeId) → list_any (λ (y : NodeId). nat_eq y.0 node) nodes ≡ is_among_nodes node (map node_number nodes)
 listed_same node [] = refl
 listed_same node (x ∷ nodes) = ap (λ b. nat_eq x.0 node || b) (listed_same node nodes)

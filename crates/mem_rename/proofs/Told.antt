@@ -16,7 +16,7 @@ use Rattle.sfs_tree.proofs.Names.{get-own_bucket}
 use Rattle.sfs_tree.proofs.Holders.{standing_is_alive}
 use Rattle.mem_values.specs.declared.bucket.Bucket.{Bucket}
 use Rattle.mem_values.specs.Stands.{ShowsBucket, if_directory, file_links}
-use Rattle.mem_rename.specs.Sights.{stands_by, fault_by}
+use Rattle.mem_rename.specs.Sights.{stands_by, fault_seen}
 
 -- a node has a number where it is there
 some_number : (node : Option NodeId) → is_some node ≡ is_some (number_of node)
@@ -79,7 +79,7 @@ module _ (tree : TreeState) where
 
     -- so the fault of a directory is known by a bucket of it and, where it does not stand, by its links as a file
     pub fault_told : (directory number links : ℕ) (b : Bucket) → ShowsBucket tree directory number b
-        → (stands_by directory b ≡ false → links ≡ file_links tree directory) → fault_by directory b links ≡ directory_fault tree directory
+        → (stands_by directory b ≡ false → links ≡ file_links tree directory) → fault_seen directory b links ≡ directory_fault tree directory
     fault_told d number links b shows linked = elim (true_or_false (stands_by d b)) [
       | inl stands ↦
           let both : (is_alive tree d && is_directory tree d) ≡ true = sym (standing_told d number b shows) ∙ stands in

@@ -18,7 +18,7 @@ use Rattle.sfs_tree.proofs.Fitting.{may_hold}
 use Rattle.sfs_tree.proofs.Walks.{not_below_own}
 use Rattle.sfs_tree.proofs.Holders.{read_holders_are_above}
 use Rattle.mem_rename.specs.declared.sides.Move.{Move}
-use Rattle.mem_rename.specs.Sights.{Sight, rename_call, stands_by, fault_by, child_seen, there_seen, moves_directory, meets_directory, goes_between, goes_below, are_bare, place_fault_by, move_fault_by, move_by, rename_by, ShowsMove}
+use Rattle.mem_rename.specs.Sights.{Sight, rename_call, stands_by, fault_seen, child_seen, there_seen, moves_directory, meets_directory, goes_between, goes_below, are_bare, place_fault_by, move_fault_by, move_by, rename_by, ShowsMove}
 use Rattle.mem_rename.specs.Laws.{RenamesAreAsSeen}
 use Rattle.mem_rename.proofs.Told.{row_told, kind_told, standing_told, fault_told}
 use Rattle.mem_rename.proofs.Bare.{bare_told}
@@ -64,10 +64,10 @@ module _ (tree : TreeState) (move : Move) (seen : Sight) (is : IsSoundTree tree)
       → Rattle.mem_values.specs.Stands.ShowsBucket tree directory number b → MayHold tree directory → stands_by directory b ≡ true
   stands directory number b shown holder = standing_told tree is directory number b shown ∙ ap₂ (λ a k. a && k) holder.alive holder.kind
 
-  old_fault : fault_by p seen.old seen.old_links ≡ directory_fault tree p
+  old_fault : fault_seen p seen.old seen.old_links ≡ directory_fault tree p
   old_fault = fault_told tree is p (name_bucket n) seen.old_links seen.old shows.old shows.old_links
 
-  new_fault : directory_fault tree p ≡ None → fault_by q seen.new seen.new_links ≡ directory_fault tree q
+  new_fault : directory_fault tree p ≡ None → fault_seen q seen.new seen.new_links ≡ directory_fault tree q
   new_fault none = fault_told tree is q (name_bucket m) seen.new_links seen.new shows.new
       (shows.new_links (stands p (name_bucket n) seen.old shows.old (may_hold tree p none)))
 
@@ -144,10 +144,11 @@ module _ (tree : TreeState) (move : Move) (seen : Sight) (is : IsSoundTree tree)
   -- the table goes by the faults of both directories
   by_faults : (core : ℕ) (old new : Option Code) → directory_fault tree p ≡ old → directory_fault tree q ≡ new
       → rename_by seen move ≡ or_else (option_or old new) (move_row tree p n q m (row_of tree p n))
-  by_faults core (Some code) new old_is new_is = ap (λ f. or_else (option_or f (fault_by q seen.new seen.new_links)) (move_by seen move (child_seen seen move)))
+  by_faults core (Some code) new old_is new_is = ap
+      (λ f. or_else (option_or f (fault_seen q seen.new seen.new_links)) (move_by seen move (child_seen seen move)))
       (old_fault ∙ old_is)
   by_faults core None new old_is new_is =
-      ap (λ f. or_else (option_or f (fault_by q seen.new seen.new_links)) (move_by seen move (child_seen seen move))) (old_fault ∙ old_is)
+      ap (λ f. or_else (option_or f (fault_seen q seen.new seen.new_links)) (move_by seen move (child_seen seen move))) (old_fault ∙ old_is)
       ∙ (ap (λ f. or_else f (move_by seen move (child_seen seen move))) (new_fault old_is ∙ new_is) ∙ by_new new new_is)
     where
       by_new : (new : Option Code) → directory_fault tree q ≡ new

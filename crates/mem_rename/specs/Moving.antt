@@ -72,9 +72,9 @@ abbrev pub at_bucket : NodeId → ℕ → (Bucket → Bucket) → NodeId → ℕ
 at_bucket node number change at n bucket = if node.0 == at.0 && number == n then change bucket else bucket
 
 -- the buckets of a directory that may be there change
-abbrev pub in_directory : Option NodeId → (Bucket → Bucket) → NodeId → ℕ → Bucket → Bucket
-in_directory None change at n bucket = bucket
-in_directory (Some node) change at n bucket = if node.0 == at.0 then change bucket else bucket
+abbrev pub in_buckets_of : Option NodeId → (Bucket → Bucket) → NodeId → ℕ → Bucket → Bucket
+in_buckets_of None change at n bucket = bucket
+in_buckets_of (Some node) change at n bucket = if node.0 == at.0 then change bucket else bucket
 
 -- a file that may be there changes
 abbrev pub at_file : Option NodeId → (FileCell → FileCell) → NodeId → FileCell → FileCell
@@ -110,8 +110,8 @@ pub record ChangesHeld (nodes : ℕ) (bucket : NodeId → ℕ → Bucket → Buc
 -- directory stands there
 abbrev pub bucket_moved : Move → Plan → NodeId → ℕ → Bucket → Bucket
 bucket_moved move plan at n bucket =
-    in_directory plan.comes (standing (Some move.to_directory)) at n
-    (in_directory plan.directory (standing None) at n
+    in_buckets_of plan.comes (standing (Some move.to_directory)) at n
+    (in_buckets_of plan.directory (standing None) at n
     (at_bucket move.directory (name_bucket move.name) (without_row move.name) at n bucket))
 
 -- The own log that is held has the same changes, and where that is not refused room for three more of either directory.

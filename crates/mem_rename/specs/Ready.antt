@@ -88,10 +88,10 @@ abbrev pub is_empty_held : ℕ → List (HeldCell Cell) → NodeId → ℕ → B
 is_empty_held nodes held node number = len (bucket_or (bucket_held nodes held node number)).rows == 0
 
 -- whether a node is one of some
-abbrev pub is_listed : ℕ → List ℕ → Bool
-is_listed node nodes = list_any (λ other. other == node) nodes
+abbrev pub is_among_nodes : ℕ → List ℕ → Bool
+is_among_nodes node nodes = list_any (λ other. other == node) nodes
 
 -- whether a child is a directory or one of some
 abbrev pub is_at_or_in : Option NodeId → ℕ → List ℕ → Bool
 is_at_or_in None directory above = false
-is_at_or_in (Some child) directory above = directory == child.0 || is_listed child.0 above
+is_at_or_in (Some child) directory above = directory == child.0 || is_among_nodes child.0 above

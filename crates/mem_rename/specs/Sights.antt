@@ -36,8 +36,8 @@ abbrev pub stands_by : ℕ → Bucket → Bool
 stands_by directory bucket = directory == 0 || is_some bucket.stands
 
 -- why a directory can't be used: it does not stand, and no row names it, or rows name it as a file
-abbrev pub fault_by : ℕ → Bucket → ℕ → Option Code
-fault_by directory bucket links =
+abbrev pub fault_seen : ℕ → Bucket → ℕ → Option Code
+fault_seen directory bucket links =
     if stands_by directory bucket then None else
     if links == 0 then Some NoEntry else
     Some NotDir
@@ -95,7 +95,7 @@ move_by seen move (Some child) =
 -- What a rename answers and does: the old directory's faults; the new one's; then as its row says.
 abbrev pub rename_by : Sight → Move → Verdict
 rename_by seen move =
-    or_else (option_or (fault_by move.directory.0 seen.old seen.old_links) (fault_by move.to_directory.0 seen.new seen.new_links))
+    or_else (option_or (fault_seen move.directory.0 seen.old seen.old_links) (fault_seen move.to_directory.0 seen.new seen.new_links))
     (move_by seen move (child_seen seen move))
 
 -- buckets show those of a directory from a number on

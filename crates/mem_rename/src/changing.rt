@@ -3,7 +3,7 @@ ghost use Rattle.std.specs.Prelude.{◌≡◌, ◌<◌, ℕ, IsSome, OnOk, OnErr
 ghost use Rattle.std.specs.FinMap as finmap;
 ghost use Rattle.sfs_base.specs.Name.{bucket};
 ghost use Rattle.mem_calls.specs.Held.{bucket_held, file_held};
-ghost use Rattle.mem_rename.specs.Moving.{row_again, with_row, without_row, standing, less_one, same_file, in_directory, PutsBucket, PutsFile, ChangesHeld};
+ghost use Rattle.mem_rename.specs.Moving.{row_again, with_row, without_row, standing, less_one, same_file, in_buckets_of, PutsBucket, PutsFile, ChangesHeld};
 
 use crate::sides::Move;
 use mem_calls::{put, take_bucket, take_file};
@@ -161,7 +161,7 @@ pub(crate) fn all_stand(
 )
     requires within { MatchOption node Unit (λ n. n.0 < nodes) }
     requires held { MatchOption node Unit (λ n. (number : ℕ) → number < 8 → IsSome (bucket_held nodes core.old.held n number)) }
-    ensures { ChangesHeld nodes (in_directory node (standing stands)) same_file core.old core.new }
+    ensures { ChangesHeld nodes (in_buckets_of node (standing stands)) same_file core.old core.new }
 {
     let Some(node) = node else {
         return;

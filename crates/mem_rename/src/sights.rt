@@ -8,7 +8,7 @@ ghost use Rattle.mem_rename.specs.Sights.{are_bare};
 ghost use Rattle.mem_rename.specs.Decisions.{look_by, reads_of};
 ghost use Rattle.mem_rename.specs.Holding.{HoldsCells};
 ghost use Rattle.mem_rename.specs.Plans.{asked_cells};
-ghost use Rattle.mem_rename.specs.Ready.{bucket_or, links_if, buckets_held, is_empty_held, is_at_or_in, is_listed, seen_of};
+ghost use Rattle.mem_rename.specs.Ready.{bucket_or, links_if, buckets_held, is_empty_held, is_at_or_in, is_among_nodes, seen_of};
 
 use crate::looking::{Look, Reads, look_at};
 use crate::plans::{Plan, plan_for};
@@ -82,7 +82,7 @@ fn is_among(child: Option<NodeId>, directory: NodeId, above: &[NodeId]) -> bool
 
 // Whether a node is one of some.
 fn is_in(node: NodeId, nodes: &[NodeId]) -> bool
-    ensures { result ≡ is_listed node.0 (map node_number nodes.now) }
+    ensures { result ≡ is_among_nodes node.0 (map node_number nodes.now) }
 {
     nodes.contains(&node)
 }

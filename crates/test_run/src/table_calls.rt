@@ -3,7 +3,7 @@
 ghost use Rattle.std.specs.Prelude.{◌≡◌, ◌+◌, ◌<◌, length};
 ghost use Rattle.sfs_tree.specs.Sound.{IsSound};
 ghost use Rattle.stamp_table.specs.Table.{IsBetweenCalls, IsSameCore};
-ghost use Rattle.begun_tables.specs.Begun.{IsBegun, IsCallTable};
+ghost use Rattle.begun_tables.specs.Begun.{BeginsTable, IsCallTable};
 
 mod asked;
 mod begun;
@@ -111,7 +111,7 @@ fn make_drawn<R: Wait>(
 
 // The history of a table whose one core made so many drawn calls, each with the reply of a plain tree.
 fn drawn_history<R: Wait>(rt: &R, alloc: Global, tree: &Tree, count: u32) -> Result<History, Fail>
-    requires tree { IsBegun tree.now FIRST SHARE 1 }
+    requires tree { BeginsTable tree.now FIRST SHARE 1 }
 {
     let mut plain = tree.copy()?;
     let (shared, mut cores) = begun(alloc, tree, FIRST, SHARE, 1)?;

@@ -3,7 +3,7 @@ ghost use Rattle.std.specs.Prelude.{◌≡◌, ◌<◌, ℕ, All, IfOk, length, 
 ghost use Rattle.stamp_table.specs.Table.{IsBetweenCalls, IsSameCore};
 ghost use Rattle.mem_values.specs.Places.{node_count};
 ghost use Rattle.mem_begin.specs.Beginning.{given_in};
-ghost use Rattle.begun_tables.specs.Begun.{IsBuilt};
+ghost use Rattle.begun_tables.specs.Begun.{IsBuiltTree};
 
 use begun_tables::{put_node, put_row, root_alone};
 use disk_change::OldDisk;
@@ -52,7 +52,7 @@ enum Shown {
 
 // A directory `d` in the root, and a file with the names `a` in the root and `b` in the directory.
 fn small_tree(rt: &impl Abort, alloc: Global) -> Result<Tree, Fail>
-    ensures built { IfOk result IsBuilt }
+    ensures built { IfOk result IsBuiltTree }
     ensures nodes { IfOk result (λ tree. node_count tree ≡ NODES) }
     ensures cores { IfOk result (λ tree. length tree.made ≡ CORES) }
 {
@@ -216,7 +216,7 @@ fn begins_and_ends<T: Given, R: Wait>(
     given: OldDisk,
     all: &[Shown],
 ) -> Result<bool, NoMemory>
-    requires built { IsBuilt tree.now }
+    requires built { IsBuiltTree tree.now }
     requires nodes { node_count tree.now ≡ NODES }
     requires cores { length tree.now.made ≡ CORES }
     requires given { T.given ≡ given_in given.items }

@@ -1,6 +1,6 @@
 // The tree on which calls are made, on a table.
 ghost use Rattle.std.specs.Prelude.{◌<◌, ◌≤◌, IfOk, OnOk};
-ghost use Rattle.begun_tables.specs.Begun.{IsBegun, IsBuilt, KeepsNumbers};
+ghost use Rattle.begun_tables.specs.Begun.{BeginsTable, IsBuiltTree, KeepsNumbers};
 
 use begun_tables::{put_node, put_row, root_alone};
 use sfs_base::{Kind, Name, NodeId};
@@ -44,9 +44,9 @@ fn put(
     node: u32,
     bytes: Option<&str>,
 ) -> Result<(), Fail>
-    requires built { IsBuilt tree.old }
+    requires built { IsBuiltTree tree.old }
     requires low { FIRST ≤ tree.old.first }
-    ensures built { OnOk result (IsBuilt tree.new) }
+    ensures built { OnOk result (IsBuiltTree tree.new) }
     ensures numbers { OnOk result (KeepsNumbers tree.old tree.new) }
 {
     assert!(rt; node < FIRST);
@@ -63,7 +63,7 @@ fn put(
 // Three directories in the root, two files of two names, and a file and a directory of none.
 pub(crate) fn begun_tree(rt: &impl Abort, alloc: Global, cores: u8) -> Result<Tree, Fail>
     requires { cores ≤ 8 }
-    ensures { IfOk result (λ tree. IsBegun tree FIRST SHARE cores) }
+    ensures { IfOk result (λ tree. BeginsTable tree FIRST SHARE cores) }
 {
     let mut tree = root_alone(alloc, FIRST, SHARE, cores)?;
     for (node, bytes) in NODES {

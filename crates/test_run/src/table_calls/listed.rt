@@ -2,7 +2,7 @@
 ghost use Rattle.std.specs.Prelude.{◌+◌, ◌<◌, length};
 ghost use Rattle.sfs_tree.specs.Sound.{IsSound};
 ghost use Rattle.stamp_table.specs.Table.{IsBetweenCalls, IsSameCore};
-ghost use Rattle.begun_tables.specs.Begun.{IsBegun, IsCallTable};
+ghost use Rattle.begun_tables.specs.Begun.{BeginsTable, IsCallTable};
 
 use crate::table_calls::agrees;
 use crate::table_calls::asked::Asked::{
@@ -157,7 +157,7 @@ fn listed_history<R: Wait>(
     tree: &Tree,
     listed: &[(Asked, Option<Code>)],
 ) -> Result<History, Fail>
-    requires tree { IsBegun tree.now FIRST SHARE 1 }
+    requires tree { BeginsTable tree.now FIRST SHARE 1 }
 {
     let mut plain = tree.copy()?;
     let (shared, mut cores) = begun(alloc, tree, FIRST, SHARE, 1)?;

@@ -1,7 +1,7 @@
 // What cores do on a table side by side, each in a thread of its own.
 ghost use Rattle.std.specs.Prelude.{◌≡◌, ◌+◌, ◌*◌, ◌<◌, ◌≤◌, ℕ, All, length, slice_index_or};
 ghost use Rattle.stamp_table.specs.Table.{IsBetweenCalls, IsSameCore};
-ghost use Rattle.begun_tables.specs.Begun.{IsBegun, IsCallTable};
+ghost use Rattle.begun_tables.specs.Begun.{BeginsTable, IsCallTable};
 
 use crate::table_calls::ask;
 use crate::table_calls::begun::{FIRST, SHARE};
@@ -107,7 +107,7 @@ pub(crate) fn shared_history<R: Threads + Wait + Sync>(
     cores: u8,
     task: &Task,
 ) -> Result<History, Fail>
-    requires tree { IsBegun tree.now FIRST SHARE cores }
+    requires tree { BeginsTable tree.now FIRST SHARE cores }
     requires cores { (0 < cores) × (cores ≤ 8) }
 {
     let nodes = FIRST + SHARE * cores as u32;

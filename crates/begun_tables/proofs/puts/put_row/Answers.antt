@@ -3,7 +3,7 @@ use Rattle.std.specs.FinMap.{len-entries}
 use Rattle.sfs_base.specs.Name.{bucket}
 use Rattle.sfs_tree.specs.Tree.{bucket_rows}
 use Rattle.mem_begin.proofs.Rows.{bucket_fits}
-use Rattle.begun_tables.specs.Begun.{IsBuilt}
+use Rattle.begun_tables.specs.Begun.{IsBuiltTree}
 use Rattle.begun_tables.proofs.Built.{begins_with_row, within_with_row}
 use Rattle.begun_tables.proofs.puts.put_row.Goals as goal
 
@@ -17,7 +17,7 @@ pub returns-clause-built : goal.returns-clause-built
 returns-clause-built c =
     let fits = bucket_fits c.args.dir.0 (bucket c.args.name) c.args.tree.now.rows in
     let all = len-entries (bucket_rows c.args.dir.0 (bucket c.args.name) c.args.tree.now.rows) in
-    subst IsBuilt (sym c.in_ok-put_row.ensures.ok) (record {
+    subst IsBuiltTree (sym c.in_ok-put_row.ensures.ok) (record {
       begins = begins_with_row c.args.tree.now c.args.dir.0 c.args.name c.args.child.0 c.requires.built.begins (record {
         holder = search rules;
         free = search rules;

@@ -15,4 +15,6 @@ close-history-requires g c =
     let back : take c.in_ok-shared.cores.len (shown.new.cores ++ drop (length shown.new.cores) items) ≡ shown.new.cores =
     ap (λ k. take k (shown.new.cores ++ drop (length shown.new.cores) items)) c.in_ok-shared.cores.ok.0 ∙ written shown.new.cores items long in
     subst (λ l. AreAllCores c.in_ok-shared.shared l) (sym back)
-    (all_again c.in_ok-shared.shared items shown.new.cores long (λ place d lt. let s = shown.ensures.same place d (omega (arith, lt, ap length value)) in (subst (λ l. IsSameCore (slice_index_or l place d) (slice_index_or shown.new.cores place d)) value s.0, s.1.holds_none)) made.cores)
+    (all_again c.in_ok-shared.shared items shown.new.cores long
+    (λ place d lt. let s = shown.ensures.same place d (omega (arith, lt, ap length value)) in
+    (subst (λ l. IsSameCore (slice_index_or l place d) (slice_index_or shown.new.cores place d)) value s.0, s.1.holds_none)) made.cores)

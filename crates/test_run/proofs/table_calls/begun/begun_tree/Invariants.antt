@@ -1,11 +1,11 @@
 use Rattle.std.proofs.Common.{◌≡◌, length}
-use Rattle.begun_tables.specs.Begun.{IsBuilt}
+use Rattle.begun_tables.specs.Begun.{IsBuiltTree}
 use Rattle.test_run.specs.declared.table_calls.begun.TheConstants.{FIRST, SHARE}
 use Rattle.test_run.proofs.table_calls.begun.begun_tree.Given as goal
 
 abbrev pub invariant-loop-node : goal.invariant-loop-node
 invariant-loop-node g l = record {
-  built : IsBuilt l.tree;
+  built : IsBuiltTree l.tree;
   first : l.tree.first ≡ FIRST;
   share : l.tree.share ≡ SHARE;
   made : length l.tree.made ≡ l.fn.cores;
@@ -13,7 +13,7 @@ invariant-loop-node g l = record {
 
 abbrev pub invariant-loop-dir : goal.invariant-loop-dir
 invariant-loop-dir g l = record {
-  built : IsBuilt l.tree;
+  built : IsBuiltTree l.tree;
   first : l.tree.first ≡ FIRST;
   share : l.tree.share ≡ SHARE;
   made : length l.tree.made ≡ l.fn.cores;
