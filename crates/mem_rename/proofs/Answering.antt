@@ -21,7 +21,7 @@ use Rattle.mem_calls.proofs.Stamped as stamped
 use Rattle.mem_rename.specs.declared.sides.Move.{Move}
 use Rattle.mem_rename.specs.declared.plans.Plan.{Plan}
 use Rattle.mem_rename.specs.Sights.{Sight, rename_call, rename_by}
-use Rattle.mem_rename.specs.Ready.{seen_of, AreSidesWithin, HoldsRename, MayMeetOn}
+use Rattle.mem_rename.specs.Ready.{sight_of, AreSidesWithin, HoldsRename, MayMeetOn}
 use Rattle.mem_rename.proofs.Verdicts.{renames_are_as_seen}
 use Rattle.mem_rename.proofs.Stamped.{still_read, calls_may_come_on_a_way}
 use Rattle.mem_rename.proofs.Readies as readies
@@ -31,7 +31,7 @@ module _ (given : ℕ → Option OldKept) (t : TableState) (nodes : ℕ) (table 
     (plan : Plan) (above : List ℕ) (hand : Hand Cell Fact)
     (ready : HoldsRename given t nodes move plan above hand) where
   abbrev seen : Sight
-  seen = seen_of nodes hand.held move plan above
+  seen = sight_of nodes hand.held move plan above
 
   -- in each tree that the core may meet the verdict is what the values say
   pub verdict_on : (tree : TreeState) → MayMeetOn plan move.to_directory.0 above hand tree

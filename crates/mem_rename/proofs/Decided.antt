@@ -14,11 +14,11 @@ use Rattle.mem_rename.specs.declared.looking.Reads.{Reads}
 use Rattle.mem_rename.specs.declared.looking.Decision.{Decision}
 use Rattle.mem_rename.specs.declared.looking.Decision.TheVariants.{Answers, Moves}
 use Rattle.mem_rename.specs.Sights.{Sight, fault_seen, child_seen, there_seen, place_fault_by, move_fault_by, move_by, rename_by}
-use Rattle.mem_rename.specs.Decisions.{look_of, reads_of, same_child, place_fault_of, move_fault_of, refused_or, child_decision, decision_by, verdict_of, is_at_or_below}
+use Rattle.mem_rename.specs.Decisions.{look_seen, reads_of, same_child, place_fault_of, move_fault_of, refused_or, child_decision, decision_by, verdict_of, is_at_or_below}
 
 module _ (seen : Sight) (move : Move) where
   abbrev look : Look
-  look = look_of seen move
+  look = look_seen seen move
 
   abbrev reads : Reads
   reads = reads_of seen move

@@ -28,7 +28,7 @@ use Rattle.mem_rename.specs.declared.plans.Plan.{Plan}
 use Rattle.mem_rename.specs.Sights.{Sight, rename_call, stands_by, child_seen, there_seen, moves_directory, meets_directory, goes_between, rename_by, ShowsMove}
 use Rattle.mem_rename.specs.Cells.{moved_cells, replaced_cells, cells_changed}
 use Rattle.mem_rename.specs.Holding.{HoldsCell}
-use Rattle.mem_rename.specs.Ready.{seen_of, AreSidesWithin, HoldsRename, MayMeetOn}
+use Rattle.mem_rename.specs.Ready.{sight_of, AreSidesWithin, HoldsRename, MayMeetOn}
 use Rattle.mem_rename.specs.Laws.{ReadyCoresHoldAll}
 use Rattle.mem_rename.proofs.Verdicts.{child_row, there_row, child_kind, there_kind, stands}
 use Rattle.mem_rename.proofs.Moved.{MovesChild, moves_or_not, effect_seen}
@@ -44,7 +44,7 @@ module _ (given : ℕ → Option OldKept) (t : TableState) (nodes : ℕ) (table 
     (plan : Plan) (above : List ℕ) (hand : Hand Cell Fact)
     (ready : HoldsRename given t nodes move plan above hand) (tree : TreeState) (on : MayMeetOn plan move.to_directory.0 above hand tree) where
   abbrev seen : Sight
-  seen = seen_of nodes hand.held move plan above
+  seen = sight_of nodes hand.held move plan above
 
   abbrev core : ℕ
   core = hand.view.core

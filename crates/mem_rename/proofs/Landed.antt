@@ -52,9 +52,9 @@ use Rattle.mem_rename.specs.declared.shifts.Noted.{Noted}
 use Rattle.mem_rename.specs.Sights.{Sight, rename_call, rename_by, there_seen, moves_directory, meets_directory, goes_between}
 use Rattle.mem_rename.specs.After.{IsMovedCell}
 use Rattle.mem_rename.specs.Logged.{rename_logged, effect_logged, replaced_logged}
-use Rattle.mem_rename.specs.Decisions.{look_of}
+use Rattle.mem_rename.specs.Decisions.{look_seen}
 use Rattle.mem_rename.specs.Shifts.{shift_of, shift_logged, gone_by}
-use Rattle.mem_rename.specs.Ready.{seen_of, AreSidesWithin, HoldsRename}
+use Rattle.mem_rename.specs.Ready.{sight_of, AreSidesWithin, HoldsRename}
 use Rattle.mem_rename.specs.Rounds.{IsPlanWithin}
 use Rattle.mem_rename.specs.Moving.{with_row, less_one, at_bucket, at_file, bucket_moved, IsPrepared, ChangesHeld, SetsLock}
 use Rattle.mem_rename.proofs.Answering as answering
@@ -69,7 +69,7 @@ use Rattle.mem_rename.proofs.Turned as turned
 
 -- what is logged in the words of the code is what the rename logs
 gone_same : (seen : Sight) (move : Move) (child : NodeId) (number : ℕ) (there : Option ℕ)
-    → gone_by (shift_of (look_of seen move) move child) move.to_name number (option_map numbered_node there) ≡ replaced_logged seen move number there
+    → gone_by (shift_of (look_seen seen move) move child) move.to_name number (option_map numbered_node there) ≡ replaced_logged seen move number there
 gone_same seen move child number None = refl
 gone_same seen move child number (Some there) = refl
 
@@ -91,16 +91,16 @@ one e = cc (e)
 module _ (given : ℕ → Option OldKept) (t : TableState) (nodes : ℕ) (table : IsFileTable t nodes) (move : Move) (within : AreSidesWithin nodes move)
     (plan : Plan) (plan_within : IsPlanWithin nodes plan) (above : List ℕ) (before : Hand Cell Fact)
     (ready : HoldsRename given t nodes move plan above before) (child : NodeId)
-    (moves_is : rename_by (seen_of nodes before.held move plan above) move ≡ done
+    (moves_is : rename_by (sight_of nodes before.held move plan above) move ≡ done
     (Moves move.directory.0 move.name move.to_directory.0 move.to_name child.0))
     (shift : Shift) (noted : Noted) (row_hand : Hand Cell Fact) (prepared : IsPrepared nodes move shift before noted row_hand) (out : Hand Cell Fact)
     (change : ChangesHeld nodes (bucket_moved move plan) (at_file plan.file less_one) row_hand out)
     (number : ℕ) (mid : Hand Cell Fact) (drawn : Stamps (IsLawfulLog given) (StandsAt given) (rename_call move) reply.Ok out number mid)
     (locked : Hand Cell Fact) (lock : SetsLock nodes (is_some plan.comes) (record { 0 = number }) mid locked)
-    (shift_is : shift ≡ shift_of (look_of (seen_of nodes before.held move plan above) move) move child) (final : Hand Cell Fact)
+    (shift_is : shift ≡ shift_of (look_seen (sight_of nodes before.held move plan above) move) move child) (final : Hand Cell Fact)
     (takes : TakesEntry nodes (shift_logged shift noted.old noted.new number (cond (is_some plan.comes) above [])) locked final) where
   abbrev seen : Sight
-  seen = seen_of nodes before.held move plan above
+  seen = sight_of nodes before.held move plan above
 
   abbrev core : ℕ
   core = before.view.core

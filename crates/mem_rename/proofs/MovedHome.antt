@@ -17,8 +17,8 @@ use Rattle.mem_rename.specs.declared.sides.Move.{Move}
 use Rattle.mem_rename.specs.declared.plans.Plan.{Plan}
 use Rattle.mem_rename.specs.declared.looking.Look.{Look}
 use Rattle.mem_rename.specs.Sights.{Sight, child_seen, there_seen, moves_directory, meets_directory, goes_between}
-use Rattle.mem_rename.specs.Decisions.{look_of, same_child}
-use Rattle.mem_rename.specs.Ready.{seen_of, AreSidesWithin, HoldsRename, MayMeetOn}
+use Rattle.mem_rename.specs.Decisions.{look_seen, same_child}
+use Rattle.mem_rename.specs.Ready.{sight_of, AreSidesWithin, HoldsRename, MayMeetOn}
 use Rattle.mem_rename.proofs.Moved.{MovesChild}
 use Rattle.mem_rename.proofs.Readies as readies
 use Rattle.mem_rename.proofs.Fitted as fitted
@@ -49,10 +49,10 @@ module _ (given : ℕ → Option OldKept) (t : TableState) (nodes : ℕ) (table 
     (ready : HoldsRename given t nodes move plan above hand) (tree : TreeState) (on : MayMeetOn plan move.to_directory.0 above hand tree) (child : NodeId)
     (moves : MovesChild tree hand.view.core move child.0) where
   abbrev seen : Sight
-  seen = seen_of nodes hand.held move plan above
+  seen = sight_of nodes hand.held move plan above
 
   abbrev look : Look
-  look = look_of seen move
+  look = look_seen seen move
 
   child_is : child_seen seen move ≡ Some child.0
   child_is = fitted.child_is given t nodes table move within plan above hand ready tree on child.0 moves

@@ -32,10 +32,10 @@ use Rattle.mem_rename.specs.declared.plans.Plan.{Plan}
 use Rattle.mem_rename.specs.declared.looking.Look.{Look}
 use Rattle.mem_rename.specs.Sights.{Sight, stands_by, child_seen, there_seen, moves_directory, meets_directory, goes_between, replaced_directory, ShowBucketsFrom, ShowsMove}
 use Rattle.mem_rename.specs.Cells.{buckets_of}
-use Rattle.mem_rename.specs.Decisions.{look_of, same_child}
+use Rattle.mem_rename.specs.Decisions.{look_seen, same_child}
 use Rattle.mem_rename.specs.Plans.{file_if, buckets_if, file_of, asked_cells}
 use Rattle.mem_rename.specs.Holding.{HoldsCell}
-use Rattle.mem_rename.specs.Ready.{bucket_or, links_if, buckets_held, seen_of, AreSidesWithin, HoldsRename, MayMeetOn}
+use Rattle.mem_rename.specs.Ready.{bucket_or, links_if, buckets_held, sight_of, AreSidesWithin, HoldsRename, MayMeetOn}
 
 is_value : {X : Type 0} (o : Option X) → IsSome o → (x : X) × (o ≡ Some x)
 is_value None some = absurd cc
@@ -98,10 +98,10 @@ module _ (given : ℕ → Option OldKept) (t : TableState) (nodes : ℕ) (table 
     (plan : Plan) (above : List ℕ) (hand : Hand Cell Fact)
     (ready : HoldsRename given t nodes move plan above hand) where
   abbrev pub seen : Sight
-  seen = seen_of nodes hand.held move plan above
+  seen = sight_of nodes hand.held move plan above
 
   abbrev look : Look
-  look = look_of seen move
+  look = look_seen seen move
 
   count : nodes ≡ Rattle.mem_values.specs.Places.node_count hand.view.first
   count = counted given t nodes hand table ready.work

@@ -24,9 +24,9 @@ use Rattle.mem_calls.specs.Table.{IsFileTable}
 use Rattle.mem_calls.specs.Working.{IsWorking, WorksOn, StillHolds}
 use Rattle.mem_rename.specs.declared.sides.Move.{Move}
 use Rattle.mem_rename.specs.declared.plans.Plan.{Plan}
-use Rattle.mem_rename.specs.Decisions.{look_of, look_by}
-use Rattle.mem_rename.specs.Plans.{no_plan, same_node, same_truth, is_plan, plan_by, asked_cells}
-use Rattle.mem_rename.specs.Ready.{bucket_or, seen_of}
+use Rattle.mem_rename.specs.Decisions.{look_seen, look_by}
+use Rattle.mem_rename.specs.Plans.{no_plan, is_same_node, same_truth, is_plan, plan_by, asked_cells}
+use Rattle.mem_rename.specs.Ready.{bucket_or, sight_of}
 use Rattle.mem_rename.specs.Rounds.{IsPlanWithin, HoldsRound, SettlesRename}
 use Rattle.mem_rename.proofs.SoFar.{works_on_both, holds_still}
 use Rattle.mem_rename.proofs.Gathered.{way_stays}
@@ -77,7 +77,7 @@ refused_after t a b c on two = record {
 pub none_within : (nodes : ℕ) → IsPlanWithin nodes no_plan
 none_within nodes = record { comes = λ node is. absurd (none_some is); directory = λ node is. absurd (none_some is); file = λ node is. absurd (none_some is) }
 
-node_same : (a b : Option NodeId) → same_node a b ≡ true → a ≡ b
+node_same : (a b : Option NodeId) → is_same_node a b ≡ true → a ≡ b
 node_same None None is = refl
 node_same None (Some b) is = absurd (false_not_true is)
 node_same (Some a) None is = absurd (false_not_true is)
@@ -98,10 +98,10 @@ plan_same a b is =
       new_file = truth_same a.new_file b.new_file (and_second (same_truth a.old_file b.old_file) _ two) i;
       comes = node_same a.comes b.comes (and_second (same_truth a.old_file b.old_file && same_truth a.new_file b.new_file) _ three) i;
       directory = node_same a.directory b.directory
-          (and_second (same_truth a.old_file b.old_file && same_truth a.new_file b.new_file && same_node a.comes b.comes) _ four) i;
+          (and_second (same_truth a.old_file b.old_file && same_truth a.new_file b.new_file && is_same_node a.comes b.comes) _ four) i;
       file = node_same a.file b.file
-          (and_second (same_truth a.old_file b.old_file && same_truth a.new_file b.new_file && same_node a.comes b.comes
-          && same_node a.directory b.directory) _ is) i;
+          (and_second (same_truth a.old_file b.old_file && same_truth a.new_file b.new_file && is_same_node a.comes b.comes
+          && is_same_node a.directory b.directory) _ is) i;
     }
 
 -- A round that holds what follows from it has settled once the own log is held.
@@ -115,12 +115,12 @@ module _ (given : ℕ → Option OldKept) (t : TableState) (nodes : ℕ) (table 
       let cell = round.cells (id.Bucket node number) among in
       ap (λ o. bucket_or (option_and_then as_bucket o)) (still.values (id.Bucket node number) cell.0 cell.1 ∙ sym cell.1)
 
-  look_stays : look_of (seen_of nodes after.held move plan above) move ≡ look_of (seen_of nodes hand.held move plan above) move
+  look_stays : look_seen (sight_of nodes after.held move plan above) move ≡ look_seen (sight_of nodes hand.held move plan above) move
   look_stays = λ i. look_by (bucket_stays move.directory (name_bucket move.name) (inl refl) i)
       (bucket_stays move.to_directory (name_bucket move.to_name) (inr (inl refl)) i) move
 
   pub settled : (start : Hand Cell Fact) → IsPlanWithin nodes plan → IsRefusedMemory t start begun
-      → next ≡ plan_by (look_of (seen_of nodes hand.held move plan above) move) move → is_plan next plan ≡ true → HoldsPart nodes after
+      → next ≡ plan_by (look_seen (sight_of nodes hand.held move plan above) move) move → is_plan next plan ≡ true → HoldsPart nodes after
       → SettlesRename given t nodes move plan above start after
   settled start within again asked same part = record {
     begun = begun;

@@ -18,10 +18,10 @@ use Rattle.mem_rename.specs.declared.sides.Move.{Move}
 use Rattle.mem_rename.specs.declared.plans.Plan.{Plan}
 use Rattle.mem_rename.specs.declared.looking.Reads.{Reads}
 use Rattle.mem_rename.specs.Sights.{Sight, child_seen, are_bare}
-use Rattle.mem_rename.specs.Decisions.{look_of, reads_of, is_at_or_below}
+use Rattle.mem_rename.specs.Decisions.{look_seen, reads_of, is_at_or_below}
 use Rattle.mem_rename.specs.Holding.{HoldsCells}
 use Rattle.mem_rename.specs.Plans.{asked_cells}
-use Rattle.mem_rename.specs.Ready.{bucket_or, links_if, buckets_held, is_at_or_in, is_among_nodes, seen_of}
+use Rattle.mem_rename.specs.Ready.{bucket_or, links_if, buckets_held, is_at_or_in, is_among_nodes, sight_of}
 use Rattle.mem_rename.proofs.Kept.{bucket_in}
 use Rattle.mem_rename.proofs.Readies.{held_bucket, held_file, old_file_asked, new_file_asked, directory_asked}
 
@@ -57,14 +57,14 @@ pub reads_same : (nodes : ℕ) (hand : Hand Cell Fact) (move : Move) (plan : Pla
     → reads.new_links ≡ links_if plan.new_file (file_held nodes hand.held move.to_directory)
     → reads.full ≡ nat_le BUCKET_ROWS (len (bucket_or (bucket_held nodes hand.held move.to_directory (name_bucket move.to_name))).rows)
     → reads.bare ≡ are_bare (buckets_held nodes hand.held plan.directory)
-    → reads.below ≡ is_at_or_in (look_of (seen_of nodes hand.held move plan above) move).child move.to_directory.0 above
-    → reads ≡ reads_of (seen_of nodes hand.held move plan above) move
+    → reads.below ≡ is_at_or_in (look_seen (sight_of nodes hand.held move plan above) move).child move.to_directory.0 above
+    → reads ≡ reads_of (sight_of nodes hand.held move plan above) move
 reads_same nodes hand move plan above reads old new full bare below = λ i. record {
   old_links = old i;
   new_links = new i;
   full = full i;
   bare = bare i;
-  below = (below ∙ below_same move above (seen_of nodes hand.held move plan above) (child_seen (seen_of nodes hand.held move plan above) move) refl) i;
+  below = (below ∙ below_same move above (sight_of nodes hand.held move plan above) (child_seen (sight_of nodes hand.held move plan above) move) refl) i;
 }
 
 -- a node is one of some by their numbers

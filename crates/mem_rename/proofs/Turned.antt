@@ -41,7 +41,7 @@ use Rattle.mem_rename.specs.declared.shifts.Shift.{Shift}
 use Rattle.mem_rename.specs.declared.shifts.Noted.{Noted}
 use Rattle.mem_rename.specs.Sights.{rename_call, rename_by}
 use Rattle.mem_rename.specs.Shifts.{shift_logged}
-use Rattle.mem_rename.specs.Ready.{seen_of, AreSidesWithin, HoldsRename}
+use Rattle.mem_rename.specs.Ready.{sight_of, AreSidesWithin, HoldsRename}
 use Rattle.mem_rename.specs.Rounds.{IsPlanWithin}
 use Rattle.mem_rename.specs.Moving.{with_row, less_one, same_file, at_bucket, at_file, bucket_moved, KeepsPart, CanChange, IsPrepared, ChangesHeld, SetsLock}
 use Rattle.mem_rename.proofs.Answering as answering
@@ -59,7 +59,7 @@ each_of (Some n) P each = each n refl
 module _ (given : ℕ → Option OldKept) (t : TableState) (nodes : ℕ) (table : IsFileTable t nodes) (move : Move) (within : AreSidesWithin nodes move)
     (plan : Plan) (plan_within : IsPlanWithin nodes plan) (above : List ℕ) (before : Hand Cell Fact)
     (ready : HoldsRename given t nodes move plan above before) (child : NodeId)
-    (moves_is : rename_by (seen_of nodes before.held move plan above) move ≡ done
+    (moves_is : rename_by (sight_of nodes before.held move plan above) move ≡ done
     (Moves move.directory.0 move.name move.to_directory.0 move.to_name child.0))
     (shift : Shift) (noted : Noted) (row_hand : Hand Cell Fact) (prepared : IsPrepared nodes move shift before noted row_hand) where
   abbrev mid0 : Hand Cell Fact

@@ -31,8 +31,8 @@ look_by old new move = record {
   there_is_directory = is_some (get new.directories move.to_name);
 }
 
-abbrev pub look_of : Sight → Move → Look
-look_of seen move = look_by seen.old seen.new move
+abbrev pub look_seen : Sight → Move → Look
+look_seen seen move = look_by seen.old seen.new move
 
 -- whether the child is the new directory or above it
 abbrev pub is_at_or_below : Sight → Move → Option ℕ → Bool

@@ -37,9 +37,9 @@ use Rattle.stamp_table.specs.Table.{TableState}
 use Rattle.mem_calls.specs.Table.{IsFileTable}
 use Rattle.mem_calls.specs.Held.{value_held}
 use Rattle.mem_rename.specs.declared.plans.Plan.{Plan}
-use Rattle.mem_rename.specs.Ready.{seen_of, AreSidesWithin, HoldsRename, MayMeetOn}
+use Rattle.mem_rename.specs.Ready.{sight_of, AreSidesWithin, HoldsRename, MayMeetOn}
 use Rattle.mem_rename.specs.Cells.{cells_of}
-use Rattle.mem_rename.specs.Decisions.{look_of, reads_of, decision_by, verdict_of}
+use Rattle.mem_rename.specs.Decisions.{look_seen, reads_of, decision_by, verdict_of}
 use Rattle.mem_rename.specs.Logged.{rename_logged}
 use Rattle.mem_rename.specs.Ways.{last_read, HasRead}
 use Rattle.mem_rename.specs.After.{IsMovedBucket, IsMovedCell}
@@ -115,14 +115,14 @@ CallsMayComeOnAWay = (given : ℕ → Option OldKept) (view : View TreeState (Ev
 
 -- What a rename decides by what it has looked at is what the values say.
 abbrev pub DecisionsAreVerdicts : Type 0
-DecisionsAreVerdicts = (move : Move) (seen : Sight) → verdict_of move (decision_by (look_of seen move) (reads_of seen move) move) ≡ rename_by seen move
+DecisionsAreVerdicts = (move : Move) (seen : Sight) → verdict_of move (decision_by (look_seen seen move) (reads_of seen move) move) ≡ rename_by seen move
 
 -- What a core holds that is ready for a rename shows each tree that it may meet.
 abbrev pub ReadyCoresSeeAll : Type 0
 ReadyCoresSeeAll = (given : ℕ → Option OldKept) (t : TableState) (nodes : ℕ) (move : Move) (plan : Plan) (above : List ℕ) (hand : Hand Cell Fact)
     (tree : TreeState)
     → IsFileTable t nodes → AreSidesWithin nodes move → HoldsRename given t nodes move plan above hand → MayMeetOn plan move.to_directory.0 above hand tree
-    → ShowsMove tree move (seen_of nodes hand.held move plan above)
+    → ShowsMove tree move (sight_of nodes hand.held move plan above)
 
 -- And it holds each cell that the rename does not keep there.
 abbrev pub ReadyCoresHoldAll : Type 0

@@ -15,10 +15,10 @@ abbrev pub no_plan : Plan
 no_plan = record { old_file = false; new_file = false; comes = None; directory = None; file = None }
 
 -- whether two nodes that may be there are one
-abbrev pub same_node : Option NodeId → Option NodeId → Bool
-same_node None None = true
-same_node (Some node) (Some other) = node.0 == other.0
-same_node _ _ = false
+abbrev pub is_same_node : Option NodeId → Option NodeId → Bool
+is_same_node None None = true
+is_same_node (Some node) (Some other) = node.0 == other.0
+is_same_node _ _ = false
 
 -- whether two truth values are one
 abbrev pub same_truth : Bool → Bool → Bool
@@ -28,8 +28,8 @@ same_truth false b = not b
 -- whether two plans are one
 abbrev pub is_plan : Plan → Plan → Bool
 is_plan plan other =
-    same_truth plan.old_file other.old_file && same_truth plan.new_file other.new_file && same_node plan.comes other.comes
-    && same_node plan.directory other.directory && same_node plan.file other.file
+    same_truth plan.old_file other.old_file && same_truth plan.new_file other.new_file && is_same_node plan.comes other.comes
+    && is_same_node plan.directory other.directory && is_same_node plan.file other.file
 
 -- What a rename asks for: a directory that does not stand as a file, the new one where the old one stands; a directory that would come to
 -- another one that stands; and what would be replaced by what is of its kind.

@@ -21,7 +21,7 @@ use Rattle.mem_calls.specs.Working.{IsWorking}
 use Rattle.mem_rename.specs.declared.sides.Move.{Move}
 use Rattle.mem_rename.specs.declared.plans.Plan.{Plan}
 use Rattle.mem_rename.specs.Sights.{Sight}
-use Rattle.mem_rename.specs.Decisions.{look_of}
+use Rattle.mem_rename.specs.Decisions.{look_seen}
 use Rattle.mem_rename.specs.Plans.{asked_cells, plan_by}
 use Rattle.mem_rename.specs.Holding.{HoldsCell, HoldsCells}
 use Rattle.mem_rename.specs.Ways.{HasRead}
@@ -51,8 +51,8 @@ buckets_held nodes held (Some node) =
     ∷ []
 
 -- what a rename reads of what is held
-abbrev pub seen_of : ℕ → List (HeldCell Cell) → Move → Plan → List ℕ → Sight
-seen_of nodes held move plan above = record {
+abbrev pub sight_of : ℕ → List (HeldCell Cell) → Move → Plan → List ℕ → Sight
+sight_of nodes held move plan above = record {
   old = bucket_or (bucket_held nodes held move.directory (name_bucket move.name));
   new = bucket_or (bucket_held nodes held move.to_directory (name_bucket move.to_name));
   old_links = links_if plan.old_file (file_held nodes held move.directory);
@@ -76,7 +76,7 @@ pub record HoldsRename (given : ℕ → Option OldKept) (t : TableState) (nodes 
   pub lock : is_some plan.comes ≡ true → HoldsCell nodes hand.held id.Lock
   pub read : is_some plan.comes ≡ true → HasRead given hand.view move.to_directory.0 above
   pub ends : is_some plan.comes ≡ true → EndsAtRoot move.to_directory.0 above
-  pub asked : plan ≡ plan_by (look_of (seen_of nodes hand.held move plan above) move) move
+  pub asked : plan ≡ plan_by (look_seen (sight_of nodes hand.held move plan above) move) move
 
 -- A tree that a core may meet which has read a way where it needs one: its values show it, and the way is the holders.
 pub record MayMeetOn (plan : Plan) (node : ℕ) (above : List ℕ) (hand : Hand Cell Fact) (tree : TreeState) : Type 0 where

@@ -6,7 +6,7 @@ ghost use Rattle.mem_calls.specs.Table.{IsFileTable};
 ghost use Rattle.mem_calls.specs.Reply.{reply_of};
 ghost use Rattle.mem_calls.specs.Outcome.{IsAnswered};
 ghost use Rattle.mem_rename.specs.Sights.{rename_call, rename_by};
-ghost use Rattle.mem_rename.specs.Ready.{seen_of, AreSidesWithin, HoldsRename};
+ghost use Rattle.mem_rename.specs.Ready.{sight_of, AreSidesWithin, HoldsRename};
 
 use crate::plans::Plan;
 use crate::sides::Move;
@@ -31,7 +31,7 @@ pub(crate) fn answer<T: Given>(
     requires within { AreSidesWithin nodes move_ }
     requires ready { HoldsRename T.given shared.now nodes move_ plan (map node_number above.now) core.old }
     requires spare { 0 < core.old.spare }
-    requires answers { rename_by (seen_of nodes core.old.held move_ plan (map node_number above.now)) move_ ≡ answered (reply_of short) }
+    requires answers { rename_by (sight_of nodes core.old.held move_ plan (map node_number above.now)) move_ ≡ answered (reply_of short) }
     ensures { IsAnswered shared.now (rename_call move_) (reply_of short) core.old core.new }
 {
     let _plan = plan;

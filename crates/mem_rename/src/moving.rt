@@ -12,10 +12,10 @@ ghost use Rattle.mem_rename.specs.Sights.{rename_call, rename_by};
 ghost use Rattle.mem_rename.specs.Holding.{HoldsCells, HoldsCell};
 ghost use Rattle.mem_rename.specs.Moving.{less_one, at_file, bucket_moved, CanChange, ChangesHeld, SetsLock};
 ghost use Rattle.mem_rename.specs.Plans.{asked_cells};
-ghost use Rattle.mem_rename.specs.Ready.{seen_of, AreSidesWithin, HoldsRename};
+ghost use Rattle.mem_rename.specs.Ready.{sight_of, AreSidesWithin, HoldsRename};
 ghost use Rattle.mem_rename.specs.Rounds.{IsPlanWithin};
 ghost use Rattle.mem_rename.specs.Shifts.{shift_of};
-ghost use Rattle.mem_rename.specs.Decisions.{look_of};
+ghost use Rattle.mem_rename.specs.Decisions.{look_seen};
 
 use crate::changing::{all_stand, lower_links, remove_row};
 use crate::plans::Plan;
@@ -32,7 +32,7 @@ use std::alloc::Global;
 // The move of a child by what is held.
 fn shift_in(core: &FileCore, nodes: u32, move_: &Move, plan: Plan, child: NodeId) -> Shift
     requires { HoldsCells nodes core.now.held (asked_cells move_.now plan) }
-    ensures { (above : _) → result ≡ shift_of (look_of (seen_of nodes core.now.held move_.now plan above) move_.now) move_.now child }
+    ensures { (above : _) → result ≡ shift_of (look_seen (sight_of nodes core.now.held move_.now plan above) move_.now) move_.now child }
 {
     let _plan = plan;
     let look = look_in(core, nodes, move_);
@@ -100,7 +100,7 @@ pub(crate) fn move_child<T: Given>(
     requires plan { IsPlanWithin nodes plan }
     requires ready { HoldsRename T.given shared.now nodes move_ plan (map node_number above.items) core.old }
     requires spare { 0 < core.old.spare }
-    requires moves { rename_by (seen_of nodes core.old.held move_ plan (map node_number above.items)) move_
+    requires moves { rename_by (sight_of nodes core.old.held move_ plan (map node_number above.items)) move_
         ≡ done (MovesEffect move_.directory.0 move_.name move_.to_directory.0 move_.to_name child.0) }
     ensures { MatchResult result (λ _. IsAnswered shared.now (rename_call move_) reply.Ok core.old core.new) (λ _. IsRefusedMemory shared.now core.old core.new) }
 {

@@ -13,7 +13,7 @@ ghost use Rattle.mem_rename.specs.Sights.{rename_by};
 ghost use Rattle.mem_rename.specs.Decisions.{verdict_of};
 ghost use Rattle.mem_rename.specs.Holding.{HoldsCells};
 ghost use Rattle.mem_rename.specs.Plans.{asked_cells};
-ghost use Rattle.mem_rename.specs.Ready.{seen_of, AreSidesWithin};
+ghost use Rattle.mem_rename.specs.Ready.{sight_of, AreSidesWithin};
 ghost use Rattle.mem_rename.specs.Rounds.{SettlesRename};
 
 use crate::looking::{Decision, decide};
@@ -97,7 +97,7 @@ pub(crate) fn decide_in(
     above: &[NodeId],
 ) -> Decision
     requires { HoldsCells nodes core.now.held (asked_cells move_.now plan) }
-    ensures { rename_by (seen_of nodes core.now.held move_.now plan (map node_number above.now)) move_.now ≡ verdict_of move_.now result }
+    ensures { rename_by (sight_of nodes core.now.held move_.now plan (map node_number above.now)) move_.now ≡ verdict_of move_.now result }
 {
     let look = look_in(core, nodes, move_);
     let reads = reads_in(core, nodes, move_, plan, look, above);

@@ -8,7 +8,7 @@ ghost use Rattle.mem_rename.specs.Sights.{are_bare};
 ghost use Rattle.mem_rename.specs.Decisions.{look_by, reads_of};
 ghost use Rattle.mem_rename.specs.Holding.{HoldsCells};
 ghost use Rattle.mem_rename.specs.Plans.{asked_cells};
-ghost use Rattle.mem_rename.specs.Ready.{bucket_or, links_if, buckets_held, is_empty_held, is_at_or_in, is_among_nodes, seen_of};
+ghost use Rattle.mem_rename.specs.Ready.{bucket_or, links_if, buckets_held, is_empty_held, is_at_or_in, is_among_nodes, sight_of};
 
 use crate::looking::{Look, Reads, look_at};
 use crate::plans::{Plan, plan_for};
@@ -99,7 +99,7 @@ pub(crate) fn reads_in(
     requires held { HoldsCells nodes core.now.held (asked_cells move_.now plan) }
     requires look { look ≡ look_by (bucket_or (bucket_held nodes core.now.held move_.now.directory (bucket move_.now.name)))
         (bucket_or (bucket_held nodes core.now.held move_.now.to_directory (bucket move_.now.to_name))) move_.now }
-    ensures { result ≡ reads_of (seen_of nodes core.now.held move_.now plan (map node_number above.now)) move_.now }
+    ensures { result ≡ reads_of (sight_of nodes core.now.held move_.now plan (map node_number above.now)) move_.now }
 {
     let new = bucket_in(core, nodes, move_.to_directory, bucket_of(&move_.to_name));
     Reads {
@@ -113,7 +113,7 @@ pub(crate) fn reads_in(
 
 ghost use Rattle.mem_values.specs.Places.{node_count};
 ghost use Rattle.mem_values.specs.Laws.{MayMeet};
-ghost use Rattle.mem_rename.specs.Decisions.{look_of};
+ghost use Rattle.mem_rename.specs.Decisions.{look_seen};
 ghost use Rattle.mem_rename.specs.Plans.{plan_by};
 ghost use Rattle.mem_rename.specs.Ready.{AreSidesWithin};
 ghost use Rattle.mem_rename.specs.Rounds.{IsPlanWithin};
@@ -125,7 +125,7 @@ pub(crate) fn next_plan(core: &FileCore, nodes: u32, move_: &Move, plan: Plan) -
     requires within { AreSidesWithin nodes move_.now }
     requires held { HoldsCells nodes core.now.held (asked_cells move_.now plan) }
     requires met { MayMeet core.now.view core.now.held (tree_seen core.now) }
-    ensures asked { (above : _) → result ≡ plan_by (look_of (seen_of nodes core.now.held move_.now plan above) move_.now) move_.now }
+    ensures asked { (above : _) → result ≡ plan_by (look_seen (sight_of nodes core.now.held move_.now plan above) move_.now) move_.now }
     ensures within { IsPlanWithin nodes result }
 {
     let _held = plan;
