@@ -3,6 +3,7 @@ use Rattle.std.proofs.Common.{◌≡◌, ℕ, List, Option, Some, IsSome, sym, a
 use Rattle.disk_change.specs.OldKept.{OldKept}
 use Rattle.sfs_base.specs.Name.{bucket}
 use Rattle.sfs_base.specs.declared.numbers.NodeId.{NodeId}
+use Rattle.sfs_tree.proofs.Joined.{bucket_small}
 use Rattle.stamp_table.specs.Hand.{Hand}
 use Rattle.stamp_table.specs.Table.{TableState, with_value}
 use Rattle.mem_values.specs.declared.cell.Cell.{Cell}
@@ -17,7 +18,6 @@ use Rattle.mem_calls.specs.Working.{IsWorking}
 use Rattle.mem_calls.specs.Outcome.{IsRefusedMemory}
 use Rattle.mem_calls.specs.declared.ready.Ready.{Ready}
 use Rattle.mem_calls.specs.Changes.{PutsValue, IsFreePlace, IsReadyForRow}
-use Rattle.mem_calls.proofs.Shown.{bucket_small}
 use Rattle.mem_calls.proofs.LinkBack.{works_both, back_both}
 use Rattle.mem_calls.proofs.Comings.{same_bucket, out_is}
 

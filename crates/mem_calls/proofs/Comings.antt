@@ -7,6 +7,7 @@ use Rattle.disk_change.specs.OldKept.{OldKept}
 use Rattle.sfs_base.specs.Name.{bucket}
 use Rattle.sfs_base.specs.declared.numbers.NodeId.{NodeId}
 use Rattle.sfs_tree.specs.History.{tree_after}
+use Rattle.sfs_tree.proofs.Joined.{bucket_small}
 use Rattle.stamp_table.specs.Events.{calls_in}
 use Rattle.stamp_table.specs.declared.held.HeldCell.{HeldCell}
 use Rattle.stamp_table.specs.Hand.{Hand}
@@ -18,14 +19,13 @@ use Rattle.mem_values.specs.declared.cell_id.CellId.TheVariants as id
 use Rattle.mem_values.specs.declared.fact.Fact.{Fact}
 use Rattle.mem_values.specs.Places.{cell_place}
 use Rattle.mem_values.specs.Stands.{ShowsBucket, if_directory}
+use Rattle.mem_values.proofs.Basics.{some_of}
 use Rattle.mem_calls.specs.Table.{IsFileTable}
 use Rattle.mem_calls.specs.Held.{value_held, as_bucket, as_part, bucket_held, part_held}
 use Rattle.mem_calls.specs.Working.{IsWorking}
 use Rattle.mem_calls.specs.declared.ready.Ready.{Ready}
 use Rattle.mem_calls.specs.Changes.{PutsValue, IsFreePlace, IsReadyForRow}
-use Rattle.mem_calls.proofs.Shown.{bucket_small}
 use Rattle.mem_calls.proofs.Nothing.{some_first}
-use Rattle.mem_calls.proofs.HeldKinds.{some_of}
 use Rattle.mem_calls.proofs.Taken.{value_with}
 use Rattle.mem_calls.proofs.PutBack.{stands_now}
 use Rattle.mem_calls.proofs.LinkBack.{bucket_of_value}

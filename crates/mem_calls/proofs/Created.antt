@@ -21,6 +21,7 @@ use Rattle.sfs_tree.specs.Logged.{log_entry, logged_by}
 use Rattle.sfs_tree.specs.Verdict.{Verdict, verdict}
 use Rattle.sfs_tree.specs.Laws.{IsSoundTree}
 use Rattle.sfs_tree.proofs.KeepsRest.{calls_keep_the_rest}
+use Rattle.sfs_tree.proofs.Joined.{bucket_small}
 use Rattle.mem_cells.specs.Part.{IsAddedTo}
 use Rattle.stamp_table.specs.declared.event.Event.{Event}
 use Rattle.stamp_table.specs.declared.event.Event.TheVariants.{Called}
@@ -45,6 +46,7 @@ use Rattle.mem_values.specs.Stands.{Flushed, ShowsBucket, StandsFile, StandsPend
 use Rattle.mem_values.specs.Facts.{IsLawfulLog}
 use Rattle.mem_values.proofs.Places.{places_apart}
 use Rattle.mem_values.proofs.Pushes.{account_called, last_touch-push}
+use Rattle.mem_values.proofs.Basics.{is_value, some_of}
 use Rattle.mem_calls.specs.Held.{value_held, as_bucket, as_file, as_part, file_held}
 use Rattle.mem_calls.specs.Outcome.{IsAnswered}
 use Rattle.mem_calls.specs.Parts.{HasRoomFor}
@@ -52,11 +54,10 @@ use Rattle.mem_calls.specs.declared.coming.Coming.{Coming}
 use Rattle.mem_calls.specs.Changes.{PutsValue, IsWithRow}
 use Rattle.mem_calls.specs.Ends.{IsPlacedBucket}
 use Rattle.mem_calls.specs.Creations.{creates, HoldsCreated, is_new_cell, IsSettled, SettlesCreation}
-use Rattle.mem_calls.proofs.Shown.{name_shows, bucket_small}
+use Rattle.mem_calls.proofs.Shown.{name_shows}
 use Rattle.mem_calls.proofs.RowsCome.{bucket_after}
 use Rattle.mem_calls.proofs.Comings.{out_is, at_there, part_out}
 use Rattle.mem_calls.proofs.PartKept.{same_part_stands, room_for_one}
-use Rattle.mem_calls.proofs.HeldKinds.{is_value, some_of}
 use Rattle.mem_calls.proofs.Finished.{of_changed}
 use Rattle.mem_calls.proofs.Unlinked.{file_of_value, value_of_bucket, apart_value}
 use Rattle.mem_calls.proofs.NewNodes as new_node

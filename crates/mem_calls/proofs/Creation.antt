@@ -16,6 +16,7 @@ use Rattle.mem_values.specs.declared.cell_id.CellId.TheVariants as id
 use Rattle.mem_values.specs.declared.fact.Fact.{Fact}
 use Rattle.mem_values.specs.Stands.{StandsAt}
 use Rattle.mem_values.specs.Facts.{IsLawfulLog}
+use Rattle.mem_values.proofs.Basics.{some_of}
 use Rattle.mem_calls.specs.Held.{value_held, as_bucket, as_part, bucket_held, part_held, InEach}
 use Rattle.mem_calls.specs.Table.{IsFileTable}
 use Rattle.mem_calls.specs.Working.{IsWorking}
@@ -24,7 +25,6 @@ use Rattle.mem_calls.specs.Changes.{IsComing}
 use Rattle.mem_calls.specs.Creations.{creates, MayMake, is_new_cell}
 use Rattle.mem_calls.proofs.Edited.{same_place, held_there}
 use Rattle.mem_calls.proofs.Nothing.{some_first}
-use Rattle.mem_calls.proofs.HeldKinds.{some_of}
 use Rattle.mem_calls.proofs.NewNodes as new_node
 use Rattle.mem_calls.proofs.NewCells.{new_held}
 use Rattle.mem_calls.proofs.Stamped as stamped

@@ -49,6 +49,7 @@ use Rattle.mem_values.specs.Facts.{IsLawfulLog}
 use Rattle.mem_values.specs.Touches.{KeepsCell}
 use Rattle.mem_values.proofs.Kept.{links_kept}
 use Rattle.mem_values.proofs.Pushes.{last_touch-append}
+use Rattle.mem_values.proofs.Basics.{both_false}
 use Rattle.mem_calls.specs.declared.edit.FileEdit.{FileEdit}
 use Rattle.mem_calls.specs.declared.edit.FileEdit.TheVariants.{Put, Resize}
 use Rattle.mem_calls.specs.Edits.{edit_of, edit_call, IsEdited}
@@ -91,10 +92,6 @@ no_links : (tree : TreeState) (core : ℕ) (file : NodeId) (edit : FileEdit) (no
 no_links tree core file (Put at bytes) node = refl
 no_links tree core file (Resize size) node = refl
 
-or_false : (b : Bool) → b ≡ false → (b || false) ≡ false
-or_false true is = is
-or_false false is = refl
-
 -- it keeps each cell but the file and the own log
 edit_keeps : (nodes : ℕ) (tree : TreeState) (core : ℕ) (file : NodeId) (edit : FileEdit) (which : CellId)
     → verdict tree core (edit_call file edit) ≡ done (Edits file.0 (edit_of edit))
@@ -105,11 +102,11 @@ edit_keeps nodes tree core file (Put at bytes) (id.Bucket node number) does apar
 edit_keeps nodes tree core file (Resize size) (id.Bucket node number) does apart other = inl refl
 edit_keeps nodes tree core file (Put at bytes) (id.File node) does apart other = ⊎_elim
     (λ same. absurd (other (ap (λ (n : ℕ). cell_place nodes (id.File (record { 0 = n }))) (eqb-true file.0 node.0 same))))
-    (λ not_same. inl (or_false (file.0 == node.0) not_same))
+    (λ not_same. inl (both_false (file.0 == node.0) false not_same refl))
     (cases_Bool (file.0 == node.0))
 edit_keeps nodes tree core file (Resize size) (id.File node) does apart other = ⊎_elim
     (λ same. absurd (other (ap (λ (n : ℕ). cell_place nodes (id.File (record { 0 = n }))) (eqb-true file.0 node.0 same))))
-    (λ not_same. inl (or_false (file.0 == node.0) not_same))
+    (λ not_same. inl (both_false (file.0 == node.0) false not_same refl))
     (cases_Bool (file.0 == node.0))
 edit_keeps nodes tree core file (Put at bytes) (id.Pending node) does apart other = inl refl
 edit_keeps nodes tree core file (Resize size) (id.Pending node) does apart other = inl refl
@@ -227,7 +224,7 @@ module _ (given : ℕ → Option OldKept) (t : TableState) (nodes : ℕ) (before
     next_tree = ap (tree_after before.view.first) (calls_snoc log entry) ∙ tree_after-push before.view.first (calls_in log) entry
 
     pub put_may : IsSome (value_held nodes mid.held (id.File file))
-    put_may = Rattle.mem_calls.proofs.HeldKinds.some_of (value_held nodes mid.held (id.File file)) none (ap (λ l. value_held nodes l (id.File file)) mid_held
+    put_may = Rattle.mem_values.proofs.Basics.some_of (value_held nodes mid.held (id.File file)) none (ap (λ l. value_held nodes l (id.File file)) mid_held
         ∙ Rattle.mem_calls.proofs.Taken.value_with nodes (id.File file) none before.held
         (some_first as_file (value_held nodes before.held (id.File file)) holds))
 

@@ -23,6 +23,7 @@ use Rattle.sfs_tree.specs.Logged.{log_entry, logged_by}
 use Rattle.sfs_tree.specs.Verdict.{Verdict, verdict, done, tree_after_call}
 use Rattle.sfs_tree.proofs.Readings.{directory_by_kind}
 use Rattle.sfs_tree.proofs.KeepsRest.{calls_keep_the_rest}
+use Rattle.sfs_tree.proofs.Joined.{bucket_small}
 use Rattle.mem_cells.specs.Part.{IsAddedTo}
 use Rattle.stamp_table.specs.declared.event.Event.{Event}
 use Rattle.stamp_table.specs.declared.event.Event.TheVariants.{Called}
@@ -42,6 +43,8 @@ use Rattle.mem_values.specs.Logs.{entry_logged}
 use Rattle.mem_values.specs.Stands.{StandsForCell, StandsPart, StandsAt}
 use Rattle.mem_values.specs.Facts.{IsLawfulLog}
 use Rattle.mem_values.specs.Touches.{KeepsCell}
+use Rattle.mem_values.proofs.Basics.{is_value, some_of, first_false, second_false, both_false}
+use Rattle.mem_values.proofs.Kept.{directory_kept}
 use Rattle.mem_calls.specs.Held.{value_held, as_bucket, as_part, bucket_held, part_held, InEach}
 use Rattle.mem_calls.specs.Table.{IsFileTable}
 use Rattle.mem_calls.specs.Working.{IsWorking}
@@ -53,10 +56,9 @@ use Rattle.mem_calls.specs.Ends.{NamesDirectory, IsPlacedBucket, PlacesDirectory
 use Rattle.mem_calls.specs.declared.ready.Ready.{Ready}
 use Rattle.mem_calls.proofs.PartKept.{same_part_stands, room_for_one}
 use Rattle.mem_calls.proofs.Nothing.{some_first}
-use Rattle.mem_calls.proofs.HeldKinds.{is_value, some_of}
 use Rattle.mem_calls.proofs.Taken.{value_with}
-use Rattle.mem_calls.proofs.Shown.{name_shows, bucket_shows, bucket_small}
-use Rattle.mem_calls.proofs.RowsGo.{bucket_after, directory_kept}
+use Rattle.mem_calls.proofs.Shown.{name_shows, bucket_shows}
+use Rattle.mem_calls.proofs.RowsGo.{bucket_after}
 use Rattle.mem_calls.proofs.Edited.{same_place, held_there}
 use Rattle.mem_calls.proofs.Stamped as stamped
 use Rattle.mem_calls.proofs.Finished.{of_changed}
@@ -65,18 +67,6 @@ use Rattle.mem_calls.proofs.Changed.{Turn}
 use Rattle.mem_calls.proofs.Unlinked.{value_of_bucket, apart_value}
 use Rattle.mem_calls.proofs.Ending.{named_row, not_itself}
 use Rattle.mem_calls.proofs.StandsNowhere.{not_equal, kind_next, stays, nowhere_after}
-
-pub or_both : (a b : Bool) → a ≡ false → b ≡ false → (a || b) ≡ false
-or_both true b one two = one
-or_both false b one two = two
-
-pub and_first : (a b : Bool) → a ≡ false → (a && b) ≡ false
-and_first true b is = absurd (cc (is))
-and_first false b is = refl
-
-pub and_second : (a b : Bool) → b ≡ false → (a && b) ≡ false
-and_second true b is = is
-and_second false b is = refl
 
 -- It keeps each cell but the bucket of the name, the buckets of the directory and the own log.
 pub rmdir_keeps : (nodes cores : ℕ) (tree : TreeState) (core : ℕ) (dir : NodeId) (name : List ℕ) (child : NodeId) (which : CellId)
@@ -87,7 +77,7 @@ pub rmdir_keeps : (nodes cores : ℕ) (tree : TreeState) (core : ℕ) (dir : Nod
     → ((number : ℕ) → number < 8 → cell_place nodes (id.Bucket child number) ≡ cell_place nodes which → ⊥) → KeepsCell tree core (call.Rmdir dir name) which
 rmdir_keeps nodes cores tree core dir name child id.Lock does row kind is_cell part here below = inl (ap (λ (v : Verdict). moves_between tree v.effect) does)
 rmdir_keeps nodes cores tree core dir name child (id.Bucket node number) does row kind is_cell part here below = inl
-    (or_both (is_in_part node.0 (λ n. bucket n == number) dir.0 name) (is_this node.0 (row_of tree dir.0 name))
+    (both_false (is_in_part node.0 (λ n. bucket n == number) dir.0 name) (is_this node.0 (row_of tree dir.0 name))
     (apart (dir.0 == node.0) (bucket name == number) refl refl)
     (ap (is_this node.0) row ∙ not_equal child.0 node.0 (λ same. below number is_cell.1 (ap (λ n. 16 + 9 * n + number) same))))
   where
@@ -96,9 +86,9 @@ rmdir_keeps nodes cores tree core dir name child (id.Bucket node number) does ro
     apart true false one two = refl
     apart false b one two = refl
 rmdir_keeps nodes cores tree core dir name child (id.File node) does row kind is_cell part here below = inl (⊎_elim
-    (λ same. and_second (is_this node.0 (row_of tree dir.0 name)) _
+    (λ same. second_false (is_this node.0 (row_of tree dir.0 name)) _
     (ap not (subst (λ n. is_directory (tree_after_call tree core (call.Rmdir dir name)) n ≡ true) (eqb-true child.0 node.0 same) kind)))
-    (λ other. and_first (is_this node.0 (row_of tree dir.0 name)) _ (ap (is_this node.0) row ∙ other))
+    (λ other. first_false (is_this node.0 (row_of tree dir.0 name)) _ (ap (is_this node.0) row ∙ other))
     (cases_Bool (child.0 == node.0)))
 rmdir_keeps nodes cores tree core dir name child (id.Pending node) does row kind is_cell part here below = inl refl
 rmdir_keeps nodes cores tree core dir name child (id.Part owner) does row kind is_cell part here below = ⊎_elim

@@ -7,6 +7,7 @@ use Rattle.std.specs.Option.{option_map_or}
 use Rattle.std.specs.FinMap.{get}
 use Rattle.sfs_base.specs.Name.{bucket}
 use Rattle.sfs_base.specs.declared.numbers.NodeId.{NodeId}
+use Rattle.sfs_base.proofs.BasicOptions.{none_of}
 use Rattle.sfs_tree.specs.NameRow.{number_of}
 use Rattle.sfs_tree.specs.declared.call.Call.TheVariants as call
 use Rattle.sfs_tree.specs.declared.reply.Code.TheVariants.{NoEntry, NotDir, NotEmpty}
@@ -15,6 +16,7 @@ use Rattle.sfs_tree.specs.Sound.{IsSound, below}
 use Rattle.sfs_tree.specs.Effect.{Removes}
 use Rattle.sfs_tree.specs.Verdict.{verdict, refused, done, or_else, directory_fault, rmdir_row}
 use Rattle.sfs_tree.proofs.Walks.{above_same}
+use Rattle.sfs_tree.proofs.Joined.{bucket_small}
 use Rattle.stamp_table.specs.Ascending.{LiesAbove}
 use Rattle.stamp_table.specs.declared.held.HeldCell.{HeldCell}
 use Rattle.stamp_table.specs.Hand.{Hand}
@@ -25,22 +27,17 @@ use Rattle.mem_values.specs.declared.fact.Fact.{Fact}
 use Rattle.mem_values.specs.Places.{node_count}
 use Rattle.mem_values.specs.Stands.{ShowsBucket, if_directory}
 use Rattle.mem_values.specs.Laws.{MayMeet}
+use Rattle.mem_values.proofs.Basics.{is_value, some_of}
+use Rattle.mem_values.proofs.Places.{node_again}
 use Rattle.mem_calls.specs.Held.{bucket_held, is_standing, stands_held, HoldsDirectory, CanMeet}
 use Rattle.mem_calls.specs.Working.{StillHolds, Gains}
 use Rattle.mem_calls.specs.Sums.{HoldsBuckets}
 use Rattle.mem_calls.specs.Ends.{NamesDirectory, HoldsNamedBuckets, HoldsEnding}
-use Rattle.mem_calls.proofs.Shown.{name_shows, bucket_small}
+use Rattle.mem_calls.proofs.Shown.{name_shows}
 use Rattle.mem_calls.proofs.NamedRows.{row_in, directory_in}
 use Rattle.mem_calls.proofs.Faults.{same_count, node_within}
-use Rattle.mem_calls.proofs.HeldKinds.{is_value, some_of, still_bucket, still_directory}
+use Rattle.mem_calls.proofs.HeldKinds.{still_bucket, still_directory}
 use Rattle.mem_calls.proofs.Statuses.{still_buckets}
-
-node_again : (a b : NodeId) → a.0 ≡ b.0 → a ≡ b
-node_again a b same = λ i. record { 0 = same i }
-
-pub none_of : {X : Type 0} (o : Option X) → is_some o ≡ false → o ≡ None
-none_of None none = refl
-none_of (Some x) none = absurd (cc (none))
 
 -- no directory has a row that names itself
 pub not_itself : (tree : TreeState) → IsSound tree → (directory : ℕ) (name : List ℕ) → row_of tree directory name ≡ Some directory

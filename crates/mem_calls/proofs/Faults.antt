@@ -6,6 +6,7 @@ use Rattle.std.proofs.Math.Nat.{mul-le-mul_left}
 use Rattle.std.proofs.lemmas.Bool.{cases_Bool}
 use Rattle.std.specs.FinMap.{get}
 use Rattle.sfs_base.specs.declared.numbers.NodeId.{NodeId}
+use Rattle.sfs_base.proofs.BasicTruth.{and_first, and_second, or_first}
 use Rattle.sfs_tree.specs.declared.reply.Code.TheVariants.{NoEntry, NotDir, IsDir}
 use Rattle.sfs_tree.specs.Tree.{TreeState, is_alive, is_directory, count_of}
 use Rattle.sfs_tree.specs.Lock.{stands_of}
@@ -22,11 +23,16 @@ use Rattle.mem_values.specs.declared.fact.Fact.{Fact}
 use Rattle.mem_values.specs.Places.{node_count}
 use Rattle.mem_values.specs.Stands.{ShowsBucket, file_links}
 use Rattle.mem_values.specs.Laws.{MayMeet}
+use Rattle.mem_values.proofs.Basics.{left_false}
 use Rattle.mem_calls.specs.Held.{is_standing}
 
 -- a tree that a core may meet has as many numbers as the first one
 pub same_count : (hand : Hand Cell Fact) (tree : TreeState) → MayMeet hand.view hand.held tree → node_count tree ≡ node_count hand.view.first
 same_count hand tree meets = λ i. meets.first i + meets.share i * meets.cores i
+
+pub same_some : (o : Option NodeId) (p : Option ℕ) → number_of o ≡ p → is_some p ≡ is_some o
+same_some None p is_p = ap is_some (sym is_p)
+same_some (Some x) p is_p = ap is_some (sym is_p)
 
 module _ (tree : TreeState) (is : IsSoundTree tree) where
   -- a node of the tree has one of its numbers
@@ -58,28 +64,16 @@ module _ (tree : TreeState) (is : IsSoundTree tree) where
   pub file_fault_beyond : (node : ℕ) → node_count tree ≤ node → file_fault tree node ≡ Some NoEntry
   file_fault_beyond node beyond = rw (beyond_dead node beyond) refl
 
-  same_some : (o : Option NodeId) (p : Option ℕ) → number_of o ≡ p → is_some p ≡ is_some o
-  same_some None p is_p = ap is_some (sym is_p)
-  same_some (Some x) p is_p = ap is_some (sym is_p)
-
   module _ (node : NodeId) (number : ℕ) (bucket : Bucket) (shows : ShowsBucket tree node.0 number bucket) where
     -- a directory is alive exactly where it stands by a bucket of it
     pub standing : (is_alive tree node.0 && is_directory tree node.0) ≡ is_standing node bucket
     standing = sym (standing_is_alive tree node.0 is) ∙ ap (λ b. node.0 == 0 || b) (same_some bucket.stands (stands_of tree node.0) shows.stands)
 
-    and_left : (a b : Bool) → (a && b) ≡ true → a ≡ true
-    and_left true b both = refl
-    and_left false b both = both
-
-    and_right : (a b : Bool) → (a && b) ≡ true → b ≡ true
-    and_right true b both = both
-    and_right false b both = absurd (cc (both))
-
     pub alive : is_standing node bucket ≡ true → is_alive tree node.0 ≡ true
-    alive stands = and_left (is_alive tree node.0) (is_directory tree node.0) (standing ∙ stands)
+    alive stands = and_first (is_alive tree node.0) (is_directory tree node.0) (standing ∙ stands)
 
     pub directory : is_standing node bucket ≡ true → is_directory tree node.0 ≡ true
-    directory stands = and_right (is_alive tree node.0) (is_directory tree node.0) (standing ∙ stands)
+    directory stands = and_second (is_alive tree node.0) (is_directory tree node.0) (standing ∙ stands)
 
     pub fault_standing : is_standing node bucket ≡ true → directory_fault tree node.0 ≡ None
     fault_standing stands = rw (alive stands, directory stands) refl
@@ -88,22 +82,14 @@ module _ (tree : TreeState) (is : IsSoundTree tree) where
     file_fault_standing stands = rw (alive stands, directory stands) refl
 
     not_root : is_standing node bucket ≡ false → (node.0 == 0) ≡ false
-    not_root stands = by (node.0 == 0) (is_some bucket.stands) stands
-      where
-        by : (a b : Bool) → (a || b) ≡ false → a ≡ false
-        by true b both = both
-        by false b both = refl
+    not_root stands = or_first (node.0 == 0) (is_some bucket.stands) stands
 
     -- one that does not stand, and that no row names as a file, is dead
     pub fallen : is_standing node bucket ≡ false → file_links tree node.0 ≡ 0 → is_alive tree node.0 ≡ false
     fallen stands links = by (is_directory tree node.0) refl links
       where
-        and_true : (a : Bool) → (a && true) ≡ false → a ≡ false
-        and_true true both = both
-        and_true false both = refl
-
         by : (b : Bool) → is_directory tree node.0 ≡ b → (if b then 0 else count_of tree.rows node.0) ≡ 0 → is_alive tree node.0 ≡ false
-        by true kind none = and_true (is_alive tree node.0) (ap (λ b. is_alive tree node.0 && b) (sym kind) ∙ (standing ∙ stands))
+        by true kind none = left_false (is_alive tree node.0) (ap (λ b. is_alive tree node.0 && b) (sym kind) ∙ (standing ∙ stands))
         by false kind none = rw (not_root stands) (ap not (eq-eqb (count_of tree.rows node.0) 0 none))
 
     pub fault_fallen : is_standing node bucket ≡ false → file_links tree node.0 ≡ 0 → directory_fault tree node.0 ≡ Some NoEntry

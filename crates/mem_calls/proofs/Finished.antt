@@ -4,6 +4,7 @@ use borrow.Author.Tests.{eqb-true}
 use Rattle.std.specs.Prelude.{if◌then◌else◌, nat_le}
 use Rattle.std.proofs.lemmas.Bool.{cases_Bool, both_ways, leb-false}
 use Rattle.std.proofs.lemmas.Option.{option_and_then_some}
+use Rattle.sfs_base.proofs.BasicOptions.{some_same}
 use Rattle.disk_change.specs.OldKept.{OldKept}
 use Rattle.sfs_tree.specs.Tree.{TreeState, made_by}
 use Rattle.sfs_tree.specs.declared.call.Call.{Call}
@@ -42,9 +43,6 @@ use Rattle.mem_calls.specs.Outcome.{IsAnswered}
 use Rattle.mem_calls.proofs.Cells.{with_other}
 use Rattle.mem_calls.proofs.Shown.{held_cell}
 use Rattle.mem_calls.proofs.Stamped as stamped
-
-some_cell : {X : Type 0} {x y : X} → Some x ≡ Some y → x ≡ y
-some_cell e = cc (e)
 
 -- a cell that got another value has it
 found_with : (place : ℕ) (value : Cell) (cells : List (HeldCell Cell)) (h : HeldCell Cell) → cell_at place (with_value place value cells) ≡ Some h
@@ -143,7 +141,7 @@ module _ (given : ℕ → Option OldKept) (t : TableState) (nodes : ℕ) (before
 
   value_of_part : (account : Account) (value : Cell) (p : PartCell) → as_part value ≡ Some p → StandsPart first account before.view.core p
       → StandsForCell given first account own value
-  value_of_part account (cell.Part part) p is stands = let same : p ≡ part.value = sym (some_cell is) in
+  value_of_part account (cell.Part part) p is stands = let same : p ≡ part.value = sym (some_same is) in
       subst (StandsPart first account before.view.core) same stands
   value_of_part account (cell.Bucket bucket) p is stands = absurd (cc (is))
   value_of_part account (cell.Lock lock) p is stands = absurd (cc (is))

@@ -12,16 +12,9 @@ use Rattle.mem_values.specs.declared.bucket.Bucket.{Bucket}
 use Rattle.mem_values.specs.declared.cell_id.CellId.{CellId}
 use Rattle.mem_values.specs.declared.cell_id.CellId.TheVariants as id
 use Rattle.mem_values.specs.declared.fact.Fact.{Fact}
+use Rattle.mem_values.proofs.Basics.{is_value, some_of}
 use Rattle.mem_calls.specs.Held.{value_held, as_bucket, as_file, as_pending, bucket_held, file_held, pending_held, is_standing, is_linked, HoldsDirectory, HoldsFile}
 use Rattle.mem_calls.specs.Working.{IsOfKind, StillHolds, Gains}
-
-pub is_value : {X : Type 0} (o : Option X) → IsSome o → (x : X) × (o ≡ Some x)
-is_value None some = absurd cc
-is_value (Some x) some = (x, refl)
-
-pub some_of : {X : Type 0} (o : Option X) (x : X) → o ≡ Some x → IsSome o
-some_of None x is = absurd (cc (is))
-some_of (Some y) x is = refl
 
 -- a value of a kind is a bucket, a file, or a flushed node
 pub bucket_kind : (node : NodeId) (number : ℕ) (value : Cell) → IsOfKind (id.Bucket node number) value → IsSome (as_bucket value)

@@ -6,6 +6,7 @@ use Rattle.std.specs.FinMap.{get, len}
 use Rattle.std.proofs.lemmas.Bool.Decides.{nat_tests}
 use Rattle.sfs_base.specs.Name.{bucket}
 use Rattle.sfs_base.specs.declared.numbers.NodeId.{NodeId}
+use Rattle.sfs_base.proofs.BasicOptions.{none_of}
 use Rattle.sfs_tree.specs.declared.call.Call.TheVariants as call
 use Rattle.sfs_tree.specs.declared.reply.Code.{Code}
 use Rattle.sfs_tree.specs.declared.reply.Code.TheVariants.{NoEntry, IsDir, Exists, NotPermitted, TooManyLinks, DirFull}
@@ -18,10 +19,6 @@ use Rattle.mem_values.specs.Stands.{ShowsBucket, file_links}
 use Rattle.mem_calls.specs.Held.{is_linked}
 use Rattle.mem_calls.specs.Changes.{link_code}
 use Rattle.mem_calls.proofs.NamedRows.{row_in}
-
-pub none_of : {X : Type 0} (o : Option X) → is_some o ≡ false → o ≡ None
-none_of None is = refl
-none_of (Some x) is = absurd (cc (is))
 
 pub is_below : (a b : ℕ) → nat_lt a b ≡ true → a < b
 is_below a b is = grind (arith, nat_tests)

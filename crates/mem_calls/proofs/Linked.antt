@@ -25,6 +25,7 @@ use Rattle.sfs_tree.proofs.Parts.{nodes_after}
 use Rattle.sfs_tree.proofs.SoundTree.{sound_file}
 use Rattle.sfs_tree.proofs.Readings.{directory_by_kind}
 use Rattle.sfs_tree.proofs.KeepsRest.{calls_keep_the_rest}
+use Rattle.sfs_tree.proofs.Joined.{bucket_small}
 use Rattle.mem_cells.specs.Part.{IsAddedTo}
 use Rattle.stamp_table.specs.declared.event.Event.{Event}
 use Rattle.stamp_table.specs.declared.event.Event.TheVariants.{Called}
@@ -47,6 +48,8 @@ use Rattle.mem_values.specs.Stands.{ShowsBucket, StandsFile, StandsPart, StandsF
 use Rattle.mem_values.specs.Facts.{IsLawfulLog}
 use Rattle.mem_values.specs.Touches.{KeepsCell}
 use Rattle.mem_values.proofs.Pushes.{last_touch-push}
+use Rattle.mem_values.proofs.Basics.{some_of, first_false}
+use Rattle.mem_values.proofs.Kept.{directory_kept}
 use Rattle.mem_calls.specs.Held.{value_held, as_bucket, as_file, as_part, bucket_held, file_held, part_held, InEach}
 use Rattle.mem_calls.specs.Table.{IsFileTable}
 use Rattle.mem_calls.specs.Working.{IsWorking}
@@ -54,15 +57,13 @@ use Rattle.mem_calls.specs.Outcome.{IsAnswered}
 use Rattle.mem_calls.specs.Parts.{HasRoomFor}
 use Rattle.mem_calls.specs.declared.coming.Coming.{Coming}
 use Rattle.mem_calls.specs.Changes.{PutsValue, IsWithRow, MayLink, RaisesLinks, IsComing}
-use Rattle.mem_calls.proofs.Shown.{name_shows, bucket_small}
-use Rattle.mem_calls.proofs.RowsGo.{directory_kept}
+use Rattle.mem_calls.proofs.Shown.{name_shows}
 use Rattle.mem_calls.proofs.RowsCome.{bucket_after}
 use Rattle.mem_calls.proofs.Comings.{part_above, out_is, at_there, part_out}
 use Rattle.mem_calls.proofs.Edited.{same_place, held_there}
 use Rattle.mem_calls.proofs.Faults.{linked_alive, linked_file}
 use Rattle.mem_calls.proofs.PartKept.{same_part_stands, room_for_one}
 use Rattle.mem_calls.proofs.Nothing.{some_first}
-use Rattle.mem_calls.proofs.HeldKinds.{some_of}
 use Rattle.mem_calls.proofs.Finished.{of_changed}
 use Rattle.mem_calls.proofs.Unlinked.{file_of_value, value_of_file, value_of_bucket, apart_value}
 use Rattle.mem_calls.proofs.Stamped as stamped
@@ -72,10 +73,6 @@ use Rattle.mem_calls.proofs.Changed.{Turn}
 or_false : (b : Bool) → b ≡ false → Rattle.std.specs.Prelude.◌||◌ b false ≡ false
 or_false true is = is
 or_false false is = refl
-
-and_false : (a b : Bool) → a ≡ false → (a && b) ≡ false
-and_false true b is = absurd (cc (is))
-and_false false b is = refl
 
 -- It keeps each cell but the bucket of the name, the file and the own log.
 link_keeps : (nodes : ℕ) (tree : TreeState) (core : ℕ) (file dir : NodeId) (name : List ℕ) (which : CellId) → verdict tree core (call.Link file dir name) ≡ done (Adds dir.0 name file.0)
@@ -90,7 +87,7 @@ link_keeps nodes tree core file dir name (id.Bucket node number) does part not_f
     apart true true one two = absurd (here (λ i. 16 + 9 * eqb-true dir.0 node.0 one i + eqb-true (bucket name) number two i))
     apart true false one two = refl
     apart false b one two = refl
-link_keeps nodes tree core file dir name (id.File node) does part not_file here = inl (and_false (file.0 == node.0) _ (⊎_elim
+link_keeps nodes tree core file dir name (id.File node) does part not_file here = inl (first_false (file.0 == node.0) _ (⊎_elim
     (λ same. absurd (not_file (ap (λ (n : ℕ). cell_place nodes (id.File (record { 0 = n }))) (eqb-true file.0 node.0 same))))
     (λ other. other)
     (cases_Bool (file.0 == node.0))))

@@ -17,7 +17,7 @@ use Rattle.sfs_tree.specs.Tree.{TreeState, row_of, kind_of, name_row, names_of}
 use Rattle.sfs_tree.specs.Names.{with_kinds}
 use Rattle.sfs_tree.specs.NameKinds.{name_kind}
 use Rattle.sfs_tree.specs.declared.listing.NameKind.{NameKind}
-use Rattle.sfs_tree.proofs.Joined.{count-cons}
+use Rattle.sfs_tree.proofs.Joined.{count-cons, bucket_small}
 use Rattle.sfs_tree.proofs.Names.{entries-names_where}
 use Rattle.sfs_tree.proofs.Counting.{count_agree}
 use Rattle.stamp_table.specs.Hand.{Hand}
@@ -27,12 +27,12 @@ use Rattle.mem_values.specs.declared.fact.Fact.{Fact}
 use Rattle.mem_values.specs.Places.{node_count}
 use Rattle.mem_values.specs.Stands.{ShowsBucket}
 use Rattle.mem_values.specs.Laws.{MayMeet}
+use Rattle.mem_values.proofs.Basics.{is_value}
 use Rattle.mem_calls.specs.Held.{bucket_held}
 use Rattle.mem_calls.specs.Sums.{sum_until, HoldsBuckets}
 use Rattle.mem_calls.specs.Listed.{with_kind, kinds_in, kinds_held, join_until, AreInNameOrder}
-use Rattle.mem_calls.proofs.Shown.{bucket_shows, bucket_small}
+use Rattle.mem_calls.proofs.Shown.{bucket_shows}
 use Rattle.mem_calls.proofs.NamedRows.{row_in, kind_in}
-use Rattle.mem_calls.proofs.HeldKinds.{is_value}
 use Rattle.mem_calls.proofs.Summed.{split, sum_same}
 use Rattle.mem_calls.proofs.Uniquely.{Row, SameCounts, one_list}
 

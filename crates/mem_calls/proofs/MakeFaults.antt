@@ -7,6 +7,7 @@ use Rattle.std.proofs.Math.Nat.{mul-le-mul_left}
 use Rattle.sfs_base.specs.Name.{bucket}
 use Rattle.sfs_base.specs.declared.numbers.NodeId.{NodeId}
 use Rattle.sfs_base.specs.declared.numbers.Kind.{Kind}
+use Rattle.sfs_base.proofs.BasicOptions.{none_not_some}
 use Rattle.sfs_tree.specs.declared.call.Call.TheVariants as call
 use Rattle.sfs_tree.specs.declared.reply.Code.{Code}
 use Rattle.sfs_tree.specs.declared.reply.Code.TheVariants.{NoEntry, NotDir, Exists, DirFull, NoNodes}
@@ -32,7 +33,6 @@ use Rattle.mem_calls.specs.Creations.{creates, IsNextNumber, HasNext}
 use Rattle.mem_calls.proofs.Shown.{part_shows}
 use Rattle.mem_calls.proofs.NamedRows.{row_in}
 use Rattle.mem_calls.proofs.LinkFaults.{at_most, above}
-use Rattle.mem_calls.proofs.NewNodes.{no_some}
 
 module _ (tree : TreeState) (core : ℕ) (dir : NodeId) (name : List ℕ) (kind : Kind) where
   abbrev rest : Option Code
@@ -123,7 +123,7 @@ module _ (hand : Hand Cell Fact) (nodes : ℕ) (counted : nodes ≡ node_count h
         let known : hand.view.core < length tree.made = (let k = has.known in let cores = meets.cores in omega (arith, k, cores)) in
         let fresh = fresh_number tree hand.view.core meets.sound.numbered known (some_left child is) in
         let node = directory_node tree dir.0 (is_one (is_alive tree dir.0) (is_directory tree dir.0) place) in
-        no_some (get tree.nodes dir.0) (ap (get tree.nodes) (sym same ∙ sym (number_is child is)) ∙ fresh) node
+        none_not_some (get tree.nodes dir.0) (ap (get tree.nodes) (sym same ∙ sym (number_is child is)) ∙ fresh) node
       where
         is_one : (a d : Bool) → ◌≡◌ {A = Option Code} (if not a then Some NoEntry else if not d then Some NotDir else None) None → d ≡ true
         is_one false d is = absurd (cc (is))

@@ -6,6 +6,7 @@ use Rattle.std.specs.FinMap.{get}
 use Rattle.sfs_base.specs.Name.{bucket}
 use Rattle.sfs_base.specs.declared.numbers.NodeId.{NodeId}
 use Rattle.sfs_tree.specs.NameRow.{number_of}
+use Rattle.sfs_tree.proofs.Joined.{bucket_small}
 use Rattle.stamp_table.specs.Ascending.{LiesAbove}
 use Rattle.stamp_table.specs.declared.held.HeldCell.{HeldCell}
 use Rattle.stamp_table.specs.Hand.{Hand}
@@ -14,20 +15,15 @@ use Rattle.mem_values.specs.declared.bucket.Bucket.{Bucket}
 use Rattle.mem_values.specs.declared.cell_id.CellId.TheVariants as id
 use Rattle.mem_values.specs.declared.fact.Fact.{Fact}
 use Rattle.mem_values.specs.Places.{node_count}
+use Rattle.mem_values.proofs.Basics.{is_value, some_of}
+use Rattle.mem_values.proofs.Places.{node_again}
 use Rattle.mem_calls.specs.Held.{bucket_held, file_held, is_standing, stands_held, HoldsDirectory, CanMeet}
 use Rattle.mem_calls.specs.Working.{StillHolds, Gains}
 use Rattle.mem_calls.specs.Changes.{NamesFile, HoldsNamed}
-use Rattle.mem_calls.proofs.Shown.{name_shows, bucket_small}
+use Rattle.mem_calls.proofs.Shown.{name_shows}
 use Rattle.mem_calls.proofs.NamedRows.{row_in}
-use Rattle.mem_calls.proofs.Faults.{same_count, node_within}
-use Rattle.mem_calls.proofs.HeldKinds.{is_value, some_of, holds_file, still_bucket, still_file, still_directory}
-
-pub same_some : (o : Option NodeId) (p : Option ℕ) → number_of o ≡ p → is_some p ≡ is_some o
-same_some None p is_p = ap is_some (sym is_p)
-same_some (Some x) p is_p = ap is_some (sym is_p)
-
-node_again : (a b : NodeId) → a.0 ≡ b.0 → a ≡ b
-node_again a b same = λ i. record { 0 = same i }
+use Rattle.mem_calls.proofs.Faults.{same_count, node_within, same_some}
+use Rattle.mem_calls.proofs.HeldKinds.{holds_file, still_bucket, still_file, still_directory}
 
 module _ (nodes : ℕ) (held : List (HeldCell Cell)) (dir : NodeId) (name : List ℕ) where
   pub names_if : (o : Option NodeId) (b : Bucket) → dir.0 < nodes → bucket_held nodes held dir (bucket name) ≡ Some b → is_standing dir b ≡ true

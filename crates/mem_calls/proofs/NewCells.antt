@@ -16,11 +16,12 @@ use Rattle.mem_values.specs.declared.cell_id.CellId.TheVariants as id
 use Rattle.mem_values.specs.declared.fact.Fact.{Fact}
 use Rattle.mem_values.specs.Places.{cell_place, IsCell}
 use Rattle.mem_values.proofs.Places.{places_apart}
+use Rattle.mem_values.proofs.Basics.{is_value, some_of}
 use Rattle.mem_calls.specs.Held.{value_held, as_bucket, as_file, as_pending, file_held, pending_held, HoldsDirectory}
 use Rattle.mem_calls.specs.Working.{StillHolds, Gains}
 use Rattle.mem_calls.specs.Creations.{HoldsOwn, HoldsCreated, HoldsCreation, is_new_cell}
 use Rattle.mem_calls.proofs.Nothing.{some_first}
-use Rattle.mem_calls.proofs.HeldKinds.{is_value, some_of, still_file, still_pending, still_directory, holds_pending}
+use Rattle.mem_calls.proofs.HeldKinds.{still_file, still_pending, still_directory, holds_pending}
 use Rattle.mem_calls.proofs.Statuses.{still_buckets}
 use Rattle.mem_calls.proofs.StandsNowhere.{not_equal}
 

@@ -12,6 +12,7 @@ use Rattle.sfs_base.specs.declared.numbers.NodeId.{NodeId}
 use Rattle.sfs_base.specs.declared.numbers.Kind.{Kind}
 use Rattle.sfs_base.specs.declared.numbers.Kind.TheVariants.{File, Directory}
 use Rattle.sfs_base.proofs.BasicTruth.{or_first}
+use Rattle.sfs_base.proofs.BasicOptions.{none_not_some}
 use Rattle.sfs_tree.specs.declared.call.Call.{Call}
 use Rattle.sfs_tree.specs.declared.call.Call.TheVariants as call
 use Rattle.sfs_tree.specs.declared.history.Entry.{Entry}
@@ -39,15 +40,11 @@ use Rattle.mem_values.specs.Places.{cell_place}
 use Rattle.mem_values.specs.Stands.{ShowsBucket, file_links}
 use Rattle.mem_values.specs.Touches.{KeepsCell, touches_standing}
 use Rattle.mem_values.proofs.Moves.{sound_after}
+use Rattle.mem_values.proofs.Basics.{first_false, second_false, both_false}
 use Rattle.mem_calls.specs.Ends.{IsPlacedBucket}
 use Rattle.mem_calls.specs.Creations.{creates, is_new_cell}
 use Rattle.mem_calls.proofs.Placed.{placed_after}
 use Rattle.mem_calls.proofs.StandsNowhere.{not_equal}
-use Rattle.mem_calls.proofs.Ended.{or_both, and_first, and_second}
-
-pub no_some : {X : Type 0} (o : Option X) → o ≡ None → IsSome o → ⊥
-no_some None none some = absurd cc
-no_some (Some x) none some = absurd (cc (none))
 
 -- cells that a creation does not change
 old_bucket : (child node : NodeId) (kind : Kind) (k : ℕ) → is_new_cell child kind (id.Bucket node k) ≡ false
@@ -103,7 +100,7 @@ module _ (tree : TreeState) (core : ℕ) (dir : NodeId) (name : List ℕ) (child
 
   pub unnamed : count_of tree.rows child.0 ≡ 0
   unnamed = elim (named_or_none tree.rows child.0) [
-    | inl named ↦ absurd (no_some (get tree.nodes child.0) fits_makes.fresh (is.sound.node named.directory named.name child.0 named.row))
+    | inl named ↦ absurd (none_not_some (get tree.nodes child.0) fits_makes.fresh (is.sound.node named.directory named.name child.0 named.row))
     | inr none ↦ none
   ]
 
@@ -146,13 +143,13 @@ module _ (tree : TreeState) (core : ℕ) (dir : NodeId) (name : List ℕ) (child
   module _ (apart : child.0 ≢ dir.0) where
     -- where the row's own directory stands stays
     pub stays : touches_standing tree core (call.Make dir name kind) dir.0 ≡ false
-    stays = and_second (is_directory_kind kind) (next_number tree core == dir.0) (ap (λ n. n == dir.0) number ∙ not_equal child.0 dir.0 apart)
+    stays = second_false (is_directory_kind kind) (next_number tree core == dir.0) (ap (λ n. n == dir.0) number ∙ not_equal child.0 dir.0 apart)
 
     -- a bucket of the new directory
     pub placed_next : (k : ℕ) (old new : Bucket) → kind ≡ Directory → ShowsBucket tree child.0 k old → IsPlacedBucket (Some dir) old new
         → ShowsBucket (tree_after_call tree core (call.Make dir name kind)) child.0 k new
     placed_next k old new directory shows placed =
-        placed_after tree core c is lt child.0 k (and_first (dir.0 == child.0) (bucket name == k) (not_equal dir.0 child.0 (λ same. apart (sym same))))
+        placed_after tree core c is lt child.0 k (first_false (dir.0 == child.0) (bucket name == k) (not_equal dir.0 child.0 (λ same. apart (sym same))))
         (Some dir) old new shows placed (sym (stands_next directory))
 
   -- It keeps each cell but the bucket of the name, those of the new node and the own log.
@@ -161,7 +158,7 @@ module _ (tree : TreeState) (core : ℕ) (dir : NodeId) (name : List ℕ) (child
       → is_new_cell child kind which ≡ false → KeepsCell tree core (call.Make dir name kind) which
   make_keeps nodes id.Lock part there new = inl (ap (λ (v : Verdict). moves_between tree v.effect) does)
   make_keeps nodes (id.Bucket node k) part there new = inl
-      (or_both (is_in_part node.0 (λ n. bucket n == k) dir.0 name) (is_directory_kind kind && (next_number tree core == node.0))
+      (both_false (is_in_part node.0 (λ n. bucket n == k) dir.0 name) (is_directory_kind kind && (next_number tree core == node.0))
       (outside (dir.0 == node.0) (bucket name == k) refl refl) (ap (λ n. is_directory_kind kind && (n == node.0)) number ∙ old_bucket child node kind k new))
     where
       outside : (a b : Bool) → (dir.0 == node.0) ≡ a → (bucket name == k) ≡ b → (a && b) ≡ false
@@ -169,8 +166,8 @@ module _ (tree : TreeState) (core : ℕ) (dir : NodeId) (name : List ℕ) (child
       outside true false one two = refl
       outside false b one two = refl
   make_keeps nodes (id.File node) part there new = inl (ap (λ n. (n == node.0) && not (is_directory next node.0)) number ∙ ⊎_elim
-      (λ same. and_second (child.0 == node.0) (not (is_directory next node.0)) (by kind refl same))
-      (λ other. and_first (child.0 == node.0) (not (is_directory next node.0)) other)
+      (λ same. second_false (child.0 == node.0) (not (is_directory next node.0)) (by kind refl same))
+      (λ other. first_false (child.0 == node.0) (not (is_directory next node.0)) other)
       (cases_Bool (child.0 == node.0)))
     where
       by : (k : Kind) → kind ≡ k → (child.0 == node.0) ≡ true → not (is_directory next node.0) ≡ false
@@ -202,7 +199,7 @@ module _ (first : TreeState) (calls : List Entry) (entry : Entry) (dir : NodeId)
   births = ap (λ (w : Verdict). births_by entry.stamp.0 w.effect w.makes) does_now
 
   none : find is_its (births_of first calls) ≡ None
-  none = none_found child.0 (births_of first calls) (λ birth one same. no_some (get (tree_after first calls).nodes child.0)
+  none = none_found child.0 (births_of first calls) (λ birth one same. none_not_some (get (tree_after first calls).nodes child.0)
       (fits_makes (tree_after first calls) entry.core.0 dir name child kind (sound_after first 0 calls sound legal) lt does).fresh
       ((births_are_new_nodes first calls child.0 sound legal).0 (birth, one, same)).0)
 

@@ -14,10 +14,10 @@ use Rattle.mem_values.specs.declared.cell_id.CellId.{CellId}
 use Rattle.mem_values.specs.declared.cell_id.CellId.TheVariants as id
 use Rattle.mem_values.specs.declared.fact.Fact.{Fact}
 use Rattle.mem_values.specs.Places.{cell_place}
+use Rattle.mem_values.proofs.Basics.{some_of}
 use Rattle.mem_calls.specs.Held.{value_held, as_bucket, bucket_held}
 use Rattle.mem_calls.specs.Ends.{IsPlacedBucket, PlacesBucket, PlacesDirectory}
 use Rattle.mem_calls.proofs.Nothing.{some_first}
-use Rattle.mem_calls.proofs.HeldKinds.{some_of}
 use Rattle.mem_calls.proofs.Taken.{value_with}
 use Rattle.mem_calls.proofs.Unlinked.{apart_value}
 

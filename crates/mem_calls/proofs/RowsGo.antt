@@ -22,6 +22,7 @@ use Rattle.mem_values.specs.declared.bucket.Bucket.{Bucket}
 use Rattle.mem_values.specs.Stands.{ShowsBucket, if_directory}
 use Rattle.mem_values.specs.Touches.{touches_standing}
 use Rattle.mem_values.proofs.Standing.{standing_stays}
+use Rattle.mem_values.proofs.Kept.{directory_kept}
 use Rattle.mem_calls.specs.Changes.{IsWithoutRow}
 
 pub same_name : (n name : List ℕ) → eq_by_cmp name_cmp n name ≡ true → n ≡ name
@@ -30,11 +31,6 @@ same_name n name same = name_cmp-IsAntisymmetric n name (is_equal _ same)
 module _ (tree : TreeState) (core : ℕ) (c : Call) (is : IsSoundTree tree) (lt : core < length tree.made) where
   abbrev next : TreeState
   next = tree_after_call tree core c
-
-  -- a node keeps its kind
-  pub directory_kept : (node : ℕ) → IsSome (get tree.nodes node) → is_directory next node ≡ is_directory tree node
-  directory_kept node there = directory_by_kind next node
-      ∙ (ap is_directory_kind ((calls_keep_the_rest tree core c is lt).kinds node there) ∙ sym (directory_by_kind tree node))
 
   module _ (d number : ℕ) (b : Bucket) (shows : ShowsBucket tree d number b) where
     -- a row's child is a node
@@ -50,7 +46,7 @@ module _ (tree : TreeState) (core : ℕ) (c : Call) (is : IsSoundTree tree) (lt 
     -- the rows that stay name directories where they did
     pub directories_kept : (n : List ℕ) (row : Option ℕ) → get b.rows n ≡ row → if_directory next row ≡ if_directory tree row
     directories_kept n None row = refl
-    directories_kept n (Some child) row = ap (λ x. if x then Some child else None) (directory_kept child (child_there n child row))
+    directories_kept n (Some child) row = ap (λ x. if x then Some child else None) (directory_kept tree core c is lt child (child_there n child row))
 
     pub old_directory : (n : List ℕ) → get b.directories n ≡ if_directory tree (get b.rows n)
     old_directory n = shows.directories n ∙ ap (λ (m : FinMap name_cmp ℕ). if_directory tree (get m n)) (sym shows.rows)

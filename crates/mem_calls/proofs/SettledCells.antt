@@ -20,13 +20,13 @@ use Rattle.mem_values.specs.declared.cell_id.CellId.TheVariants as id
 use Rattle.mem_values.specs.declared.fact.Fact.{Fact}
 use Rattle.mem_values.specs.Places.{cell_place, IsCell}
 use Rattle.mem_values.proofs.Places.{places_apart}
+use Rattle.mem_values.proofs.Basics.{is_value, some_of}
 use Rattle.mem_calls.specs.Held.{value_held, as_bucket, as_file, as_pending, bucket_held, file_held, pending_held}
 use Rattle.mem_calls.specs.Sums.{HoldsBuckets}
 use Rattle.mem_calls.specs.Changes.{PutsValue, RaisesLinks}
 use Rattle.mem_calls.specs.Ends.{IsPlacedBucket, PlacesDirectory}
 use Rattle.mem_calls.specs.Creations.{is_own_cell, is_flushed_cell, IsSettled, SettlesCreation}
 use Rattle.mem_calls.proofs.Nothing.{some_first}
-use Rattle.mem_calls.proofs.HeldKinds.{is_value, some_of}
 use Rattle.mem_calls.proofs.Taken.{value_with}
 use Rattle.mem_calls.proofs.Unlinked.{apart_value}
 

@@ -7,6 +7,7 @@ use Rattle.sfs_base.specs.declared.numbers.NodeId.{NodeId}
 use Rattle.sfs_base.specs.Name.{bucket, name_hash}
 use Rattle.disk_change.specs.OldKept.{OldKept}
 use Rattle.sfs_tree.specs.Tree.{TreeState, made_by, bytes_of}
+use Rattle.sfs_tree.proofs.Joined.{bucket_small}
 use Rattle.stamp_table.specs.declared.view.View.{View}
 use Rattle.stamp_table.specs.declared.event.Event.{Event}
 use Rattle.stamp_table.specs.declared.held.HeldCell.{HeldCell}
@@ -61,12 +62,6 @@ held_cell nodes held which value is = by (cell_at (cell_place nodes which) held)
         × (cell_at (cell_place nodes which) held ≡ Some h) × (h.value ≡ value)
     by None found is = absurd (cc (is))
     by (Some h) found is = (h, found, cc (is))
-
-pub bucket_small : (name : List ℕ) → bucket name < 8
-bucket_small name = small (name_hash name)
-  where
-    small : (n : ℕ) → n % 8 < 8
-    small n = omega arith
 
 module _ (hand : Hand Cell Fact) (nodes : ℕ) (counted : nodes ≡ node_count hand.view.first) (tree : TreeState) (meets : MayMeet hand.view hand.held tree) where
   -- a value that is held shows its cell

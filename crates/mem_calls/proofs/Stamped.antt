@@ -34,6 +34,7 @@ use Rattle.mem_values.specs.Touches.{KeepsCell}
 use Rattle.mem_values.proofs.Stamping.{calls_may_come, still_stands, met}
 use Rattle.mem_values.proofs.Keeping.{calls_keep_cells}
 use Rattle.mem_values.proofs.Moves.{legal_front}
+use Rattle.mem_values.proofs.Basics.{is_value}
 use Rattle.mem_calls.specs.Table.{IsFileTable}
 use Rattle.mem_calls.specs.Held.{value_held, InEach}
 use Rattle.mem_calls.specs.Working.{IsWorking}
@@ -55,10 +56,6 @@ no_flush tree (call.Trunc f size) not = refl
 no_flush tree (call.Stat d) not = refl
 no_flush tree (call.List d) not = refl
 
-is_there : {X : Type 0} (o : Option X) → IsSome o → (x : X) × (o ≡ Some x)
-is_there None some = absurd cc
-is_there (Some x) some = (x, refl)
-
 module _ (given : ℕ → Option OldKept) (t : TableState) (nodes : ℕ) (hand : Hand Cell Fact) (table : IsFileTable t nodes) (work : IsWorking given t hand) where
   pub counted : nodes ≡ node_count hand.view.first
   counted = table.counted ∙ ap node_count (sym work.first)
@@ -72,7 +69,7 @@ module _ (given : ℕ → Option OldKept) (t : TableState) (nodes : ℕ) (hand :
   -- a core has each cell of which it holds the value
   pub held_has : (which : CellId) → IsSome (value_held nodes hand.held which) → Has hand.view.held (cell_place nodes which)
   held_has which some =
-      let v = is_there (value_held nodes hand.held which) some in
+      let v = is_value (value_held nodes hand.held which) some in
       let h = held_cell nodes hand.held which v.0 v.1 in
       subst (λ l. Has l (cell_place nodes which)) (sym work.places)
       (has_reverse (places_of hand.held) (cell_place nodes which) (found_has (cell_place nodes which) hand.held h.0 h.1))

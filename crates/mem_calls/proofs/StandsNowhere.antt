@@ -18,8 +18,8 @@ use Rattle.sfs_tree.proofs.RowFacts.{holder_found, removed_cases}
 use Rattle.mem_values.specs.declared.bucket.Bucket.{Bucket}
 use Rattle.mem_values.specs.Stands.{ShowsBucket}
 use Rattle.mem_values.specs.Touches.{touches_standing}
+use Rattle.mem_values.proofs.Kept.{directory_kept}
 use Rattle.mem_calls.specs.Ends.{IsPlacedBucket}
-use Rattle.mem_calls.proofs.RowsGo.{directory_kept}
 use Rattle.mem_calls.proofs.Placed.{placed_after}
 
 pub not_equal : (a b : ℕ) → a ≢ b → (a == b) ≡ false

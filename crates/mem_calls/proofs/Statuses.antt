@@ -17,10 +17,11 @@ use Rattle.mem_values.specs.declared.bucket.Bucket.{Bucket}
 use Rattle.mem_values.specs.declared.fact.Fact.{Fact}
 use Rattle.mem_values.specs.Places.{node_count}
 use Rattle.mem_values.specs.Laws.{MayMeet}
+use Rattle.mem_values.proofs.Basics.{is_value, some_of}
 use Rattle.mem_calls.specs.Held.{bucket_held, is_standing, HoldsDirectory, CanMeet}
 use Rattle.mem_calls.specs.Working.{StillHolds}
 use Rattle.mem_calls.specs.Sums.{sum_until, rows_held, directories_held, HoldsBuckets, AreSmall, HoldsNode}
-use Rattle.mem_calls.proofs.HeldKinds.{is_value, some_of, still_bucket, still_directory}
+use Rattle.mem_calls.proofs.HeldKinds.{still_bucket, still_directory}
 use Rattle.mem_calls.proofs.Shown.{bucket_shows}
 use Rattle.mem_calls.proofs.Summed.{sum_same, rows_summed, directories_counted, directories_summed, fewer_directories}
 

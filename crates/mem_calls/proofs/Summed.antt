@@ -10,13 +10,12 @@ use Rattle.sfs_base.specs.Name.{bucket}
 use Rattle.sfs_tree.specs.Order.{Key, key_cmp}
 use Rattle.sfs_tree.specs.Tree.{TreeState, row_of, is_directory, name_row, names_where, bucket_rows, row_count, holds_directory}
 use Rattle.sfs_tree.specs.Buckets.{stands_in}
-use Rattle.sfs_tree.proofs.Joined.{name_cmp-IsAntisymmetric, count-cons}
+use Rattle.sfs_tree.proofs.Joined.{name_cmp-IsAntisymmetric, count-cons, bucket_small}
 use Rattle.sfs_tree.proofs.Names.{get-names_where, entries-names_where, len-names_of}
 use Rattle.sfs_tree.proofs.Counting.{count_agree}
 use Rattle.mem_values.specs.declared.bucket.Bucket.{Bucket}
 use Rattle.mem_values.specs.Stands.{ShowsBucket, if_directory}
 use Rattle.mem_calls.specs.Sums.{sum_until}
-use Rattle.mem_calls.proofs.Shown.{bucket_small}
 
 pub sum_more : (n : ℕ) (f : ℕ → ℕ) → sum_until (n + 1) f ≡ sum_until n f + f n
 sum_more n f = ap (λ k. sum_until k f) (add-one n)

@@ -12,6 +12,7 @@ use Rattle.mem_values.specs.declared.cell_id.CellId.{CellId}
 use Rattle.mem_values.specs.declared.cell_id.CellId.TheVariants as id
 use Rattle.mem_values.specs.declared.fact.Fact.{Fact}
 use Rattle.mem_values.specs.Places.{cell_place}
+use Rattle.mem_values.proofs.Basics.{is_value, some_of}
 use Rattle.mem_calls.specs.Held.{value_held, as_part, part_held}
 use Rattle.mem_calls.specs.Parts.{TakesEntry}
 use Rattle.mem_calls.specs.Changes.{PutsValue}
@@ -21,14 +22,6 @@ use Rattle.mem_calls.proofs.Shown.{held_cell}
 pub some_and_then : {X Y : Type 0} (f : X → Option Y) (o : Option X) (y : Y) → option_and_then f o ≡ Some y → IsSome o
 some_and_then f None y is = absurd (cc (is))
 some_and_then f (Some x) y is = refl
-
-is_value : {X : Type 0} (o : Option X) → IsSome o → (x : X) × (o ≡ Some x)
-is_value None some = absurd cc
-is_value (Some x) some = (x, refl)
-
-pub some_of : {X : Type 0} (o : Option X) (x : X) → o ≡ Some x → IsSome o
-some_of None x is = absurd (cc (is))
-some_of (Some y) x is = refl
 
 -- a cell that got a value has it
 pub value_with : (nodes : ℕ) (which : CellId) (value : Cell) (held : List (HeldCell Cell)) → IsSome (value_held nodes held which)

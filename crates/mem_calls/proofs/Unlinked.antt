@@ -52,47 +52,42 @@ use Rattle.mem_calls.specs.Held.{value_held, as_bucket, as_file, as_part, bucket
 use Rattle.mem_calls.specs.Table.{IsFileTable}
 use Rattle.mem_calls.specs.Working.{IsWorking}
 use Rattle.sfs_tree.specs.declared.reply.Reply.TheVariants as reply
+use Rattle.sfs_tree.proofs.Joined.{bucket_small}
 use Rattle.stamp_table.specs.Table.{Stamps, LetsGo, Stands, EachFrom, left_below}
 use Rattle.mem_values.specs.Stands.{StandsAt}
 use Rattle.mem_values.specs.Facts.{IsLawfulLog}
+use Rattle.mem_values.proofs.Basics.{some_of, first_false, both_false}
+use Rattle.mem_values.proofs.Kept.{directory_kept}
 use Rattle.mem_calls.specs.Outcome.{IsAnswered}
 use Rattle.mem_calls.specs.Parts.{HasRoomFor}
 use Rattle.mem_calls.specs.declared.ready.Ready.{Ready}
 use Rattle.mem_calls.specs.Changes.{IsWithoutRow, RemovesRow, LowersLinks, NamesFile, IsReadyForRow}
 use Rattle.mem_calls.proofs.PartKept.{same_part_stands, room_for_one}
 use Rattle.mem_calls.proofs.Nothing.{some_first}
-use Rattle.mem_calls.proofs.HeldKinds.{some_of}
 use Rattle.mem_calls.proofs.Taken.{value_with}
 use Rattle.mem_calls.proofs.Cells.{with_other}
-use Rattle.mem_calls.proofs.Shown.{name_shows, bucket_small}
+use Rattle.mem_calls.proofs.Shown.{name_shows}
 use Rattle.mem_calls.proofs.NamedRows.{row_in, directory_in}
-use Rattle.mem_calls.proofs.RowsGo.{directory_kept, bucket_after}
+use Rattle.mem_calls.proofs.RowsGo.{bucket_after}
 use Rattle.mem_calls.proofs.Edited.{same_place, held_there}
 use Rattle.mem_calls.proofs.Stamped as stamped
 use Rattle.mem_calls.proofs.Finished.{of_changed}
 use Rattle.mem_calls.proofs.Changed as changed
 use Rattle.mem_calls.proofs.Changed.{Turn}
 
-or_false : (b : Bool) → b ≡ false → (b || false) ≡ false
-or_false true is = is
-or_false false is = refl
-
-and_false : (a b : Bool) → a ≡ false → (a && b) ≡ false
-and_false true b is = absurd (cc (is))
-and_false false b is = refl
-
 -- It keeps each cell but the bucket of the name, the file and the own log.
 pub unlink_keeps : (nodes : ℕ) (tree : TreeState) (core : ℕ) (dir : NodeId) (name : List ℕ) (child : NodeId) (which : CellId) → verdict tree core (call.Unlink dir name) ≡ done (Removes dir.0 name child.0) → row_of tree dir.0 name ≡ Some child.0
     → (cell_place nodes (id.Part (record { 0 = core })) ≡ cell_place nodes which → ⊥) → (cell_place nodes (id.File child) ≡ cell_place nodes which → ⊥) → (cell_place nodes (id.Bucket dir (bucket name)) ≡ cell_place nodes which → ⊥)
     → KeepsCell tree core (call.Unlink dir name) which
 unlink_keeps nodes tree core dir name child id.Lock does row part file here = inl (ap (λ (v : Verdict). moves_between tree v.effect) does)
-unlink_keeps nodes tree core dir name child (id.Bucket node number) does row part file here = inl (or_false (is_in_part node.0 (λ n. bucket n == number) dir.0 name) (apart (dir.0 == node.0) (bucket name == number) refl refl))
+unlink_keeps nodes tree core dir name child (id.Bucket node number) does row part file here = inl (both_false (is_in_part node.0 (λ n. bucket n == number) dir.0 name) false
+    (apart (dir.0 == node.0) (bucket name == number) refl refl) refl)
   where
     apart : (a b : Bool) → (dir.0 == node.0) ≡ a → (bucket name == number) ≡ b → (a && b) ≡ false
     apart true true one two = absurd (here (λ i. 16 + 9 * eqb-true dir.0 node.0 one i + eqb-true (bucket name) number two i))
     apart true false one two = refl
     apart false b one two = refl
-unlink_keeps nodes tree core dir name child (id.File node) does row part file here = inl (and_false (is_this node.0 (row_of tree dir.0 name)) _ (ap (is_this node.0) row ∙ ⊎_elim
+unlink_keeps nodes tree core dir name child (id.File node) does row part file here = inl (first_false (is_this node.0 (row_of tree dir.0 name)) _ (ap (is_this node.0) row ∙ ⊎_elim
     (λ same. absurd (file (ap (λ (n : ℕ). cell_place nodes (id.File (record { 0 = n }))) (eqb-true child.0 node.0 same))))
     (λ other. other)
     (cases_Bool (child.0 == node.0))))
@@ -142,7 +137,7 @@ module _ (given : ℕ → Option OldKept) (t : TableState) (nodes : ℕ) (before
       (λ same. inr (held_there nodes before.held (id.File child) which same (Rattle.mem_calls.proofs.Nothing.some_first as_file (value_held nodes before.held (id.File child)) file)))
       (λ not_file. ⊎_elim
       (λ same. inr (held_there nodes before.held (id.Bucket dir (bucket name)) which same (Rattle.mem_calls.proofs.Nothing.some_first as_bucket (value_held nodes before.held (id.Bucket dir (bucket name)))
-      (Rattle.mem_calls.proofs.HeldKinds.some_of (bucket_held nodes before.held dir (bucket name)) names.bucket names.held_is))))
+      (Rattle.mem_values.proofs.Basics.some_of (bucket_held nodes before.held dir (bucket name)) names.bucket names.held_is))))
       (λ not_bucket. inl (unlink_keeps nodes tree before.view.core dir name child which (due tree meets) (names_row before nodes dir name child tree (stamped.counted given t nodes before table work) names meets).0 not_part not_file not_bucket))
       (same_place nodes (id.Bucket dir (bucket name)) which))
       (same_place nodes (id.File child) which))

@@ -5,6 +5,10 @@ use Rattle.sfs_base.specs.declared.numbers.NodeId.{NodeId}
 use Rattle.mem_values.specs.declared.cell_id.CellId.TheVariants as id
 use Rattle.mem_rename.specs.Cells.{buckets_of}
 
+-- there are eight buckets
+pub too_many : {n : ℕ} → suc (suc (suc (suc (suc (suc (suc (suc n))))))) < 8 → ⊥
+too_many lt = omega (arith, lt)
+
 pub next_bucket : (node : NodeId) (k : ℕ) → k < 8 → take (k + 1) (buckets_of node) ≡ take k (buckets_of node) ++ id.Bucket node k ∷ []
 next_bucket node zero lt = refl
 next_bucket node (suc zero) lt = refl
@@ -15,9 +19,6 @@ next_bucket node (suc (suc (suc (suc (suc zero))))) lt = refl
 next_bucket node (suc (suc (suc (suc (suc (suc zero)))))) lt = refl
 next_bucket node (suc (suc (suc (suc (suc (suc (suc zero))))))) lt = refl
 next_bucket node (suc (suc (suc (suc (suc (suc (suc (suc n)))))))) lt = absurd (too_many lt)
-  where
-    too_many : {n : ℕ} → suc (suc (suc (suc (suc (suc (suc (suc n))))))) < 8 → ⊥
-    too_many lt = omega (arith, lt)
 
 pub all_eight : (node : NodeId) (k : ℕ) → 8 ≤ k → take k (buckets_of node) ≡ buckets_of node
 all_eight node k le = take_all k (buckets_of node) le

@@ -27,6 +27,7 @@ use Rattle.mem_calls.specs.Working.{IsWorking, WorksOn, StillHolds}
 use Rattle.mem_calls.proofs.Cells.{found_place}
 use Rattle.mem_calls.proofs.Shown.{held_cell, knows_found}
 use Rattle.mem_calls.proofs.Finished.{none_left}
+use Rattle.mem_calls.proofs.Left.{known_home, on_again}
 use Rattle.mem_rename.specs.declared.sides.Move.{Move}
 use Rattle.mem_rename.specs.declared.plans.Plan.{Plan}
 use Rattle.mem_rename.specs.Plans.{asked_cells}
@@ -34,13 +35,6 @@ use Rattle.mem_rename.specs.Holding.{HoldsAsked}
 use Rattle.mem_rename.specs.Ways.{HoldsLock, HasMet, HasRead, HasReadAll, tree_seen}
 use Rattle.mem_rename.specs.Rounds.{HoldsRound}
 use Rattle.mem_rename.proofs.Upwards.{read_ways_stay}
-use Rattle.mem_rename.proofs.SoFar.{works_on_both}
-
--- what a core knows stands for what it has seen
-pub each_known : (given : ℕ → Option OldKept) (view : View TreeState (Event Fact)) (cells : List (HeldCell Cell)) → KnowsCells given view cells
-    → EachFrom 0 (Stands (IsLawfulLog given) (StandsAt given) view) cells
-each_known given view [] knows = tt
-each_known given view (c ∷ cells) knows = ((λ le. knows.0.stood), each_known given view cells knows.1)
 
 -- a core that lets go of all has made no call
 pub refused : (given : ℕ → Option OldKept) (t : TableState) (before after : Hand Cell Fact) → IsWorking given t before → LetsGo before after
@@ -115,7 +109,7 @@ module _ (given : ℕ → Option OldKept) (t : TableState) (nodes : ℕ) (table 
   pub round : 0 < after.room → HoldsRound given t nodes move plan above before after
   round room = record {
     work = work;
-    on = works_on_both before locked after on_locked holds.on;
+    on = on_again before locked after on_locked holds.on;
     cells = holds.holds;
     lock = λ comes. ((lock comes).lock.value, holds.still.values id.Lock (lock comes).lock.value (lock_value comes), (lock comes).kind);
     read = λ comes. way_stays given t nodes table move.to_directory.0 above locked after work_locked work holds.on holds.still met.legal

@@ -5,7 +5,7 @@ use Rattle.std.specs.Option.{option_or}
 use Rattle.std.specs.FinMap.{FinMap, get, remove}
 use Rattle.sfs_base.specs.Name.{bucket as name_bucket}
 use Rattle.sfs_base.specs.declared.numbers.Kind.{Kind}
-use Rattle.sfs_base.proofs.BasicTruth.{and_first, and_second, true_or_false, then_false}
+use Rattle.sfs_base.proofs.BasicTruth.{and_first, and_second, true_or_false, then_false, not_both}
 use Rattle.sfs_base.proofs.BasicOptions.{some_is}
 use Rattle.sfs_tree.specs.declared.reply.Code.{Code}
 use Rattle.sfs_tree.specs.declared.reply.Reply.TheVariants as reply
@@ -176,20 +176,17 @@ module _ (tree : TreeState) (core : ℕ) (move : Move) (seen : Sight) (is : IsSo
         absurd (elim (true_or_false (is_this directory (row_of tree q m))) [
           | inl met ↦
               let there = is_this_there directory _ met in
-              wrong (ap₂ (λ k o. k && is_this directory o) (there_kind tree move seen is shows directory there ∙ kind) (there_row tree move seen is shows)
+              not_both (ap₂ (λ k o. k && is_this directory o) (there_kind tree move seen is shows directory there ∙ kind) (there_row tree move seen is shows)
               ∙ met) not_there
           | inr apart ↦
               let source : (not (nat_eq p q) && is_this directory (row_of tree p n)) ≡ true = sym
               (ap (λ b. b || (not (nat_eq p q) && is_this directory (row_of tree p n))) apart) ∙ and_second (is_directory tree directory) _ touched in
               let row = is_this_there directory _ (and_second (not (nat_eq p q)) _ source) in
               let same : child ≡ directory = some_is child directory (sym moves.row ∙ row) in
-              wrong (ap₂ (λ b c. b && c) (ap₂ (λ s k. s && k) (and_first (not (nat_eq p q)) _ source) (child_kind tree move seen is shows directory row ∙ kind))
+              not_both (ap₂ (λ b c. b && c) (ap₂ (λ s k. s && k) (and_first (not (nat_eq p q)) _ source) (child_kind tree move seen is shows directory row ∙ kind))
               (eq-eqb child directory same)) not_child
         ])
   ]
-    where
-      wrong : {b : Bool} → b ≡ true → b ≡ false → ⊥
-      wrong e f = Rattle.sfs_base.proofs.BasicTruth.not_both e f
 
   pub stands_home : (directory : ℕ) → stands_moved seen move child directory (stood directory) ≡ stands_of next directory
   stands_home directory = elim (true_or_false (goes_between seen move && nat_eq child directory)) [

@@ -19,12 +19,14 @@ use Rattle.mem_values.specs.declared.cell_id.CellId.{CellId}
 use Rattle.mem_values.specs.declared.cell_id.CellId.TheVariants as id
 use Rattle.mem_values.specs.Places.{IsCell}
 use Rattle.mem_values.specs.Touches.{touches_standing, KeepsCell}
+use Rattle.mem_values.proofs.Basics.{both_false}
 use Rattle.mem_rename.specs.declared.sides.Move.{Move}
 use Rattle.mem_rename.specs.Sights.{Sight, rename_call, there_seen, meets_directory, goes_between, ShowsMove}
 use Rattle.mem_rename.specs.Cells.{buckets_of, replaced_cells, moved_cells, cells_changed, cells_of}
 use Rattle.mem_rename.specs.Laws.{RenamesKeepCells}
 use Rattle.mem_rename.proofs.Verdicts.{child_kind, there_kind, there_row}
 use Rattle.mem_rename.proofs.Moved.{MovesChild, moves_or_not, is_this_there, effect_seen, lock_of}
+use Rattle.mem_rename.proofs.Buckets.{too_many}
 
 -- each of the eight buckets is one of a directory's
 pub bucket_in : (node : NodeId) (number : ℕ) → number < 8 → IsOneOf (buckets_of node) (id.Bucket node number)
@@ -37,13 +39,6 @@ bucket_in node (suc (suc (suc (suc (suc zero))))) lt = inr (inr (inr (inr (inr (
 bucket_in node (suc (suc (suc (suc (suc (suc zero)))))) lt = inr (inr (inr (inr (inr (inr (inl refl))))))
 bucket_in node (suc (suc (suc (suc (suc (suc (suc zero))))))) lt = inr (inr (inr (inr (inr (inr (inr (inl refl)))))))
 bucket_in node (suc (suc (suc (suc (suc (suc (suc (suc n)))))))) lt = absurd (too_many lt)
-  where
-    too_many : {n : ℕ} → suc (suc (suc (suc (suc (suc (suc (suc n))))))) < 8 → ⊥
-    too_many lt = omega (arith, lt)
-
-both_false : (a b : Bool) → a ≡ false → b ≡ false → (a || b) ≡ false
-both_false true b e f = e
-both_false false b e f = f
 
 module _ (tree : TreeState) (core : ℕ) (move : Move) (seen : Sight) (is : IsSoundTree tree) (lt : core < length tree.made)
     (shows : ShowsMove tree move seen) where

@@ -6,6 +6,7 @@ use Rattle.std.specs.Option.{option_and_then}
 use Rattle.sfs_base.proofs.BasicTruth.{true_or_false, and_first, and_second, not_true}
 use Rattle.sfs_base.specs.Name.{bucket as name_bucket}
 use Rattle.sfs_base.specs.declared.numbers.NodeId.{NodeId}
+use Rattle.sfs_base.proofs.BasicOptions.{some_same}
 use Rattle.disk_change.specs.OldKept.{OldKept}
 use Rattle.sfs_tree.specs.Tree.{TreeState}
 use Rattle.sfs_tree.specs.declared.changes.Change.{Change}
@@ -84,9 +85,6 @@ some_mapped f (Some x) some = refl
 mapped_some : {X Y : Type 0} (f : X → Y) (o : Option X) → IsSome o → (y : Y) × (option_map f o ≡ Some y)
 mapped_some f None some = absurd cc
 mapped_some f (Some x) some = (f x, refl)
-
-one : {X : Type 0} {x y : X} → ◌≡◌ {A = Option X} (Some x) (Some y) → x ≡ y
-one e = cc (e)
 
 module _ (given : ℕ → Option OldKept) (t : TableState) (nodes : ℕ) (table : IsFileTable t nodes) (move : Move) (within : AreSidesWithin nodes move)
     (plan : Plan) (plan_within : IsPlanWithin nodes plan) (above : List ℕ) (before : Hand Cell Fact)
@@ -218,8 +216,8 @@ module _ (given : ℕ → Option OldKept) (t : TableState) (nodes : ℕ) (table 
       (subst IsSome (sym (ap (λ (n : ℕ). value_held nodes locked.held (id.Part (record { 0 = n }))) (sym core_is)))
       (Rattle.mem_calls.proofs.Taken.some_and_then as_part
       (value_held nodes locked.held (id.Part (record { 0 = locked.view.core }))) takes.part takes.was)) in
-      let value_is : takes.value ≡ y = one (sym (ap (λ l. value_held nodes l own) final_held ∙ held) ∙ found) in
-      let part_is : prepared.room.keeps.next ≡ takes.part = one
+      let value_is : takes.value ≡ y = some_same (sym (ap (λ l. value_held nodes l own) final_held ∙ held) ∙ found) in
+      let part_is : prepared.room.keeps.next ≡ takes.part = some_same
       (sym (turned.part_locked given t nodes table move within plan plan_within above before ready child moves_is shift noted row_hand prepared out change number mid drawn (is_some plan.comes) locked lock) ∙ takes.was) in
       subst (StandsForCell given first (account_of after_log) own) value_is
       (value_of_part given first (account_of after_log) core takes.value takes.next takes.is
@@ -245,7 +243,7 @@ module _ (given : ℕ → Option OldKept) (t : TableState) (nodes : ℕ) (table 
       by : (y : Cell) → as_bucket y ≡ Some (Rattle.mem_rename.proofs.Shifting.bucket_after seen move plan child plan_is at n bx.value)
           → StandsForCell given first (account_of after_log) (id.Bucket at n) y
       by (cell.Bucket b) after = home (id.Bucket at n) (cell.Bucket bx) (cell.Bucket b) stands
-          (subst (λ (v : Bucket). Rattle.mem_rename.specs.After.IsMovedBucket seen move child.0 at.0 n bx.value v) (sym (one after))
+          (subst (λ (v : Bucket). Rattle.mem_rename.specs.After.IsMovedBucket seen move child.0 at.0 n bx.value v) (sym (some_same after))
           (bucket_is_moved seen move plan child plan_is at n bx.value))
       by (cell.Lock l) after = absurd (cc (after))
       by (cell.File l) after = absurd (cc (after))
@@ -275,7 +273,7 @@ module _ (given : ℕ → Option OldKept) (t : TableState) (nodes : ℕ) (table 
     where
       by : (y : Cell) → as_file y ≡ Some (at_file plan.file less_one at bx.value) → StandsForCell given first (account_of after_log) (id.File at) y
       by (cell.File b) after = home (id.File at) (cell.File bx) (cell.File b) stands
-          (subst (λ (v : FileCell). Rattle.mem_rename.specs.After.IsMovedFile seen move at.0 bx.value v) (sym (one after))
+          (subst (λ (v : FileCell). Rattle.mem_rename.specs.After.IsMovedFile seen move at.0 bx.value v) (sym (some_same after))
           (file_is_moved seen move plan child plan_is at bx.value (some_links at bx.value stands.links)))
       by (cell.Lock l) after = absurd (cc (after))
       by (cell.Bucket l) after = absurd (cc (after))
@@ -301,7 +299,7 @@ module _ (given : ℕ → Option OldKept) (t : TableState) (nodes : ℕ) (table 
       → StandsForCell given first (account_of log) id.Lock x → StandsForCell given first (account_of after_log) id.Lock y
   lock_home true puts is (cell.Lock l) y was found stands =
       let there = turned.lock_there given t nodes table move within plan plan_within above before ready child moves_is shift noted row_hand prepared out change number mid drawn is in
-      let value : cell.Lock (record { moved = Some (record { 0 = number }) }) ≡ y = one
+      let value : cell.Lock (record { moved = Some (record { 0 = number }) }) ≡ y = some_same
       (sym (ap (λ l. value_held nodes l id.Lock) final_held ∙ (apart_value nodes locked.held own id.Lock takes.value (λ place. omega (arith, place))
       ∙ (ap (λ (h : Hand Cell Fact). value_held nodes h.held id.Lock) puts ∙ value_with nodes id.Lock _ mid.held there))) ∙ found) in
       subst (StandsForCell given first (account_of after_log) id.Lock) value

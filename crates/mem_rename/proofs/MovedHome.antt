@@ -12,6 +12,7 @@ use Rattle.stamp_table.specs.Hand.{Hand, places_of}
 use Rattle.stamp_table.specs.Table.{TableState, cell_at}
 use Rattle.mem_values.specs.declared.cell.Cell.{Cell}
 use Rattle.mem_values.specs.declared.fact.Fact.{Fact}
+use Rattle.mem_values.proofs.Basics.{first_false}
 use Rattle.mem_calls.specs.Table.{IsFileTable}
 use Rattle.mem_rename.specs.declared.sides.Move.{Move}
 use Rattle.mem_rename.specs.declared.plans.Plan.{Plan}
@@ -28,10 +29,6 @@ use Rattle.mem_rename.proofs.Shifting.{PlansMove}
 drop_last : (a b c : Bool) → (b && c) ≡ false → ((a && b) && c) ≡ false
 drop_last true b c is = is
 drop_last false b c is = refl
-
-drop_more : (a b : Bool) → a ≡ false → (a && b) ≡ false
-drop_more true b is = absurd (Rattle.sfs_base.proofs.BasicTruth.true_not_false is)
-drop_more false b is = refl
 
 drop_third : (a b c d : Bool) → c ≡ false → (((a && b) && c) && d) ≡ false
 drop_third true true true d is = absurd (Rattle.sfs_base.proofs.BasicTruth.true_not_false is)
@@ -79,7 +76,7 @@ module _ (given : ℕ → Option OldKept) (t : TableState) (nodes : ℕ) (table 
   directory_by false there is met = ap (λ (x : Plan). x.directory) ready.asked
       ∙ ap (λ b. cond b look.there None)
       (drop_last look.child_is_directory look.there_is_directory (not (same_child look.child look.there))
-      (drop_more look.there_is_directory (not (same_child look.child look.there)) is))
+      (first_false look.there_is_directory (not (same_child look.child look.there)) is))
 
   file_by : (meets : Bool) (there : Option ℕ) → meets_directory seen move ≡ meets → there_seen seen move ≡ there
       → plan.file ≡ cond meets None (option_map numbered_node there)

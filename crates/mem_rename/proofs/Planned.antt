@@ -7,6 +7,7 @@ use Rattle.sfs_base.specs.declared.numbers.NodeId.{NodeId}
 use Rattle.sfs_base.proofs.BasicOptions.{none_some, some_is}
 use Rattle.sfs_tree.specs.Tree.{TreeState}
 use Rattle.sfs_tree.specs.Logged.{numbered_node}
+use Rattle.sfs_tree.proofs.Joined.{bucket_small}
 use Rattle.stamp_table.specs.Hand.{Hand}
 use Rattle.mem_values.specs.declared.cell.Cell.{Cell}
 use Rattle.mem_values.specs.declared.cell_id.CellId.TheVariants as id
@@ -15,7 +16,7 @@ use Rattle.mem_values.specs.Places.{node_count}
 use Rattle.mem_values.specs.Laws.{MayMeet}
 use Rattle.mem_calls.specs.Held.{bucket_held}
 use Rattle.mem_calls.proofs.Faults.{node_within, same_count}
-use Rattle.mem_calls.proofs.Shown.{bucket_shows, bucket_small}
+use Rattle.mem_calls.proofs.Shown.{bucket_shows}
 use Rattle.mem_rename.specs.declared.sides.Move.{Move}
 use Rattle.mem_rename.specs.declared.plans.Plan.{Plan}
 use Rattle.mem_rename.specs.declared.looking.Look.{Look}

@@ -11,6 +11,7 @@ use Rattle.disk_change.specs.OldKept.{OldKept}
 use Rattle.sfs_tree.specs.Tree.{TreeState}
 use Rattle.sfs_tree.specs.Logged.{numbered_node}
 use Rattle.sfs_tree.specs.Verdict.{names_child}
+use Rattle.sfs_tree.proofs.Joined.{bucket_small}
 use Rattle.flush_core.specs.Rules.{IsOneOf}
 use Rattle.flush_core.proofs.Basics.{in_left, in_right}
 use Rattle.stamp_table.specs.Hand.{Hand}
@@ -22,9 +23,10 @@ use Rattle.mem_values.specs.declared.cell_id.CellId.TheVariants as id
 use Rattle.mem_values.specs.declared.bucket.Bucket.{Bucket}
 use Rattle.mem_values.specs.declared.fact.Fact.{Fact}
 use Rattle.mem_values.specs.Stands.{ShowsBucket, file_links, if_directory}
+use Rattle.mem_values.proofs.Basics.{is_value}
 use Rattle.mem_calls.specs.Table.{IsFileTable}
 use Rattle.mem_calls.specs.Held.{as_bucket, as_file, bucket_held, file_held}
-use Rattle.mem_calls.proofs.Shown.{bucket_shows, file_shows, bucket_small}
+use Rattle.mem_calls.proofs.Shown.{bucket_shows, file_shows}
 use Rattle.mem_calls.proofs.HeldKinds.{bucket_kind, file_kind}
 use Rattle.mem_calls.proofs.Stamped.{counted}
 use Rattle.mem_rename.specs.declared.sides.Move.{Move}
@@ -36,10 +38,6 @@ use Rattle.mem_rename.specs.Decisions.{look_seen, same_child}
 use Rattle.mem_rename.specs.Plans.{file_if, buckets_if, file_of, asked_cells}
 use Rattle.mem_rename.specs.Holding.{HoldsCell}
 use Rattle.mem_rename.specs.Ready.{bucket_or, links_if, buckets_held, sight_of, AreSidesWithin, HoldsRename, MayMeetOn}
-
-is_value : {X : Type 0} (o : Option X) → IsSome o → (x : X) × (o ≡ Some x)
-is_value None some = absurd cc
-is_value (Some x) some = (x, refl)
 
 module _ (nodes : ℕ) (hand : Hand Cell Fact) where
   -- a bucket of which the cell is held, and a file

@@ -9,10 +9,8 @@ use Rattle.sfs_base.specs.declared.numbers.NodeId.{NodeId}
 use Rattle.sfs_tree.specs.Order.{name_cmp}
 use Rattle.sfs_tree.specs.NameRow.{number_of}
 use Rattle.sfs_tree.proofs.Joined.{name_cmp-IsAntisymmetric, is_equal}
+use Rattle.mem_calls.proofs.RowsGo.{same_name}
 use Rattle.mem_rename.specs.Moving.{row_again}
-
-same_name : (q n : List ℕ) → eq_by_cmp name_cmp q n ≡ true → q ≡ n
-same_name q n same = name_cmp-IsAntisymmetric q n (is_equal _ same)
 
 module _ (rows : FinMap name_cmp ℕ) (n : List ℕ) where
   -- a row that is not there can't go

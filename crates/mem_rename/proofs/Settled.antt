@@ -22,13 +22,14 @@ use Rattle.mem_calls.specs.Outcome.{IsRefusedMemory}
 use Rattle.mem_calls.specs.Held.{as_bucket, bucket_held, HoldsPart}
 use Rattle.mem_calls.specs.Table.{IsFileTable}
 use Rattle.mem_calls.specs.Working.{IsWorking, WorksOn, StillHolds}
+use Rattle.mem_calls.proofs.Left.{on_again}
 use Rattle.mem_rename.specs.declared.sides.Move.{Move}
 use Rattle.mem_rename.specs.declared.plans.Plan.{Plan}
 use Rattle.mem_rename.specs.Decisions.{look_seen, look_by}
 use Rattle.mem_rename.specs.Plans.{no_plan, is_same_node, same_truth, is_plan, plan_by, asked_cells}
 use Rattle.mem_rename.specs.Ready.{bucket_or, sight_of}
 use Rattle.mem_rename.specs.Rounds.{IsPlanWithin, HoldsRound, SettlesRename}
-use Rattle.mem_rename.proofs.SoFar.{works_on_both, holds_still}
+use Rattle.mem_rename.proofs.SoFar.{holds_still}
 use Rattle.mem_rename.proofs.Gathered.{way_stays}
 
 pub refused_same : (t : TableState) (hand : Hand Cell Fact) → IsBetweenCalls t hand → IsRefusedMemory t hand hand
@@ -125,7 +126,7 @@ module _ (given : ℕ → Option OldKept) (t : TableState) (nodes : ℕ) (table 
   settled start within again asked same part = record {
     begun = begun;
     again = again;
-    on = works_on_both begun hand after round.on on;
+    on = on_again begun hand after round.on on;
     within = within;
     ready = record {
       work = work;

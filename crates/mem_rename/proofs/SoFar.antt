@@ -17,6 +17,7 @@ use Rattle.mem_values.specs.declared.fact.Fact.{Fact}
 use Rattle.mem_values.specs.Places.{cell_place, IsCell}
 use Rattle.mem_values.proofs.Places.{places_apart}
 use Rattle.mem_calls.specs.Working.{IsWorking, WorksOn, StillHolds, Gains}
+use Rattle.mem_calls.proofs.Left.{on_again, still_again}
 use Rattle.mem_rename.specs.Ways.{HasMet}
 use Rattle.mem_rename.specs.Holding.{IsTreeCell, AreTreeCells, IsLeastAbove, IsNextAbove, HoldsCell, HoldsAsked}
 
@@ -24,20 +25,8 @@ use Rattle.mem_rename.specs.Holding.{IsTreeCell, AreTreeCells, IsLeastAbove, IsN
 pub works_on_same : (hand : Hand Cell Fact) → WorksOn hand hand
 works_on_same hand = record { frame = refl; view = refl; seen = ([], append-nil hand.view.seen); room = refl }
 
-pub works_on_both : (a b c : Hand Cell Fact) → WorksOn a b → WorksOn b c → WorksOn a c
-works_on_both a b c one two = record {
-  frame = ap (λ (h : Hand Cell Fact). record h { view = a.view; held = a.held; room = a.room }) two.frame ∙ one.frame;
-  view = ap (λ (v : View TreeState (Event Fact)). record v { seen = a.view.seen; held = a.view.held }) two.view ∙ one.view;
-  seen = (one.seen.0 ++ two.seen.0, sym (append_assoc a.view.seen one.seen.0 two.seen.0) ∙ (ap (λ l. l ++ two.seen.0) one.seen.1 ∙ two.seen.1));
-  room = two.room ∙ one.room;
-}
-
 pub still_same : (nodes : ℕ) (hand : Hand Cell Fact) → StillHolds nodes hand hand
 still_same nodes hand = record { values = λ which value is. is; trees = λ tree meets. meets }
-
-pub still_both : (nodes : ℕ) (a b c : Hand Cell Fact) → StillHolds nodes a b → StillHolds nodes b c → StillHolds nodes a c
-still_both nodes a b c one two = record
-    { values = λ which value is. two.values which value (one.values which value is); trees = λ tree meets. one.trees tree (two.trees tree meets) }
 
 -- what is held is still held
 pub holds_still : (nodes : ℕ) (before after : Hand Cell Fact) (cell : CellId) → StillHolds nodes before after → HoldsCell nodes before.held cell
@@ -144,8 +133,8 @@ module _ (given : ℕ → Option OldKept) (t : TableState) (nodes : ℕ) (cells 
         → HoldsSoFar given t nodes cells (cell_place nodes next) start after
     goes_on next after least work gains = record {
       work = work;
-      on = works_on_both start now after so.on gains.on;
-      still = still_both nodes start now after so.still gains.still;
+      on = on_again start now after so.on gains.on;
+      still = still_again nodes start now after so.still gains.still;
       held = λ cell among le. elim (least.least cell among) [
         | inl below ↦ holds_still nodes now after cell gains.still (so.held cell among below)
         | inr further ↦

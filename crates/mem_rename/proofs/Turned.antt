@@ -10,6 +10,7 @@ use Rattle.sfs_tree.specs.declared.reply.Reply.{Reply}
 use Rattle.sfs_tree.specs.declared.reply.Reply.TheVariants as reply
 use Rattle.sfs_tree.specs.Effect.{Moves}
 use Rattle.sfs_tree.specs.Verdict.{Verdict, done}
+use Rattle.sfs_tree.proofs.Joined.{bucket_small}
 use Rattle.stamp_table.specs.declared.event.Event.{Event}
 use Rattle.stamp_table.specs.declared.view.View.{View}
 use Rattle.stamp_table.specs.Hand.{Hand, places_of}
@@ -23,14 +24,13 @@ use Rattle.mem_values.specs.Places.{cell_place}
 use Rattle.mem_values.specs.Account.{account_of}
 use Rattle.mem_values.specs.Stands.{StandsAt, StandsPart}
 use Rattle.mem_values.specs.Facts.{IsLawfulLog}
+use Rattle.mem_values.proofs.Basics.{some_of}
 use Rattle.mem_calls.specs.Table.{IsFileTable}
 use Rattle.mem_calls.specs.Held.{value_held, as_part, bucket_held, file_held, part_held}
 use Rattle.mem_calls.specs.Parts.{HasRoomFor, MayTake}
 use Rattle.mem_calls.proofs.Edited.{stamps_back}
-use Rattle.mem_calls.proofs.HeldKinds.{some_of}
 use Rattle.mem_calls.proofs.Nothing.{some_first}
 use Rattle.mem_calls.proofs.PartKept.{same_part_stands}
-use Rattle.mem_calls.proofs.Shown.{bucket_small}
 use Rattle.mem_calls.proofs.Taken.{value_with}
 use Rattle.mem_calls.proofs.Unlinked.{apart_value}
 use Rattle.mem_calls.proofs.Finished as finished

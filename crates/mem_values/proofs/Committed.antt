@@ -2,6 +2,7 @@
 use Rattle.std.proofs.Common.{◌≡◌, ◌≤◌, ℕ, List, [], ◌∷◌, ◌++◌, length, filter_map, Option, Some, None, ◌⊎◌, inl, inr, refl, sym, ap, subst, ◌∙◌, append_assoc, arith, ⊎_elim, length-append}
 use Rattle.std.specs.List.{cons_option}
 use Rattle.std.proofs.lemmas.List.Elements.{filter_map-append}
+use Rattle.sfs_base.proofs.BasicOptions.{some_same}
 use Rattle.sfs_tree.specs.Tree.{TreeState}
 use Rattle.flush_core.specs.Rules.{IsOneOf}
 use Rattle.flush_core.proofs.Basics.{in_left, in_right}
@@ -15,9 +16,7 @@ use Rattle.mem_values.specs.declared.fact.HeldNode.{HeldNode}
 use Rattle.mem_values.specs.Account.{Commitment, commit_told, account_of, held_by}
 use Rattle.mem_values.specs.Facts.{RaisesMember, MayBeCommitted, MayStandAfter, AreLawfulBehind, IsLawfulLog}
 use Rattle.mem_values.proofs.Telling.{found_of}
-
-abbrev commits_of : List (Event Fact) → List Commitment
-commits_of log = filter_map commit_told log
+use Rattle.mem_values.proofs.Told.{commits_of}
 
 -- a commit came behind a beginning of a log
 pub record CameBehind (given : ℕ → Option OldKept) (first : TreeState) (log : List (Event Fact)) (commit : Commitment) : Type 0 where
@@ -37,10 +36,7 @@ module _ (given : ℕ → Option OldKept) (first : TreeState) where
   commit_asks before (Told by (Saw node holder)) commit may is = absurd (cc (is))
   commit_asks before (Told by (Noted stamp part marks)) commit may is = absurd (cc (is))
   commit_asks before (Told by (Trimmed number part)) commit may is = absurd (cc (is))
-  commit_asks before (Told by (Committed number node stamp members held)) commit may is = let same = some_is is in subst (λ c. MayBeCommitted given first (account_of before) c) same may
-    where
-      some_is : {X : Type 0} {x y : X} → Some x ≡ Some y → x ≡ y
-      some_is e = cc (e)
+  commit_asks before (Told by (Committed number node stamp members held)) commit may is = let same = some_same is in subst (λ c. MayBeCommitted given first (account_of before) c) same may
 
   came_behind : (before rest : List (Event Fact)) (commit : Commitment) → AreLawfulBehind given first before rest → IsOneOf (commits_of rest) commit → CameBehind given first (before ++ rest) commit
   came_behind before [] commit lawful among = absurd among
@@ -80,7 +76,7 @@ module _ (given : ℕ → Option OldKept) (first : TreeState) where
   one_behind before [] x y lawful one two core number = absurd one
   one_behind before (event ∷ rest) x y lawful one two core number = elim (one_of_first (commit_told event) (commits_of rest) x one) [
     | inl x_here ↦ elim (one_of_first (commit_told event) (commits_of rest) y two) [
-      | inl y_here ↦ same_some (sym x_here ∙ y_here)
+      | inl y_here ↦ some_same (sym x_here ∙ y_here)
       | inr y_there ↦ absurd (fresh_behind (before ++ event ∷ []) rest x y lawful.1 (here_now before event x x_here) y_there core number)
     ]
     | inr x_there ↦ elim (one_of_first (commit_told event) (commits_of rest) y two) [
@@ -88,9 +84,6 @@ module _ (given : ℕ → Option OldKept) (first : TreeState) where
       | inr y_there ↦ one_behind (before ++ event ∷ []) rest x y lawful.1 x_there y_there core number
     ]
   ]
-    where
-      same_some : {X : Type 0} {x y : X} → Some x ≡ Some y → x ≡ y
-      same_some e = cc (e)
 
   -- a core and a number name one commit of a lawful log
   pub one_commit : (log : List (Event Fact)) (x y : Commitment) → IsLawfulLog given first log → IsOneOf (commits_of log) x → IsOneOf (commits_of log) y → x.core ≡ y.core → x.number ≡ y.number → x ≡ y

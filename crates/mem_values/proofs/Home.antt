@@ -7,6 +7,7 @@ use Rattle.std.proofs.lemmas.Bool.{cases_Bool, eqb-true, leb-true, leb-false}
 use Rattle.std.proofs.lemmas.List.Elements.{filter_map-append, All-cons, All-nil, All-append}
 use Rattle.sfs_base.specs.declared.numbers.Stamp.{Stamp}
 use Rattle.sfs_base.specs.declared.numbers.Kind.{Kind}
+use Rattle.sfs_base.proofs.BasicOptions.{some_same}
 use Rattle.sfs_tree.specs.declared.changes.Change.{Change}
 use Rattle.sfs_tree.specs.Tree.{TreeState, row_of, made_by}
 use Rattle.sfs_tree.specs.Effect.{Effect, Stays, Adds, Removes, Moves, Edits}
@@ -151,9 +152,6 @@ told_parts_stand given first log commit by part value lawful among own stood mar
         ];
       };
     })
-
-some_same : {X : Type 0} {x y : X} → Some x ≡ Some y → x ≡ y
-some_same e = cc (e)
 
 pub written_nodes_stand : WrittenNodesStand
 written_nodes_stand given first before after core part number node stamp members held of what pending lawful known not others holds wrote born =

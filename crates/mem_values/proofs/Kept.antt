@@ -28,6 +28,7 @@ use Rattle.mem_values.specs.Stands.{if_directory, ShowsBucket, file_links}
 use Rattle.mem_values.specs.Touches.{touches_standing, makes_node}
 use Rattle.mem_values.proofs.Standing.{standing_stays}
 use Rattle.mem_values.proofs.Pushes.{IsBornBy, none_born}
+use Rattle.mem_values.proofs.Basics.{left_false}
 
 -- a call that does nothing leaves the tree
 pub same_tree : (tree : TreeState) (core : ℕ) (c : Call) → DoesNothing (verdict tree core c) → tree_after_call tree core c ≡ tree
@@ -44,7 +45,7 @@ module _ (tree : TreeState) (core : ℕ) (c : Call) (is : IsSoundTree tree) (lt 
   rest : KeepsRest tree core c
   rest = calls_keep_the_rest tree core c is lt
 
-  directory_kept : (node : ℕ) → IsSome (get tree.nodes node) → is_directory next node ≡ is_directory tree node
+  pub directory_kept : (node : ℕ) → IsSome (get tree.nodes node) → is_directory next node ≡ is_directory tree node
   directory_kept node there = directory_by_kind next node ∙ (ap is_directory_kind (rest.kinds node there) ∙ sym (directory_by_kind tree node))
 
   -- a row's child is a node
@@ -84,10 +85,6 @@ module _ (tree : TreeState) (core : ℕ) (c : Call) (is : IsSoundTree tree) (lt 
   links_by node true false b a apart = absurd (both_ways (is_directory next node) a (directory_kept node (directory_node tree node b) ∙ b))
   links_by node false true b a apart = rw (b, a) (sym (no_rows_yet node b a))
   links_by node false false b a apart = rw (b, a) (rest.links node (left_false (touches_links tree core c node) (sym (ap (λ x. touches_links tree core c node && not x) a) ∙ apart)))
-    where
-      left_false : (b : Bool) → (b && true) ≡ false → b ≡ false
-      left_false true e = e
-      left_false false e = refl
 
   -- A file's links stay where a call does not touch it.
   pub links_kept : (node : ℕ) → (touches_links tree core c node && not (is_directory next node)) ≡ false → file_links next node ≡ file_links tree node

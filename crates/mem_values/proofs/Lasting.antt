@@ -17,11 +17,8 @@ use Rattle.mem_values.specs.Stands.{AreTrimmedFor}
 use Rattle.mem_values.specs.Facts.{MayBeCommitted, MayStandAfter, AreLawfulBehind}
 use Rattle.mem_values.specs.Telling.{commit_by, CommitsStayLast}
 use Rattle.mem_values.proofs.Lawful.{lawful_behind}
-use Rattle.mem_values.proofs.Told.{last_writer-push}
+use Rattle.mem_values.proofs.Told.{last_writer-push, commits_of}
 use Rattle.mem_values.proofs.Telling.{found_of}
-
-abbrev commits_of : List (Event Fact) → List Commitment
-commits_of log = filter_map commit_told log
 
 abbrev trimmings_of : List (Event Fact) → List Trimming
 trimmings_of log = filter_map trimming_told log

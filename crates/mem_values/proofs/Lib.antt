@@ -1,3 +1,4 @@
+pub mod Basics
 pub mod Places
 pub mod Moves
 pub mod Pushes

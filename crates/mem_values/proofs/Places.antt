@@ -5,7 +5,7 @@ use Rattle.sfs_base.specs.declared.numbers.CoreId.{CoreId}
 use Rattle.mem_values.specs.declared.cell_id.CellId.TheVariants.{Lock, Bucket, File, Pending, Part}
 use Rattle.mem_values.specs.Places.{LiesBefore, PlacesApart, PlacesAscend}
 
-node_again : (a b : NodeId) → a.0 ≡ b.0 → a ≡ b
+pub node_again : (a b : NodeId) → a.0 ≡ b.0 → a ≡ b
 node_again a b same = λ i. record { 0 = same i }
 
 core_again : (a b : CoreId) → a.0 ≡ b.0 → a ≡ b

@@ -27,6 +27,7 @@ use Rattle.sfs_tree.proofs.KeepsNodes.{directory_node}
 use Rattle.sfs_tree.proofs.Holders.{directory_stays, dead_stay_dead}
 use Rattle.sfs_tree.proofs.SoundTrees.{calls_fit, calls_keep_sound}
 use Rattle.mem_values.specs.Touches.{touches_standing}
+use Rattle.mem_values.proofs.Basics.{left_false}
 
 -- this is not the node that may be there
 pub not_this : (node : ℕ) (there : Option ℕ) → is_this node there ≡ false → there ≡ Some node → ⊥
@@ -163,10 +164,6 @@ module _ (tree : TreeState) (core : ℕ) (c : Call) (node : ℕ) (is : IsSoundTr
     where
       made_file : (k : Kind) → (next_number tree core == node) ≡ true → (is_directory_kind k && (next_number tree core == node)) ≡ false → is_directory_kind k ≡ false
       made_file k here not = left_false (is_directory_kind k) (sym (ap (λ b. is_directory_kind k && b) here) ∙ not)
-        where
-          left_false : (b : Bool) → (b && true) ≡ false → b ≡ false
-          left_false true e = e
-          left_false false e = refl
 
   no_directory_after : is_directory tree node ≡ false → is_directory next node ≡ false
   no_directory_after file =

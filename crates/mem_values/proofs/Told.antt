@@ -113,7 +113,7 @@ pub record HasCommit (commits : List Commitment) (core number : ℕ) : Type 0 wh
   pub own : commit.core ≡ core
   pub numbered : commit.number ≡ number
 
-abbrev commits_of : List (Event Fact) → List Commitment
+abbrev pub commits_of : List (Event Fact) → List Commitment
 commits_of log = filter_map commit_told log
 
 commit_later : (before rest : List (Event Fact)) (core number : ℕ) → HasCommit (commits_of before) core number → HasCommit (commits_of (before ++ rest)) core number

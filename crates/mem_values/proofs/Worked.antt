@@ -7,6 +7,7 @@ use Rattle.std.specs.List.{find}
 use Rattle.std.specs.declared.alloc.Global.{Global}
 use Rattle.sfs_base.specs.declared.numbers.NodeId.{NodeId}
 use Rattle.sfs_base.specs.declared.numbers.Stamp.{Stamp}
+use Rattle.sfs_base.proofs.BasicOptions.{some_same}
 use Rattle.sfs_tree.specs.declared.call.Call.TheVariants as call
 use Rattle.sfs_tree.specs.declared.history.Entry.{Entry}
 use Rattle.sfs_tree.specs.Tree.{TreeState, is_alive, made_by}
@@ -130,9 +131,6 @@ module _ (given : ℕ → Option OldKept) (first : TreeState) (node holder : ℕ
     where
       written : {writer : Commitment × HeldNode} → Rattle.mem_values.specs.Account.last_writer node (commit ∷ []) ≡ Some writer → (commit, what) ≡ writer
       written {writer} last = some_same (sym (ap (λ o. Rattle.mem_values.specs.Account.writes_by commit o) holds_one) ∙ last)
-        where
-          some_same : {X : Type 0} {x y : X} → Some x ≡ Some y → x ≡ y
-          some_same e = cc (e)
 
       both : (part : ℕ) → part < 2 → IsOneOf (account_of log).trimmings (record { core = 1; number = 1; part = part })
       both zero lt = inl refl

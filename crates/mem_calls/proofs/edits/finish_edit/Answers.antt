@@ -13,11 +13,11 @@ use Rattle.std.specs.Prelude.{IfOk, IfErr}
 use Rattle.mem_calls.specs.Edits.{edit_of, edit_call, IsEdited}
 use Rattle.mem_calls.specs.Held.{value_held, as_file}
 use Rattle.mem_values.specs.declared.cell_id.CellId.TheVariants as id
+use Rattle.mem_values.proofs.Basics.{some_of}
 use Rattle.mem_calls.specs.Parts.{MayTake, TakesEntry}
 use Rattle.mem_calls.proofs.Stamped.{may_come}
 use Rattle.mem_calls.proofs.Finished.{ends}
 use Rattle.mem_calls.proofs.Edited.{not_fsync, keeps, stamps, put_may, part_may, room_may, final_is, same_count, goes_home, works_again, back_again}
-use Rattle.mem_calls.proofs.HeldKinds.{some_of}
 use Rattle.mem_calls.proofs.Nothing.{some_first}
 use Rattle.mem_calls.proofs.Taken.{value_with}
 use Rattle.mem_calls.proofs.Left.{known_home, refused}

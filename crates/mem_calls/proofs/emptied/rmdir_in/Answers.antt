@@ -3,12 +3,13 @@ use Rattle.std.specs.Option.{option_map_or}
 use Rattle.sfs_tree.specs.NameRow.{number_of}
 use Rattle.mem_calls.specs.Held.{bucket_held, is_standing}
 use Rattle.mem_calls.proofs.Shown.{name_shows}
-use Rattle.mem_calls.proofs.Named.{same_some}
 use Rattle.mem_calls.proofs.Statuses.{small_buckets, rows_are}
-use Rattle.mem_calls.proofs.Ending.{none_of, rmdir_missed, rmdir_file, rmdir_full, rmdir_empty}
+use Rattle.mem_calls.proofs.Ending.{rmdir_missed, rmdir_file, rmdir_full, rmdir_empty}
 use Rattle.mem_calls.specs.Ends.{NamesDirectory}
 use Rattle.sfs_base.specs.Name.{bucket}
+use Rattle.sfs_base.proofs.BasicOptions.{none_of}
 use Rattle.mem_calls.proofs.emptied.rmdir_in.Goals as goal
+use Rattle.mem_calls.proofs.Faults.{same_some}
 
 pub returns-then-is_none-clause-due : goal.returns-then-is_none-clause-due
 returns-then-is_none-clause-due c = λ tree meets.

@@ -1,7 +1,8 @@
 use Rattle.std.proofs.Common.{◌<◌, ◌+◌, ◌*◌, ℕ, IsSome, sym, subst, arith, below_more}
 use Rattle.stamp_table.specs.Ascending.{LiesAbove}
+use Rattle.mem_values.proofs.Basics.{is_value, some_of}
 use Rattle.mem_calls.specs.Held.{bucket_held}
-use Rattle.mem_calls.proofs.HeldKinds.{is_value, some_of, still_bucket, holds_bucket}
+use Rattle.mem_calls.proofs.HeldKinds.{still_bucket, holds_bucket}
 use Rattle.mem_calls.proofs.Left.{on_again, still_again}
 use Rattle.mem_calls.proofs.holding.hold_buckets.Goals as goal
 

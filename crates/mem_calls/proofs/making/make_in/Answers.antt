@@ -1,11 +1,11 @@
 use Rattle.std.proofs.Common.{◌≡◌, ◌<◌, ◌≤◌, Some, sym, ◌∙◌, subst, arith}
 use Rattle.std.specs.FinMap.{get, len}
+use Rattle.sfs_base.proofs.BasicOptions.{none_of}
 use Rattle.mem_calls.specs.Held.{bucket_held}
 use Rattle.mem_calls.proofs.Shown.{name_shows}
-use Rattle.mem_calls.proofs.Named.{same_some}
-use Rattle.mem_calls.proofs.LinkFaults.{none_of}
 use Rattle.mem_calls.proofs.MakeFaults.{make_refused, make_exists, make_full, make_out, make_done, none_left, some_left, number_is, not_there, few_made}
 use Rattle.mem_calls.proofs.making.make_in.Goals as goal
+use Rattle.mem_calls.proofs.Faults.{same_some}
 
 pub returns-in-Some-clause-due : goal.returns-in-Some-clause-due
 returns-in-Some-clause-due c = λ tree meets.

@@ -1,7 +1,8 @@
 use Rattle.std.proofs.Common.{◌≡◌, Some, sym, ◌∙◌, subst}
 use Rattle.mem_calls.specs.Held.{bucket_held}
-use Rattle.mem_calls.proofs.Named.{same_some, names_if, child_within}
+use Rattle.mem_calls.proofs.Named.{names_if, child_within}
 use Rattle.mem_calls.proofs.removals.file_named.Goals as goal
+use Rattle.mem_calls.proofs.Faults.{same_some}
 
 pub returns-clause-names : goal.returns-clause-names
 returns-clause-names c =

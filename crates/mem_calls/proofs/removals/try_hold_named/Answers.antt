@@ -1,9 +1,9 @@
 use Rattle.std.proofs.Common.{◌≡◌, ◌<◌, ◌≤◌, ◌+◌, ◌*◌, ℕ, List, [], ◌∷◌, length, sym, ◌∙◌, ap, subst, arith, refl}
+use Rattle.sfs_tree.proofs.Joined.{bucket_small}
 use Rattle.stamp_table.specs.Ascending.{LiesAbove}
 use Rattle.mem_values.specs.declared.cell_id.CellId.TheVariants as id
 use Rattle.mem_calls.specs.Held.{HoldsDirectory, stands_held}
 use Rattle.mem_calls.specs.Working.{Gains}
-use Rattle.mem_calls.proofs.Shown.{bucket_small}
 use Rattle.mem_calls.proofs.HeldKinds.{holds_file}
 use Rattle.mem_calls.proofs.Named.{standing_held, named_above, named_below}
 use Rattle.mem_calls.proofs.removals.try_hold_named.Goals as goal

@@ -1,6 +1,7 @@
 use Rattle.sfs_base.specs.Name.{bucket}
+use Rattle.mem_values.proofs.Basics.{is_value, some_of}
 use Rattle.mem_calls.specs.Held.{file_held}
-use Rattle.mem_calls.proofs.HeldKinds.{is_value, some_of, still_directory, still_file}
+use Rattle.mem_calls.proofs.HeldKinds.{still_directory, still_file}
 use Rattle.mem_calls.proofs.Named.{names_back}
 use Rattle.mem_calls.proofs.removals.unlink.Goals as goal
 

@@ -2,9 +2,9 @@ use Rattle.std.proofs.Common.{◌≡◌, Some, false, sym, ◌∙◌, ap, subst}
 use Rattle.std.specs.Option.{option_map_or}
 use Rattle.mem_calls.specs.Held.{bucket_held, is_standing}
 use Rattle.mem_calls.proofs.Shown.{name_shows}
-use Rattle.mem_calls.proofs.Named.{same_some}
 use Rattle.mem_calls.proofs.Unlinks.{unlink_missed, unlink_directory, unlink_file}
 use Rattle.mem_calls.proofs.removals.unlink_in.Goals as goal
+use Rattle.mem_calls.proofs.Faults.{same_some}
 
 pub returns-in_default-get-clause-due : goal.returns-in_default-get-clause-due
 returns-in_default-get-clause-due c = λ tree meets.

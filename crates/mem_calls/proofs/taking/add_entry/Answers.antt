@@ -5,8 +5,9 @@ use Rattle.mem_values.specs.declared.cell.Cell.{Cell}
 use Rattle.mem_values.specs.declared.cell.Cell.TheVariants.{Part}
 use Rattle.mem_values.specs.declared.cell_id.CellId.TheVariants as id
 use Rattle.mem_values.specs.declared.fact.Fact.{Fact}
+use Rattle.mem_values.proofs.Basics.{some_of}
 use Rattle.mem_calls.specs.Held.{value_held, as_part}
-use Rattle.mem_calls.proofs.Taken.{some_and_then, some_of, value_with, takes_entry}
+use Rattle.mem_calls.proofs.Taken.{some_and_then, value_with, takes_entry}
 use Rattle.mem_calls.proofs.taking.add_entry.Goals as goal
 
 pub with_entry-part-requires : goal.with_entry-part-requires

@@ -5,9 +5,9 @@ use Rattle.sfs_tree.specs.declared.reply.Reply.TheVariants as reply
 use Rattle.stamp_table.specs.Table.{MayCall, Stamps}
 use Rattle.mem_values.specs.Stands.{StandsAt}
 use Rattle.mem_values.specs.Facts.{IsLawfulLog}
+use Rattle.mem_values.proofs.Basics.{some_of}
 use Rattle.mem_calls.specs.Held.{part_held}
 use Rattle.mem_calls.specs.Parts.{MayTake}
-use Rattle.mem_calls.proofs.HeldKinds.{some_of}
 use Rattle.mem_rename.specs.declared.shifts.Shift.{Shift}
 use Rattle.mem_rename.proofs.Sighted.{new_there}
 use Rattle.mem_rename.proofs.Turned.{can_change, may, lock_there, part_locked, takes_shift}
